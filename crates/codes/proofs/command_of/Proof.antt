@@ -1,0 +1,127 @@
+-- `codes::command_of` meets its contract: a single code by computing, a range by its row, the rest by being in no row.
+-- Assumes nothing.
+use native.Mathlib.Omega.{arith}
+use mathlib.Core.Path.{refl, _≡_}
+use Rattle.codes.specs.Table.{table, commandOf, commandBy}
+use Rattle.codes.proofs.Rows.{in-row, in-gap, other, past-code}
+use Rattle.codes.proofs.command_of.Statement.{statement}
+use Rattle.codes.proofs.command_of.Tie as tie
+
+returns : tie.Need-returns
+unfolding table commandOf commandBy
+returns c = rw (c .match .keys1)
+
+returns-2 : tie.Need-returns-2
+unfolding table commandOf commandBy
+returns-2 c = rw (c .match .keys2)
+
+returns-3 : tie.Need-returns-3
+unfolding table commandOf commandBy
+returns-3 c = rw (c .match .keys3)
+
+returns-4 : tie.Need-returns-4
+unfolding table commandOf commandBy
+returns-4 c = rw (c .match .keys4)
+
+returns-5 : tie.Need-returns-5
+unfolding table commandOf commandBy
+returns-5 c = rw (c .match .keys5)
+
+returns-6 : tie.Need-returns-6
+unfolding table commandOf commandBy
+returns-6 c = rw (c .match .keys6)
+
+returns-7 : tie.Need-returns-7
+unfolding table commandOf commandBy
+returns-7 c = rw (c .match .keys7)
+
+returns-8 : tie.Need-returns-8
+unfolding table commandOf commandBy
+returns-8 c = rw (c .match .keys8)
+
+returns-9 : tie.Need-returns-9
+unfolding table commandOf commandBy
+returns-9 c = rw (c .match .keys9)
+
+returns-10 : tie.Need-returns-10
+unfolding table commandOf commandBy
+returns-10 c = rw (c .match .keys10)
+
+returns-11 : tie.Need-returns-11
+unfolding table commandOf commandBy
+returns-11 c = rw (c .match .keys11)
+
+returns-12 : tie.Need-returns-12
+unfolding table
+returns-12 c = in-row 0 _ refl refl (omega arith) (omega arith)
+
+returns-13 : tie.Need-returns-13
+unfolding table
+returns-13 c = in-row 1 _ refl refl (omega arith) (omega arith)
+
+returns-14 : tie.Need-returns-14
+unfolding table
+returns-14 c = in-row 2 _ refl refl (omega arith) (omega arith)
+
+returns-15 : tie.Need-returns-15
+unfolding table
+returns-15 c = in-row 3 _ refl refl (omega arith) (omega arith)
+
+returns-16 : tie.Need-returns-16
+unfolding table
+returns-16 c = in-row 4 _ refl refl (omega arith) (omega arith)
+
+returns-17 : tie.Need-returns-17
+unfolding table
+returns-17 c = in-row 6 _ refl refl (omega arith) (omega arith)
+
+returns-18 : tie.Need-returns-18
+unfolding table
+returns-18 c = in-row 7 _ refl refl (omega arith) (omega arith)
+
+returns-19 : tie.Need-returns-19
+unfolding table
+returns-19 c = in-row 8 _ refl refl (omega arith) (omega arith)
+
+returns-20 : tie.Need-returns-20
+unfolding table
+returns-20 c = in-row 9 _ refl refl (omega arith) (omega arith)
+
+returns-21 : tie.Need-returns-21
+unfolding table
+returns-21 c = in-row 12 _ refl refl (past-code 0xA9 _ (past-code 0xA8 _ (omega arith) search) search) (omega arith)
+
+returns-22 : tie.Need-returns-22
+unfolding table
+returns-22 c = in-row 15 _ refl refl (past-code 0xAD _ (past-code 0xAC _ (omega arith) search) search) (omega arith)
+
+returns-23 : tie.Need-returns-23
+unfolding table
+returns-23 c = in-row 16 _ refl refl (omega arith) (omega arith)
+
+returns-24 : tie.Need-returns-24
+unfolding table
+returns-24 c = in-row 17 _ refl refl (omega arith) (omega arith)
+
+returns-25 : tie.Need-returns-25
+unfolding table
+returns-25 c = in-row 18 _ refl refl (omega arith) (omega arith)
+
+returns-26 : tie.Need-returns-26
+unfolding table
+returns-26 c = in-row 19 _ refl refl (omega arith) (omega arith)
+
+returns-27 : tie.Need-returns-27
+unfolding table
+returns-27 c = in-gap 4 0 0x30 0x3F _ refl refl (omega arith) (omega arith) tt
+
+returns-28 : tie.Need-returns-28
+unfolding table
+returns-28 c = in-gap 5 1 0x80 0x9F _ refl refl (omega arith) (omega arith) search
+
+returns-29 : tie.Need-returns-29
+unfolding table
+returns-29 c = in-gap 20 6 0xD0 0xFF _ refl refl (omega arith) (omega arith) (search other)
+
+pub command-of-spec : {M : Type 1} → statement M
+command-of-spec = tie.close (tie.spec returns returns-2 returns-3 returns-4 returns-5 returns-6 returns-7 returns-8 returns-9 returns-10 returns-11 returns-12 returns-13 returns-14 returns-15 returns-16 returns-17 returns-18 returns-19 returns-20 returns-21 returns-22 returns-23 returns-24 returns-25 returns-26 returns-27 returns-28 returns-29)
