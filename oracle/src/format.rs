@@ -1,0 +1,430 @@
+//! The binary stream of cases. README.md states the same format for others.
+
+use std::io::{self, Read, Write};
+
+use crate::cases::{Case, Draw, Listing, Run, Sequence, Single, Step};
+use crate::event::{Answer, Event, Stored};
+use crate::frame::FRAME_LENGTH;
+use crate::memory::MEMORY_LENGTH;
+use crate::refusal::TAKEN;
+use crate::registers::{IMAGE_LENGTH, Image};
+use crate::trace::RunAnswer;
+
+/// The first eight bytes of a stream.
+pub const MAGIC: [u8; 8] = *b"1815CASE";
+
+/// The version of this format.
+pub const VERSION: u32 = 1;
+
+/// No body is longer.
+pub const LONGEST_BODY: usize = 300_000;
+
+const TAG_END: u8 = 0;
+const TAG_SINGLE: u8 = 1;
+const TAG_SEQUENCE: u8 = 2;
+const TAG_RUN: u8 = 3;
+const TAG_DRAW: u8 = 4;
+const TAG_LISTING: u8 = 5;
+
+/// Writes a stream: the header, the cases, the end.
+pub struct Writer<W: Write> {
+    output: W,
+    body: Vec<u8>,
+    cases: u64,
+    events: u64,
+}
+
+impl<W: Write> Writer<W> {
+    /// Begins a stream.
+    ///
+    /// # Errors
+    /// Those of the output.
+    pub fn begin(mut output: W, seed: u64) -> io::Result<Writer<W>> {
+        output.write_all(&MAGIC)?;
+        output.write_all(&VERSION.to_le_bytes())?;
+        output.write_all(&seed.to_le_bytes())?;
+        Ok(Writer {
+            output,
+            body: Vec::new(),
+            cases: 0,
+            events: 0,
+        })
+    }
+
+    /// Writes one case.
+    ///
+    /// # Errors
+    /// Those of the output.
+    pub fn write(&mut self, case: &Case) -> io::Result<()> {
+        self.body.clear();
+        let tag = put_case(&mut self.body, case);
+        self.cases += 1;
+        self.events += case.events();
+        self.write_body(tag)
+    }
+
+    /// Ends the stream.
+    ///
+    /// # Errors
+    /// Those of the output.
+    pub fn end(mut self) -> io::Result<()> {
+        self.body.clear();
+        self.body.extend(self.cases.to_le_bytes());
+        self.body.extend(self.events.to_le_bytes());
+        self.write_body(TAG_END)?;
+        self.output.flush()
+    }
+
+    fn write_body(&mut self, tag: u8) -> io::Result<()> {
+        self.output.write_all(&[tag])?;
+        self.output.write_all(&u32_of(self.body.len()))?;
+        self.output.write_all(&self.body)
+    }
+}
+
+fn u16_of(number: usize) -> [u8; 2] {
+    u16::try_from(number)
+        .expect("lengths of lent buffers fit in two bytes")
+        .to_le_bytes()
+}
+
+fn u32_of(number: usize) -> [u8; 4] {
+    u32::try_from(number)
+        .expect("lengths and places fit in four bytes")
+        .to_le_bytes()
+}
+
+fn put_case(body: &mut Vec<u8>, case: &Case) -> u8 {
+    match case {
+        Case::Single(single) => {
+            put_event(body, single.event);
+            put_lent(body, &single.state);
+            put_lent(body, &single.memory);
+            put_answer(body, single.answer);
+            body.extend(&single.state_after);
+            put_stored(body, single.answer.stored);
+            TAG_SINGLE
+        }
+        Case::Sequence(sequence) => {
+            put_lent(body, &sequence.image);
+            put_lent(body, &sequence.memory);
+            body.extend(u32_of(sequence.steps.len()));
+            for step in &sequence.steps {
+                put_event(body, step.event);
+                put_answer(body, step.answer);
+                body.extend(step.image_after);
+                put_stored(body, step.answer.stored);
+            }
+            body.extend(sequence.memory_after);
+            TAG_SEQUENCE
+        }
+        Case::Run(run) => {
+            put_lent(body, &run.state);
+            put_lent(body, &run.memory);
+            body.extend(u32_of(run.trace.len()));
+            body.extend(&run.trace);
+            body.push(run.answer.number);
+            body.extend(u32_of(run.answer.offset));
+            body.extend(u32_of(run.answer.count));
+            body.extend(&run.state_after);
+            body.extend(&run.memory_after);
+            TAG_RUN
+        }
+        Case::Draw(draw) => {
+            put_lent(body, &draw.state);
+            put_lent(body, &draw.memory);
+            body.extend(u16_of(draw.frame_length));
+            body.push(draw.fill);
+            body.push(draw.number);
+            if let Some(frame) = &draw.frame {
+                body.extend(frame);
+            }
+            TAG_DRAW
+        }
+        Case::Listing(listing) => {
+            body.extend(u32_of(listing.trace.len()));
+            body.extend(&listing.trace);
+            body.extend(u32_of(listing.text.len()));
+            body.extend(listing.text.as_bytes());
+            TAG_LISTING
+        }
+    }
+}
+
+fn put_event(body: &mut Vec<u8>, event: Event) {
+    body.extend(match event {
+        Event::Command(byte) => [1, byte],
+        Event::Write(byte) => [2, byte],
+        Event::Read => [3, 0],
+        Event::Reset => [4, 0],
+    });
+}
+
+fn put_lent(body: &mut Vec<u8>, lent: &[u8]) {
+    body.extend(u16_of(lent.len()));
+    body.extend(lent);
+}
+
+fn put_answer(body: &mut Vec<u8>, answer: Answer) {
+    body.extend([answer.number, answer.byte, u8::from(answer.dummy)]);
+}
+
+fn put_stored(body: &mut Vec<u8>, stored: Option<Stored>) {
+    match stored {
+        Some(stored) => {
+            body.push(1);
+            body.extend(u16_of(stored.place));
+            body.push(stored.byte);
+        }
+        None => body.extend([0, 0, 0, 0]),
+    }
+}
+
+/// Reads a stream back.
+pub struct Reader<R: Read> {
+    input: R,
+    seed: u64,
+    cases: u64,
+    events: u64,
+}
+
+impl<R: Read> Reader<R> {
+    /// Begins to read a stream.
+    ///
+    /// # Errors
+    /// Those of the input, or that it is no such stream.
+    pub fn begin(mut input: R) -> io::Result<Reader<R>> {
+        if read_array(&mut input)? != MAGIC {
+            return Err(wrong("not a stream of cases"));
+        }
+        if u32::from_le_bytes(read_array(&mut input)?) != VERSION {
+            return Err(wrong("a stream of another version"));
+        }
+        let seed = u64::from_le_bytes(read_array(&mut input)?);
+        Ok(Reader {
+            input,
+            seed,
+            cases: 0,
+            events: 0,
+        })
+    }
+
+    /// The seed the stream was made with.
+    #[must_use]
+    pub fn seed(&self) -> u64 {
+        self.seed
+    }
+
+    /// The next case; none at the end of the stream.
+    ///
+    /// # Errors
+    /// Those of the input, or that the stream is damaged.
+    pub fn next_case(&mut self) -> io::Result<Option<Case>> {
+        let [tag] = read_array(&mut self.input)?;
+        let length = u32::from_le_bytes(read_array(&mut self.input)?) as usize;
+        if length > LONGEST_BODY {
+            return Err(wrong("a body too long"));
+        }
+        let mut bytes = vec![0; length];
+        self.input.read_exact(&mut bytes)?;
+        let mut body = Body { rest: &bytes };
+        if tag == TAG_END {
+            let counts = (
+                u64::from_le_bytes(body.array()?),
+                u64::from_le_bytes(body.array()?),
+            );
+            if counts != (self.cases, self.events) {
+                return Err(wrong("the counts at the end are not those of the cases"));
+            }
+            return Ok(None);
+        }
+        let case = body.case(tag)?;
+        if !body.rest.is_empty() {
+            return Err(wrong("a body longer than its case"));
+        }
+        self.cases += 1;
+        self.events += case.events();
+        Ok(Some(case))
+    }
+}
+
+fn wrong(what: &str) -> io::Error {
+    io::Error::new(io::ErrorKind::InvalidData, what)
+}
+
+fn read_array<const N: usize>(input: &mut impl Read) -> io::Result<[u8; N]> {
+    let mut array = [0; N];
+    input.read_exact(&mut array)?;
+    Ok(array)
+}
+
+/// The part of a body not yet read.
+struct Body<'a> {
+    rest: &'a [u8],
+}
+
+impl Body<'_> {
+    fn bytes(&mut self, length: usize) -> io::Result<Vec<u8>> {
+        let Some((bytes, rest)) = self.rest.split_at_checked(length) else {
+            return Err(wrong("a body shorter than its case"));
+        };
+        self.rest = rest;
+        Ok(bytes.to_vec())
+    }
+
+    fn array<const N: usize>(&mut self) -> io::Result<[u8; N]> {
+        let Some((array, rest)) = self.rest.split_first_chunk::<N>() else {
+            return Err(wrong("a body shorter than its case"));
+        };
+        self.rest = rest;
+        Ok(*array)
+    }
+
+    fn u8(&mut self) -> io::Result<u8> {
+        let [byte] = self.array()?;
+        Ok(byte)
+    }
+
+    fn u16(&mut self) -> io::Result<usize> {
+        Ok(usize::from(u16::from_le_bytes(self.array()?)))
+    }
+
+    fn u32(&mut self) -> io::Result<usize> {
+        Ok(u32::from_le_bytes(self.array()?) as usize)
+    }
+
+    fn lent(&mut self) -> io::Result<Vec<u8>> {
+        let length = self.u16()?;
+        self.bytes(length)
+    }
+
+    fn exact<const N: usize>(&mut self) -> io::Result<[u8; N]> {
+        if self.u16()? != N {
+            return Err(wrong("a sequence on a buffer of another length"));
+        }
+        self.array()
+    }
+
+    fn event(&mut self) -> io::Result<Event> {
+        match self.array()? {
+            [1, byte] => Ok(Event::Command(byte)),
+            [2, byte] => Ok(Event::Write(byte)),
+            [3, 0] => Ok(Event::Read),
+            [4, 0] => Ok(Event::Reset),
+            _ => Err(wrong("no such event")),
+        }
+    }
+
+    fn answer(&mut self) -> io::Result<Answer> {
+        let [number, byte, dummy] = self.array()?;
+        Ok(Answer {
+            number,
+            byte,
+            dummy: dummy == 1,
+            stored: None,
+        })
+    }
+
+    fn stored(&mut self) -> io::Result<Option<Stored>> {
+        let [flag, place_low, place_high, byte] = self.array()?;
+        Ok((flag == 1).then(|| Stored {
+            place: usize::from(u16::from_le_bytes([place_low, place_high])),
+            byte,
+        }))
+    }
+
+    fn step(&mut self) -> io::Result<Step> {
+        let event = self.event()?;
+        let answer = self.answer()?;
+        let image_after: Image = self.array()?;
+        let stored = self.stored()?;
+        Ok(Step {
+            event,
+            answer: Answer { stored, ..answer },
+            image_after,
+        })
+    }
+
+    fn case(&mut self, tag: u8) -> io::Result<Case> {
+        match tag {
+            TAG_SINGLE => {
+                let event = self.event()?;
+                let state = self.lent()?;
+                let memory = self.lent()?;
+                let answer = self.answer()?;
+                let state_after = self.bytes(state.len())?;
+                let stored = self.stored()?;
+                Ok(Case::Single(Single {
+                    state,
+                    memory,
+                    event,
+                    answer: Answer { stored, ..answer },
+                    state_after,
+                }))
+            }
+            TAG_SEQUENCE => {
+                let image = self.exact::<IMAGE_LENGTH>()?;
+                let memory = self.exact::<MEMORY_LENGTH>()?;
+                let steps = (0..self.u32()?)
+                    .map(|_| self.step())
+                    .collect::<io::Result<_>>()?;
+                let memory_after = self.array()?;
+                Ok(Case::Sequence(Box::new(Sequence {
+                    image,
+                    memory,
+                    steps,
+                    memory_after,
+                })))
+            }
+            TAG_RUN => {
+                let state = self.lent()?;
+                let memory = self.lent()?;
+                let trace_length = self.u32()?;
+                let trace = self.bytes(trace_length)?;
+                let answer = RunAnswer {
+                    number: self.u8()?,
+                    offset: self.u32()?,
+                    count: self.u32()?,
+                };
+                let state_after = self.bytes(state.len())?;
+                let memory_after = self.bytes(memory.len())?;
+                Ok(Case::Run(Run {
+                    state,
+                    memory,
+                    trace,
+                    answer,
+                    state_after,
+                    memory_after,
+                }))
+            }
+            TAG_DRAW => {
+                let state = self.lent()?;
+                let memory = self.lent()?;
+                let frame_length = self.u16()?;
+                let fill = self.u8()?;
+                let number = self.u8()?;
+                let frame = match number {
+                    TAKEN => Some(self.bytes(FRAME_LENGTH)?),
+                    _ => None,
+                };
+                Ok(Case::Draw(Draw {
+                    state,
+                    memory,
+                    frame_length,
+                    fill,
+                    number,
+                    frame,
+                }))
+            }
+            TAG_LISTING => {
+                let trace_length = self.u32()?;
+                let trace = self.bytes(trace_length)?;
+                let text_length = self.u32()?;
+                let text = String::from_utf8(self.bytes(text_length)?)
+                    .map_err(|_| wrong("a listing that is no text"))?;
+                Ok(Case::Listing(Listing { trace, text }))
+            }
+            _ => Err(wrong("no such tag")),
+        }
+    }
+}

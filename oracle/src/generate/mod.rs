@@ -1,0 +1,132 @@
+//! Random inputs, bent towards the places where models go wrong.
+
+pub mod events;
+pub mod memories;
+pub mod states;
+pub mod traces;
+
+use crate::cases::{Draw, Listing, Run, Sequence, Single};
+use crate::listing::LONGEST_TRACE;
+use crate::memory::MEMORY_LENGTH;
+use crate::random::Random;
+use crate::registers::{IMAGE_LENGTH, Image, Registers};
+
+/// State lengths lent, around the 23 needed.
+pub const STATE_LENGTHS: [usize; 6] = [0, 1, 22, 23, 24, 40];
+
+/// Memory lengths lent, around the 1,188 needed.
+pub const MEMORY_LENGTHS: [usize; 6] = [0, 1, 1187, 1188, 1189, 1300];
+
+/// Frame lengths lent, around the 8,580 needed.
+pub const FRAME_LENGTHS: [usize; 4] = [0, 8579, 8580, 8600];
+
+/// The longest sequence of events in one case.
+pub const LONGEST_SEQUENCE: usize = 1000;
+
+/// A length: mostly the one needed, now and then another.
+fn length(random: &mut Random, needed: usize, lengths: &[usize]) -> usize {
+    if random.one_in(8) {
+        random.pick(lengths)
+    } else {
+        needed
+    }
+}
+
+/// A buffer of this length that begins with the contents; what is past them
+/// is any bytes.
+fn lent(random: &mut Random, contents: &[u8], length: usize) -> Vec<u8> {
+    let mut buffer = vec![0; length];
+    random.fill(&mut buffer);
+    let shared = length.min(contents.len());
+    buffer[..shared].copy_from_slice(&contents[..shared]);
+    buffer
+}
+
+fn lent_state(random: &mut Random, image: &Image) -> Vec<u8> {
+    let length = length(random, IMAGE_LENGTH, &STATE_LENGTHS);
+    lent(random, image, length)
+}
+
+fn lent_memory(random: &mut Random) -> Vec<u8> {
+    let contents = memories::memory(random);
+    let length = length(random, MEMORY_LENGTH, &MEMORY_LENGTHS);
+    lent(random, &contents, length)
+}
+
+/// An image, hostile once in so many times.
+fn image(random: &mut Random, hostile_one_in: usize) -> Image {
+    if random.one_in(hostile_one_in) {
+        states::hostile_image(random)
+    } else {
+        states::legal_registers(random).image()
+    }
+}
+
+/// A single event.
+#[must_use]
+pub fn single(random: &mut Random) -> Single {
+    let image = image(random, 6);
+    let event = events::event(random, Registers::from_image(&image));
+    Single::new(lent_state(random, &image), lent_memory(random), event)
+}
+
+/// A sequence of at most so many events.
+#[must_use]
+pub fn sequence(random: &mut Random, most: usize) -> Sequence {
+    let image = if random.one_in(3) {
+        Registers::POWER_ON.image()
+    } else {
+        image(random, 10)
+    };
+    let steps = random
+        .between(LONGEST_SEQUENCE / 4, LONGEST_SEQUENCE)
+        .min(most);
+    let mut sequence = Sequence::new(image, &memories::memory(random));
+    for _ in 0..steps {
+        let registers = Registers::from_image(&sequence.image_after());
+        sequence.push(events::event(random, registers));
+    }
+    sequence
+}
+
+/// A trace run.
+#[must_use]
+pub fn run(random: &mut Random) -> Run {
+    let image = image(random, 12);
+    let state = lent_state(random, &image);
+    let memory = lent_memory(random);
+    let registers = Registers::from_image(&image).unwrap_or(Registers::POWER_ON);
+    let contents = memory.first_chunk().copied().unwrap_or([0; MEMORY_LENGTH]);
+    let trace = traces::trace(random, registers, &contents);
+    Run::new(state, memory, trace)
+}
+
+/// A drawing.
+#[must_use]
+pub fn draw(random: &mut Random) -> Draw {
+    let image = if random.one_in(12) {
+        states::hostile_image(random)
+    } else {
+        states::drawn_registers(random).image()
+    };
+    let frame_length = length(random, FRAME_LENGTHS[2], &FRAME_LENGTHS);
+    let fill = random.byte();
+    Draw::new(
+        lent_state(random, &image),
+        lent_memory(random),
+        frame_length,
+        fill,
+    )
+}
+
+/// A listing.
+#[must_use]
+pub fn listing(random: &mut Random) -> Listing {
+    let mut trace = traces::drawing_trace(random);
+    match random.below(50) {
+        0 => trace.resize(LONGEST_TRACE + random.between(1, 300), 0),
+        1 => traces::lengthen(&mut trace, LONGEST_TRACE),
+        _ => {}
+    }
+    Listing::new(trace)
+}

@@ -1,0 +1,285 @@
+//! Random traces: most of them obeyed to the end, many of them damaged.
+
+use crate::event::{Event, meaning};
+use crate::generate::{events, states};
+use crate::memory::{MEMORY_LENGTH, Memory};
+use crate::random::Random;
+use crate::registers::Registers;
+use crate::trace::{HEADER_LENGTH, Payload, obey};
+
+/// A trace for these registers and this memory.
+#[must_use]
+pub fn trace(random: &mut Random, registers: Registers, memory: &Memory) -> Vec<u8> {
+    if random.one_in(60) {
+        return garbage(random);
+    }
+    let mut maker = Maker::new(registers, memory);
+    if random.one_in(150) {
+        maker.push_many_written(random);
+    }
+    for _ in 0..random.below(16) {
+        maker.push_record(random);
+    }
+    if random.one_in(3) {
+        maker.damage(random);
+    }
+    maker.trace
+}
+
+/// A trace that draws something from power-on with zero memory.
+#[must_use]
+pub fn drawing_trace(random: &mut Random) -> Vec<u8> {
+    let mut maker = Maker::new(Registers::POWER_ON, &[0; MEMORY_LENGTH]);
+    if !random.one_in(10) {
+        maker.push_commands(&picture_commands(random));
+    }
+    for _ in 0..random.below(24) {
+        maker.push_record(random);
+    }
+    if !random.one_in(4) {
+        maker.push_commands(&[0xAF]);
+    }
+    if random.one_in(4) {
+        maker.damage(random);
+    }
+    maker.trace
+}
+
+/// Lengthens a trace to this length, if that can be done, by one record of
+/// data written.
+pub fn lengthen(trace: &mut Vec<u8>, length: usize) {
+    if let Some(payload) = length.checked_sub(trace.len() + HEADER_LENGTH)
+        && let Ok(payload) = u16::try_from(payload)
+    {
+        trace.extend(payload.to_le_bytes());
+        trace.extend(2_u16.to_le_bytes());
+        trace.resize(length, 0x5A);
+    }
+}
+
+/// Commands that bring about random settings of the picture.
+fn picture_commands(random: &mut Random) -> Vec<u8> {
+    let wanted = states::drawn_registers(random);
+    let mut commands = vec![
+        0xAE | u8::from(wanted.display_on),
+        0x40 | wanted.start_line,
+        0xA0 | u8::from(wanted.columns_reversed),
+        0xA6 | u8::from(wanted.reverse),
+        if wanted.rows_reversed { 0xC8 } else { 0xC0 },
+    ];
+    if random.flag() {
+        commands.extend([0xA8, wanted.multiplex]);
+    }
+    if random.flag() {
+        commands.extend([0xD3, wanted.offset]);
+    }
+    if random.one_in(8) {
+        commands.push(0xA5);
+    }
+    commands
+}
+
+/// Any bytes at all.
+fn garbage(random: &mut Random) -> Vec<u8> {
+    let mut trace = vec![0; random.below(40)];
+    random.fill(&mut trace);
+    if random.flag() {
+        // Small numbers make some of it look like records.
+        for byte in &mut trace {
+            *byte %= 6;
+        }
+    }
+    trace
+}
+
+/// A trace in the making, and where obeying it has led.
+struct Maker {
+    registers: Registers,
+    memory: Memory,
+    trace: Vec<u8>,
+    /// Where each record begins.
+    records: Vec<usize>,
+}
+
+impl Maker {
+    fn new(registers: Registers, memory: &Memory) -> Maker {
+        Maker {
+            registers,
+            memory: *memory,
+            trace: Vec::new(),
+            records: Vec::new(),
+        }
+    }
+
+    /// Adds a record of any kind.
+    fn push_record(&mut self, random: &mut Random) {
+        match random.below(20) {
+            0 => self.push_reset(),
+            1..=8 => self.push_bytes(random, Payload::Commands),
+            9..=14 => self.push_bytes(random, Payload::Written),
+            _ => self.push_bytes(random, Payload::Read),
+        }
+    }
+
+    /// Adds a record of the reset pin.
+    fn push_reset(&mut self) {
+        self.push_header(0, 4);
+        self.registers = Registers::POWER_ON;
+    }
+
+    /// Adds a record of just these commands.
+    fn push_commands(&mut self, commands: &[u8]) {
+        self.push_header(commands.len(), 1);
+        for &byte in commands {
+            self.obey(Payload::Commands, byte);
+            self.trace.push(byte);
+        }
+    }
+
+    /// Adds so much written data that offsets no longer fit in two bytes.
+    fn push_many_written(&mut self, random: &mut Random) {
+        self.push_reset();
+        let mut bytes = vec![0; random.between(65_530, 65_535)];
+        random.fill(&mut bytes);
+        self.push_header(bytes.len(), 2);
+        for byte in bytes {
+            self.obey(Payload::Written, byte);
+            self.trace.push(byte);
+        }
+    }
+
+    /// Adds a record of random bytes, with few of them refused.
+    fn push_bytes(&mut self, random: &mut Random, payload: Payload) {
+        let wanted = match random.below(40) {
+            0..=2 => 0,
+            3 => random.between(256, 700),
+            _ => random.between(1, 12),
+        };
+        let mut bytes = Vec::new();
+        while bytes.len() < wanted {
+            let byte = self.byte_for(random, payload);
+            let kept = match payload {
+                Payload::Commands => random.one_in(30),
+                Payload::Written | Payload::Read => random.one_in(3),
+            };
+            if self.obey(payload, byte) || kept {
+                bytes.push(byte);
+            } else if payload != Payload::Commands {
+                break;
+            }
+        }
+        let kind = match payload {
+            Payload::Commands => 1,
+            Payload::Written => 2,
+            Payload::Read => 3,
+        };
+        self.push_header(bytes.len(), kind);
+        self.trace.extend(bytes);
+    }
+
+    /// A payload byte; for reads mostly the right one.
+    fn byte_for(&self, random: &mut Random, payload: Payload) -> u8 {
+        match payload {
+            Payload::Commands => events::command_byte(random, self.registers),
+            Payload::Written => random.byte(),
+            Payload::Read if random.one_in(60) => random.byte(),
+            Payload::Read => match meaning(self.registers, &self.memory, Event::Read) {
+                Ok(taken) if !taken.dummy => taken.byte,
+                _ => random.byte(),
+            },
+        }
+    }
+
+    /// Whether the byte is taken; then its effect stands.
+    fn obey(&mut self, payload: Payload, byte: u8) -> bool {
+        match obey(self.registers, &self.memory, payload, byte) {
+            Ok(taken) => {
+                taken.leave_in(&mut self.registers, &mut self.memory);
+                true
+            }
+            Err(_) => false,
+        }
+    }
+
+    fn push_header(&mut self, length: usize, kind: u16) {
+        self.records.push(self.trace.len());
+        let length = u16::try_from(length).expect("payloads are short");
+        self.trace.extend(length.to_le_bytes());
+        self.trace.extend(kind.to_le_bytes());
+    }
+
+    /// Spoils the trace in one way.
+    fn damage(&mut self, random: &mut Random) {
+        let end = self.trace.len();
+        match random.below(10) {
+            0 | 1 => self.trace.truncate(random.below(end + 1)),
+            2 => self.push_garbage(random, 1, 3),
+            3 => self.push_garbage(random, 4, 12),
+            4 => {
+                // A reset pin with a payload.
+                let length = random.between(1, 3);
+                self.push_header(length, 4);
+                self.push_garbage(random, length, length + 4);
+            }
+            5 => {
+                // A wrong kind, and its payload past the end.
+                self.push_header(random.between(2, 300), random.pick(&WRONG_KINDS));
+                self.push_garbage(random, 0, 1);
+            }
+            6 => self.change_header(random, |random, _, kind| {
+                *kind = random.pick(&WRONG_KINDS);
+            }),
+            7 => self.change_header(random, |random, length, _| {
+                *length = random.pick(&[
+                    length.wrapping_add(1),
+                    length.wrapping_add(0x100),
+                    length.saturating_sub(1),
+                    0xFFFF,
+                    0,
+                ]);
+            }),
+            8 if end > 0 => {
+                let place = random.below(end);
+                self.trace[place] = random.byte();
+            }
+            _ if end > 0 => {
+                let place = random.below(end);
+                if random.flag() {
+                    self.trace.remove(place);
+                } else {
+                    self.trace.insert(place, random.byte());
+                }
+            }
+            _ => {}
+        }
+    }
+
+    fn push_garbage(&mut self, random: &mut Random, least: usize, most: usize) {
+        let mut bytes = vec![0; random.between(least, most)];
+        random.fill(&mut bytes);
+        self.trace.extend(bytes);
+    }
+
+    /// Changes the payload length or the kind of one record.
+    fn change_header(
+        &mut self,
+        random: &mut Random,
+        change: impl Fn(&mut Random, &mut u16, &mut u16),
+    ) {
+        if self.records.is_empty() {
+            return;
+        }
+        let place = random.pick(&self.records);
+        let header = &mut self.trace[place..place + HEADER_LENGTH];
+        let mut length = u16::from_le_bytes([header[0], header[1]]);
+        let mut kind = u16::from_le_bytes([header[2], header[3]]);
+        change(random, &mut length, &mut kind);
+        header[..2].copy_from_slice(&length.to_le_bytes());
+        header[2..].copy_from_slice(&kind.to_le_bytes());
+    }
+}
+
+/// Kinds no record has; the low byte alone of some would be a kind.
+const WRONG_KINDS: [u16; 10] = [
+    0, 5, 6, 0x0100, 0x0101, 0x0102, 0x0203, 0x0104, 0x8001, 0xFFFF,
+];

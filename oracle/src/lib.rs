@@ -1,0 +1,26 @@
+//! The SSD1815B as document 01 states it, written from documents 00 and 01
+//! alone, to be compared with a model written by other people.
+//!
+//! The model: [`registers`], [`command`], [`memory`], [`event`], [`frame`],
+//! [`trace`], [`listing`], each answering with the numbers of [`refusal`].
+//! The comparing: [`random`], [`generate`], [`sweep`], [`cases`], [`format`],
+//! [`coverage`], [`show`]. The script of events typed by a person: [`play`].
+
+pub mod cases;
+pub mod command;
+pub mod coverage;
+pub mod event;
+pub mod format;
+pub mod frame;
+pub mod generate;
+pub mod listing;
+pub mod memory;
+pub mod play;
+pub mod random;
+pub mod refusal;
+pub mod registers;
+pub mod show;
+pub mod stream;
+pub mod sweep;
+pub mod text;
+pub mod trace;

@@ -1,0 +1,69 @@
+//! The listing program: a trace in, the text of the final frame out.
+
+use std::fmt::Write;
+
+use crate::frame::{self, FRAME_LENGTH, FRAME_ROWS, Frame};
+use crate::memory::{COLUMNS, MEMORY_LENGTH};
+use crate::refusal::TAKEN;
+use crate::registers::Registers;
+use crate::trace;
+
+/// The longest trace that is read.
+pub const LONGEST_TRACE: usize = 65_536;
+
+/// What the listing program prints for a trace.
+#[must_use]
+pub fn listing(trace: &[u8]) -> String {
+    if trace.len() > LONGEST_TRACE {
+        return "input too long\n".to_string();
+    }
+    let mut registers = Registers::POWER_ON;
+    let mut memory = [0; MEMORY_LENGTH];
+    let answer = trace::run(&mut registers, &mut memory, trace);
+    let mut frame = [0; FRAME_LENGTH];
+    frame::draw(registers, &memory, &mut frame);
+    let mut text = String::new();
+    if answer.number != TAKEN {
+        line(
+            &mut text,
+            format_args!("refused {} at {}", answer.number, answer.offset),
+        );
+    }
+    text + &frame_text(&frame)
+}
+
+/// The lines of a frame: its size, its rows with lit places, its end.
+#[must_use]
+pub fn frame_text(frame: &Frame) -> String {
+    let mut text = String::new();
+    line(&mut text, format_args!("frame {COLUMNS} {FRAME_ROWS}"));
+    for (row, dots) in frame.chunks_exact(COLUMNS).enumerate() {
+        let runs = lit_runs(dots);
+        if !runs.is_empty() {
+            line(&mut text, format_args!("{row} {}", runs.join(" ")));
+        }
+    }
+    line(&mut text, format_args!("end"));
+    text
+}
+
+/// The runs of lit places of a row, left to right, each `first-last`.
+fn lit_runs(dots: &[u8]) -> Vec<String> {
+    let mut runs = Vec::new();
+    let mut first = None;
+    for (place, &dot) in dots.iter().chain(&[0]).enumerate() {
+        match (first, dot) {
+            (None, 1) => first = Some(place),
+            (Some(from), 0) => {
+                runs.push(format!("{from}-{}", place - 1));
+                first = None;
+            }
+            _ => {}
+        }
+    }
+    runs
+}
+
+fn line(text: &mut String, contents: std::fmt::Arguments) {
+    writeln!(text, "{contents}").expect("a String takes all text");
+}

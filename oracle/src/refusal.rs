@@ -1,0 +1,48 @@
+//! The numbers given: 0 for taken, 1 to 10 for the refusals.
+
+/// The number of an event, run or drawing that was taken.
+pub const TAKEN: u8 = 0;
+
+/// Why something was refused.
+#[derive(Clone, Copy, PartialEq, Eq, Debug)]
+pub enum Refusal {
+    /// 1: a lent state, memory or frame is too short.
+    LentTooShort,
+    /// 2: the state image is out of its ranges.
+    ImageOutOfRange,
+    /// 3: a command byte outside the table, B9-BF apart.
+    OutsideTheTable,
+    /// 4: B9-BF name no page.
+    NoSuchPage,
+    /// 5: n of D3 or D4 not allowed.
+    NNotAllowed,
+    /// 6: a data write or read while a code is awaited.
+    CodeAwaited,
+    /// 7: a data write or read with column above 131.
+    ColumnAbove131,
+    /// 8: a header cut short, or payload past the end.
+    TraceCut,
+    /// 9: kind not 1 to 4, or kind 4 with a payload.
+    WrongKind,
+    /// 10: a compared read differs.
+    ReadDiffers,
+}
+
+impl Refusal {
+    /// The number document 01 gives this refusal.
+    #[must_use]
+    pub const fn number(self) -> u8 {
+        match self {
+            Refusal::LentTooShort => 1,
+            Refusal::ImageOutOfRange => 2,
+            Refusal::OutsideTheTable => 3,
+            Refusal::NoSuchPage => 4,
+            Refusal::NNotAllowed => 5,
+            Refusal::CodeAwaited => 6,
+            Refusal::ColumnAbove131 => 7,
+            Refusal::TraceCut => 8,
+            Refusal::WrongKind => 9,
+            Refusal::ReadDiffers => 10,
+        }
+    }
+}

@@ -1,0 +1,136 @@
+//! A case as text, for a person who looks into a difference.
+
+use std::fmt::Write;
+
+use crate::cases::{Case, Draw, Listing, Run, Sequence, Single};
+use crate::event::{Answer, Event};
+use crate::listing::frame_text;
+use crate::text::{fnv1a, hex};
+use crate::trace::RunAnswer;
+
+/// The text of a case.
+#[must_use]
+pub fn show(case: &Case) -> String {
+    match case {
+        Case::Single(single) => show_single(single),
+        Case::Sequence(sequence) => show_sequence(sequence),
+        Case::Run(run) => show_run(run),
+        Case::Draw(draw) => show_draw(draw),
+        Case::Listing(listing) => show_listing(listing),
+    }
+}
+
+/// The event as it is written in a script.
+#[must_use]
+pub fn event_text(event: Event) -> String {
+    match event {
+        Event::Command(byte) => format!("command {byte:02X}"),
+        Event::Write(byte) => format!("write {byte:02X}"),
+        Event::Read => "read".to_string(),
+        Event::Reset => "reset".to_string(),
+    }
+}
+
+/// Number, byte and whether dummy.
+#[must_use]
+pub fn answer_text(answer: Answer) -> String {
+    format!(
+        "{} {:02X} {}",
+        answer.number,
+        answer.byte,
+        u8::from(answer.dummy)
+    )
+}
+
+/// Number, offset and count of a run.
+#[must_use]
+pub fn run_answer_text(answer: RunAnswer) -> String {
+    format!("{} {} {}", answer.number, answer.offset, answer.count)
+}
+
+/// A state image, or as much of it as there is.
+#[must_use]
+pub fn image_text(name: &str, image: &[u8]) -> String {
+    format!("{name} {}\n", hex(image))
+}
+
+/// A memory by its length and hash.
+#[must_use]
+pub fn memory_text(name: &str, memory: &[u8]) -> String {
+    format!("{name} {} bytes {:016X}\n", memory.len(), fnv1a(memory))
+}
+
+fn stored_text(answer: Answer) -> String {
+    answer.stored.map_or(String::new(), |stored| {
+        format!(" stored {:02X} at {}", stored.byte, stored.place)
+    })
+}
+
+fn show_single(single: &Single) -> String {
+    format!(
+        "single event\n{}{}{} -> {}{}\n{}",
+        image_text("state", &single.state),
+        memory_text("memory", &single.memory),
+        event_text(single.event),
+        answer_text(single.answer),
+        stored_text(single.answer),
+        image_text("state after", &single.state_after),
+    )
+}
+
+fn show_sequence(sequence: &Sequence) -> String {
+    let mut text = format!(
+        "sequence of {} events\n{}{}",
+        sequence.steps.len(),
+        image_text("state", &sequence.image),
+        memory_text("memory", &sequence.memory),
+    );
+    for (index, step) in sequence.steps.iter().enumerate() {
+        writeln!(
+            text,
+            "{index}: {} -> {}{} state after {}",
+            event_text(step.event),
+            answer_text(step.answer),
+            stored_text(step.answer),
+            hex(&step.image_after),
+        )
+        .expect("a String takes all text");
+    }
+    text + &memory_text("memory after", &sequence.memory_after)
+}
+
+fn show_run(run: &Run) -> String {
+    format!(
+        "run\n{}{}{}answer {}\n{}{}",
+        image_text("state", &run.state),
+        memory_text("memory", &run.memory),
+        image_text("trace", &run.trace),
+        run_answer_text(run.answer),
+        image_text("state after", &run.state_after),
+        memory_text("memory after", &run.memory_after),
+    )
+}
+
+fn show_draw(draw: &Draw) -> String {
+    let frame = draw
+        .frame
+        .as_ref()
+        .and_then(|frame| frame.first_chunk())
+        .map_or(String::new(), frame_text);
+    format!(
+        "draw\n{}{}frame of {} bytes, fill {}\nanswer {}\n{frame}",
+        image_text("state", &draw.state),
+        memory_text("memory", &draw.memory),
+        draw.frame_length,
+        draw.fill,
+        draw.number,
+    )
+}
+
+fn show_listing(listing: &Listing) -> String {
+    format!(
+        "listing\n{}{}",
+        image_text("trace", &listing.trace),
+        listing.text,
+    )
+}

@@ -1,0 +1,74 @@
+//! The whole stream of cases: the sweep, then random cases of each kind.
+
+use std::io;
+
+use crate::cases::Case;
+use crate::generate;
+use crate::random::Random;
+use crate::sweep::{Sink, sweep};
+
+/// How many cases of each kind to make, and from what seed.
+#[derive(Clone, Copy, PartialEq, Eq, Debug)]
+pub struct Plan {
+    pub seed: u64,
+    /// Whether the cases that are the same for every seed come first.
+    pub sweep: bool,
+    /// Cases of a single event.
+    pub singles: usize,
+    /// Events in sequences.
+    pub events: usize,
+    pub runs: usize,
+    pub draws: usize,
+    pub listings: usize,
+}
+
+impl Plan {
+    /// The counts used unless others are given.
+    #[must_use]
+    pub fn usual(seed: u64) -> Plan {
+        Plan {
+            seed,
+            sweep: true,
+            singles: 20_000,
+            events: 200_000,
+            runs: 5_000,
+            draws: 2_000,
+            listings: 1_000,
+        }
+    }
+}
+
+/// Gives every case of a plan to the sink. Each kind has random numbers of
+/// its own, so the count of one kind does not change the cases of another.
+///
+/// # Errors
+/// Those of the sink.
+pub fn each_case(plan: &Plan, sink: &mut Sink) -> io::Result<()> {
+    if plan.sweep {
+        sweep(sink)?;
+    }
+    let mut random = Random::new(plan.seed, 1);
+    for _ in 0..plan.singles {
+        sink(Case::Single(generate::single(&mut random)))?;
+    }
+    let mut random = Random::new(plan.seed, 2);
+    let mut events = plan.events;
+    while events > 0 {
+        let sequence = generate::sequence(&mut random, events);
+        events -= sequence.steps.len();
+        sink(Case::Sequence(Box::new(sequence)))?;
+    }
+    let mut random = Random::new(plan.seed, 3);
+    for _ in 0..plan.runs {
+        sink(Case::Run(generate::run(&mut random)))?;
+    }
+    let mut random = Random::new(plan.seed, 4);
+    for _ in 0..plan.draws {
+        sink(Case::Draw(generate::draw(&mut random)))?;
+    }
+    let mut random = Random::new(plan.seed, 5);
+    for _ in 0..plan.listings {
+        sink(Case::Listing(generate::listing(&mut random)))?;
+    }
+    Ok(())
+}

@@ -1,0 +1,146 @@
+//! The trace: its records, and the run that obeys them.
+
+use crate::event::{Event, Taken, asked, lent, meaning};
+use crate::memory::Memory;
+use crate::refusal::{Refusal, TAKEN};
+use crate::registers::Registers;
+
+/// Bytes of a record's header: payload length, then kind.
+pub const HEADER_LENGTH: usize = 4;
+
+/// What the payload bytes of a record are.
+#[derive(Clone, Copy, PartialEq, Eq, Debug)]
+pub enum Payload {
+    /// Kind 1: command bytes.
+    Commands,
+    /// Kind 2: data written.
+    Written,
+    /// Kind 3: bytes the firmware read, one read event each.
+    Read,
+}
+
+/// A record whose header was found right.
+#[derive(Clone, Copy, PartialEq, Eq, Debug)]
+pub enum Record<'a> {
+    /// Kinds 1 to 3.
+    Bytes(Payload, &'a [u8]),
+    /// Kind 4: the reset pin.
+    ResetPin,
+}
+
+/// The answer of a run.
+#[derive(Clone, Copy, PartialEq, Eq, Debug)]
+pub struct RunAnswer {
+    /// 0 when all is taken, else the refusal that stopped it.
+    pub number: u8,
+    /// Where it stopped.
+    pub offset: usize,
+    /// Whole records done.
+    pub count: usize,
+}
+
+/// The record that begins a part of the trace, which is not empty.
+///
+/// # Errors
+/// 8 if the header or the payload is not all there, else 9 if no record has
+/// such a header.
+pub fn first_record(rest: &[u8]) -> Result<Record<'_>, Refusal> {
+    let Some((&[length_low, length_high, kind_low, kind_high], after)) =
+        rest.split_first_chunk::<HEADER_LENGTH>()
+    else {
+        return Err(Refusal::TraceCut);
+    };
+    let length = usize::from(u16::from_le_bytes([length_low, length_high]));
+    let Some(payload) = after.get(..length) else {
+        return Err(Refusal::TraceCut);
+    };
+    match u16::from_le_bytes([kind_low, kind_high]) {
+        1 => Ok(Record::Bytes(Payload::Commands, payload)),
+        2 => Ok(Record::Bytes(Payload::Written, payload)),
+        3 => Ok(Record::Bytes(Payload::Read, payload)),
+        4 if payload.is_empty() => Ok(Record::ResetPin),
+        _ => Err(Refusal::WrongKind),
+    }
+}
+
+/// The event of one payload byte.
+///
+/// # Errors
+/// The refusals of the event, and 10 if a read that is no dummy answers
+/// another byte than the recorded one.
+pub fn obey(
+    registers: Registers,
+    memory: &Memory,
+    payload: Payload,
+    byte: u8,
+) -> Result<Taken, Refusal> {
+    match payload {
+        Payload::Commands => meaning(registers, memory, Event::Command(byte)),
+        Payload::Written => meaning(registers, memory, Event::Write(byte)),
+        Payload::Read => {
+            let taken = meaning(registers, memory, Event::Read)?;
+            if taken.dummy || taken.byte == byte {
+                Ok(taken)
+            } else {
+                Err(Refusal::ReadDiffers)
+            }
+        }
+    }
+}
+
+/// The call of a run on lent state and memory. It stops at the first refused
+/// event or header, and what came before stands.
+pub fn call(state: &mut [u8], memory: &mut [u8], trace: &[u8]) -> RunAnswer {
+    let refused_at_once = |refusal: Refusal| RunAnswer {
+        number: refusal.number(),
+        offset: 0,
+        count: 0,
+    };
+    let (image, memory) = match lent(state, memory) {
+        Ok(parts) => parts,
+        Err(refusal) => return refused_at_once(refusal),
+    };
+    let mut registers = match asked(image) {
+        Ok(registers) => registers,
+        Err(refusal) => return refused_at_once(refusal),
+    };
+    let answer = run(&mut registers, memory, trace);
+    *image = registers.image();
+    answer
+}
+
+/// The run over legal registers and memory.
+pub fn run(registers: &mut Registers, memory: &mut Memory, trace: &[u8]) -> RunAnswer {
+    let mut offset = 0;
+    let mut count = 0;
+    while offset < trace.len() {
+        let stopped = |refusal: Refusal, offset: usize| RunAnswer {
+            number: refusal.number(),
+            offset,
+            count,
+        };
+        let record = match first_record(&trace[offset..]) {
+            Ok(record) => record,
+            Err(refusal) => return stopped(refusal, offset),
+        };
+        offset += HEADER_LENGTH;
+        match record {
+            Record::ResetPin => *registers = Registers::POWER_ON,
+            Record::Bytes(payload, bytes) => {
+                for &byte in bytes {
+                    match obey(*registers, memory, payload, byte) {
+                        Ok(taken) => taken.leave_in(registers, memory),
+                        Err(refusal) => return stopped(refusal, offset),
+                    }
+                    offset += 1;
+                }
+            }
+        }
+        count += 1;
+    }
+    RunAnswer {
+        number: TAKEN,
+        offset,
+        count,
+    }
+}

@@ -1,0 +1,356 @@
+//! The stream of cases: its format, its honesty, and what it reaches.
+
+use std::io;
+
+use oracle::cases::{Case, pattern};
+use oracle::coverage::Coverage;
+use oracle::event::{self, Answer, Event};
+use oracle::format::{LONGEST_BODY, Reader, Writer};
+use oracle::stream::{Plan, each_case};
+use oracle::{cases, frame, listing, trace};
+
+use crate::rig::POWER_ON;
+
+fn small(seed: u64) -> Plan {
+    Plan {
+        seed,
+        sweep: false,
+        singles: 400,
+        events: 3000,
+        runs: 150,
+        draws: 60,
+        listings: 60,
+    }
+}
+
+fn stream_of(plan: &Plan) -> Vec<u8> {
+    let mut stream = Vec::new();
+    let mut writer = Writer::begin(&mut stream, plan.seed).unwrap();
+    each_case(plan, &mut |case| writer.write(&case)).unwrap();
+    writer.end().unwrap();
+    stream
+}
+
+fn cases_of(plan: &Plan) -> Vec<Case> {
+    let mut cases = Vec::new();
+    each_case(plan, &mut |case| {
+        cases.push(case);
+        io::Result::Ok(())
+    })
+    .unwrap();
+    cases
+}
+
+#[test]
+fn a_stream_is_read_back_as_it_was_written() {
+    let plan = small(7);
+    let stream = stream_of(&plan);
+    let mut reader = Reader::begin(&stream[..]).unwrap();
+    assert_eq!(reader.seed(), 7);
+    for case in cases_of(&plan) {
+        assert!(reader.next_case().unwrap() == Some(case));
+    }
+    assert!(reader.next_case().unwrap().is_none());
+}
+
+#[test]
+fn the_same_seed_gives_the_same_stream_and_another_seed_another() {
+    assert!(stream_of(&small(1)) == stream_of(&small(1)));
+    assert!(stream_of(&small(1)) != stream_of(&small(2)));
+}
+
+#[test]
+fn the_count_of_one_kind_does_not_change_the_cases_of_another() {
+    let more = Plan {
+        singles: 900,
+        ..small(5)
+    };
+    let is_single = |case: &Case| matches!(case, Case::Single(_));
+    let mut cases = cases_of(&small(5));
+    let mut others = cases_of(&more);
+    cases.retain(|case| !is_single(case));
+    others.retain(|case| !is_single(case));
+    assert!(cases == others);
+}
+
+#[test]
+fn events_are_as_many_as_asked() {
+    let events: u64 = cases_of(&small(3)).iter().map(Case::events).sum();
+    assert_eq!(events, 3400);
+}
+
+#[test]
+fn a_damaged_stream_is_noticed() {
+    let stream = stream_of(&small(2));
+    let read_all = |stream: &[u8]| -> io::Result<()> {
+        let mut reader = Reader::begin(stream)?;
+        while reader.next_case()?.is_some() {}
+        Ok(())
+    };
+    assert!(read_all(&stream).is_ok());
+    for cut in [0, 7, 19, 20, 24, 1000, stream.len() - 1] {
+        assert!(read_all(&stream[..cut]).is_err(), "cut after {cut}");
+    }
+    let mut wrong = stream.clone();
+    wrong[8] += 1;
+    assert!(read_all(&wrong).is_err());
+}
+
+/// A stream of one case, taken apart by README.md with nothing else.
+#[test]
+fn the_bytes_of_a_single_event() {
+    let mut memory = vec![0; 1188];
+    memory[5] = 0x66;
+    let case = cases::Single::new(POWER_ON.to_vec(), memory.clone(), Event::Write(0x9C));
+    let mut stream = Vec::new();
+    let mut writer = Writer::begin(&mut stream, 0x0102).unwrap();
+    writer.write(&Case::Single(case)).unwrap();
+    writer.end().unwrap();
+
+    let mut after = POWER_ON;
+    after[1] = 1;
+    let body = [
+        &[2, 0x9C][..],
+        &[23, 0],
+        &POWER_ON,
+        &[0xA4, 0x04],
+        &memory,
+        &[0, 0, 0],
+        &after,
+        &[1, 0, 0, 0x9C],
+    ]
+    .concat();
+    let length = u32::try_from(body.len()).unwrap();
+    let expected = [
+        &b"1815CASE"[..],
+        &[1, 0, 0, 0],
+        &[2, 1, 0, 0, 0, 0, 0, 0],
+        &[1],
+        &length.to_le_bytes(),
+        &body,
+        &[0],
+        &[16, 0, 0, 0],
+        &[1, 0, 0, 0, 0, 0, 0, 0],
+        &[1, 0, 0, 0, 0, 0, 0, 0],
+    ]
+    .concat();
+    assert!(stream == expected);
+}
+
+/// The steps of a sequence are 32 bytes each.
+#[test]
+fn the_bytes_of_a_sequence() {
+    let mut sequence = cases::Sequence::new(POWER_ON, &[0; 1188]);
+    sequence.push(Event::Read);
+    sequence.push(Event::Write(0xFF));
+    sequence.push(Event::Command(0xB9));
+    let mut stream = Vec::new();
+    let mut writer = Writer::begin(&mut stream, 0).unwrap();
+    writer.write(&Case::Sequence(Box::new(sequence))).unwrap();
+    writer.end().unwrap();
+
+    let mut read = POWER_ON;
+    read[22] = 0;
+    let mut written = POWER_ON;
+    written[1] = 1;
+    let mut memory = vec![0; 1188];
+    memory[0] = 0xFF;
+    let steps = [
+        &[3, 0, 0, 0, 1][..],
+        &read,
+        &[0, 0, 0, 0],
+        &[2, 0xFF, 0, 0, 0],
+        &written,
+        &[1, 0, 0, 0xFF],
+        &[1, 0xB9, 4, 0, 0],
+        &written,
+        &[0, 0, 0, 0],
+    ]
+    .concat();
+    assert_eq!(steps.len(), 96);
+    let body = [
+        &[23, 0][..],
+        &POWER_ON,
+        &[0xA4, 0x04],
+        &[0; 1188],
+        &[3, 0, 0, 0],
+        &steps,
+        &memory,
+    ]
+    .concat();
+    assert_eq!(stream[20], 2);
+    assert_eq!(
+        stream[21..25],
+        u32::try_from(body.len()).unwrap().to_le_bytes()
+    );
+    assert!(stream[25..25 + body.len()] == body);
+}
+
+/// The bytes of a run, a drawing that is refused and a listing.
+#[test]
+fn the_bytes_of_the_other_kinds() {
+    let body_of = |case: &Case| {
+        let mut stream = Vec::new();
+        let mut writer = Writer::begin(&mut stream, 0).unwrap();
+        writer.write(case).unwrap();
+        writer.end().unwrap();
+        // Without the header of 20, tag and length, and the end of 21.
+        (stream[20], stream[25..stream.len() - 21].to_vec())
+    };
+    let run = cases::Run::new(
+        POWER_ON.to_vec(),
+        vec![0; 1188],
+        vec![0x01, 0x00, 0x01, 0x00, 0xFF],
+    );
+    let expected = [
+        &[23, 0][..],
+        &POWER_ON,
+        &[0xA4, 0x04],
+        &[0; 1188],
+        &[5, 0, 0, 0, 0x01, 0x00, 0x01, 0x00, 0xFF],
+        &[3, 4, 0, 0, 0, 0, 0, 0, 0],
+        &POWER_ON,
+        &[0; 1188],
+    ]
+    .concat();
+    assert!(body_of(&Case::Run(run)) == (3, expected));
+
+    let draw = cases::Draw::new(vec![0; 2], vec![8; 3], 8579, 77);
+    let expected = vec![2, 0, 0, 0, 3, 0, 8, 8, 8, 0x83, 0x21, 77, 1];
+    assert_eq!(body_of(&Case::Draw(draw)), (4, expected));
+
+    let draw = cases::Draw::new(POWER_ON.to_vec(), vec![0; 1188], 8600, 77);
+    let (tag, body) = body_of(&Case::Draw(draw));
+    assert_eq!(tag, 4);
+    assert_eq!(body.len(), 25 + 1190 + 4 + 8580);
+    assert_eq!(body[1215..1219], [0x98, 0x21, 77, 0]);
+    assert!(body[1219..].iter().all(|&dot| dot == 0));
+
+    let listing = cases::Listing::new(vec![9]);
+    let text = b"refused 8 at 0\nframe 132 65\nend\n";
+    let expected = [&[1, 0, 0, 0, 9][..], &[32, 0, 0, 0], text].concat();
+    assert_eq!(body_of(&Case::Listing(listing)), (5, expected));
+}
+
+#[test]
+fn the_pattern_of_a_frame_before_is_never_0_nor_1() {
+    assert_eq!(pattern(4, 0), [2, 3, 4, 5]);
+    assert_eq!(pattern(3, 253), [255, 2, 3]);
+    assert_eq!(pattern(2, 255), [3, 4]);
+    for fill in [0, 100, 255] {
+        assert!(pattern(8600, fill).iter().all(|&byte| byte > 1));
+    }
+}
+
+/// What a case says is what the calls give when asked again, and refused
+/// events changed nothing.
+#[test]
+fn the_outcomes_are_those_of_the_calls() {
+    let refused_quietly = |answer: Answer| {
+        answer.number == 0 || (answer.byte, answer.dummy, answer.stored) == (0, false, None)
+    };
+    for case in cases_of(&small(11)) {
+        match case {
+            Case::Single(single) => {
+                let (mut state, mut memory) = (single.state.clone(), single.memory.clone());
+                let answer = event::call(&mut state, &mut memory, single.event);
+                assert_eq!((answer, &state), (single.answer, &single.state_after));
+                assert!(refused_quietly(answer));
+                assert!(answer.number == 0 || state == single.state);
+            }
+            Case::Sequence(sequence) => {
+                let (mut image, mut memory) = (sequence.image, sequence.memory);
+                for step in &sequence.steps {
+                    let before = image;
+                    let answer = event::call(&mut image, &mut memory, step.event);
+                    assert_eq!((answer, image), (step.answer, step.image_after));
+                    assert!(refused_quietly(answer));
+                    assert!(answer.number == 0 || image == before);
+                }
+                assert_eq!(memory, sequence.memory_after);
+            }
+            Case::Run(run) => {
+                let (mut state, mut memory) = (run.state.clone(), run.memory.clone());
+                let answer = trace::call(&mut state, &mut memory, &run.trace);
+                assert_eq!(answer, run.answer);
+                assert_eq!((state, memory), (run.state_after, run.memory_after));
+            }
+            Case::Draw(draw) => {
+                let mut drawn = pattern(draw.frame_length, draw.fill);
+                let number = frame::call(&draw.state, &draw.memory, &mut drawn);
+                assert_eq!(number, draw.number);
+                let mut expected = pattern(draw.frame_length, draw.fill);
+                if let Some(frame) = draw.frame {
+                    expected[..8580].copy_from_slice(&frame);
+                }
+                assert!(drawn == expected);
+            }
+            Case::Listing(case) => assert_eq!(listing::listing(&case.trace), case.text),
+        }
+    }
+}
+
+/// The random cases alone reach everything that is counted.
+#[test]
+fn everything_is_reached_without_the_sweep() {
+    let plan = Plan {
+        seed: 1815,
+        sweep: false,
+        singles: 60_000,
+        events: 600_000,
+        runs: 10_000,
+        draws: 5_000,
+        listings: 2_000,
+    };
+    let mut coverage = Coverage::new();
+    each_case(&plan, &mut |case| {
+        coverage.see(&case);
+        Ok(())
+    })
+    .unwrap();
+    assert_eq!(coverage.faults(), Vec::<String>::new());
+}
+
+/// What was never met is told, and so is what cannot be.
+#[test]
+fn what_is_not_reached_is_told() {
+    let mut coverage = Coverage::new();
+    assert!(coverage.faults().len() > 2000);
+    let impossible = Case::Draw(cases::Draw {
+        number: 5,
+        ..cases::Draw::new(Vec::new(), Vec::new(), 0, 0)
+    });
+    coverage.see(&impossible);
+    let faults = coverage.faults();
+    assert!(faults.contains(&"numbers of draws: 5 impossible".to_string()));
+    assert!(faults.contains(&"numbers of draws: 0 not reached".to_string()));
+    assert!(!faults.contains(&"numbers of draws: 5 not reached".to_string()));
+}
+
+/// The sweep is written and read back whole, and no body is too long.
+#[test]
+fn the_sweep_is_a_good_stream() {
+    let plan = Plan {
+        sweep: true,
+        singles: 0,
+        events: 0,
+        runs: 0,
+        draws: 0,
+        listings: 0,
+        ..small(0)
+    };
+    let stream = stream_of(&plan);
+    let mut reader = Reader::begin(&stream[..]).unwrap();
+    let mut count = 0;
+    while reader.next_case().unwrap().is_some() {
+        count += 1;
+    }
+    assert!(count > 7168 + 23 * 256 * 4);
+    let mut place = 20;
+    while place < stream.len() {
+        let length = u32::from_le_bytes(stream[place + 1..place + 5].try_into().unwrap());
+        assert!(length as usize <= LONGEST_BODY);
+        place += 5 + length as usize;
+    }
+    assert_eq!(place, stream.len());
+}

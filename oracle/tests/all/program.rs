@@ -1,0 +1,176 @@
+//! The program as a person or a script meets it.
+
+use std::io::Write;
+use std::process::{Command, Output, Stdio};
+
+fn oracle(arguments: &[&str], input: &[u8]) -> Output {
+    let mut child = Command::new(env!("CARGO_BIN_EXE_oracle"))
+        .args(arguments)
+        .stdin(Stdio::piped())
+        .stdout(Stdio::piped())
+        .stderr(Stdio::piped())
+        .spawn()
+        .unwrap();
+    let mut stdin = child.stdin.take().unwrap();
+    let input = input.to_vec();
+    // The program may end before it has read all; that is no fault here.
+    let writer = std::thread::spawn(move || stdin.write_all(&input).is_ok());
+    let output = child.wait_with_output().unwrap();
+    writer.join().unwrap();
+    output
+}
+
+fn text_of(arguments: &[&str], input: &[u8]) -> String {
+    let output = oracle(arguments, input);
+    assert!(output.status.success(), "{output:?}");
+    String::from_utf8(output.stdout).unwrap()
+}
+
+const DOCUMENT_TRACE: [u8; 11] = [
+    0x01, 0x00, 0x01, 0x00, 0xAF, 0x02, 0x00, 0x02, 0x00, 0x03, 0x01,
+];
+
+#[test]
+fn list_prints_the_listing() {
+    assert_eq!(
+        text_of(&["list"], &DOCUMENT_TRACE),
+        "frame 132 65\n0 0-1\n1 0-0\nend\n"
+    );
+    assert_eq!(text_of(&["list"], &vec![0; 65_537]), "input too long\n");
+    assert_eq!(text_of(&["list"], &vec![0; 1 << 20]), "input too long\n");
+    assert_eq!(
+        text_of(&["list"], &vec![0; 65_536]),
+        "refused 9 at 0\nframe 132 65\nend\n"
+    );
+}
+
+#[test]
+fn play_answers_each_event_and_tells_what_is_left() {
+    let script = b"command 05 E0 # two events\n\nread\nwrite 3C\nread\nread\ncommand B9\n";
+    let text = text_of(&["play"], script);
+    let lines: Vec<&str> = text.lines().collect();
+    assert_eq!(
+        lines[..7],
+        [
+            "0 00 0", "0 00 0", "0 00 1", "0 00 0", "0 00 1", "0 00 0", "4 00 0"
+        ]
+    );
+    // Column 6, in read-modify-write from 5, not fresh after the last read;
+    // the 13 fields from power control to the awaited code are 0.
+    let zeros = "00".repeat(13);
+    assert_eq!(lines[7], format!("state 000600003F2004{zeros}010500"));
+    assert!(lines[8].starts_with("memory 1188 bytes "));
+    assert_eq!(lines.len(), 9);
+}
+
+#[test]
+fn play_takes_any_image() {
+    assert!(text_of(&["play", "--state", "00"], b"reset\n").starts_with("1 00 0\n"));
+    let hostile = "FF".repeat(23);
+    let text = text_of(&["play", "--state", &hostile], b"read\nreset\nread\n");
+    assert!(text.starts_with("2 00 0\n0 00 0\n0 00 1\nstate 000000003F2004"));
+}
+
+#[test]
+fn run_answers_number_offset_and_count() {
+    let text = text_of(&["run"], &DOCUMENT_TRACE);
+    assert!(text.starts_with("0 11 2\nstate 000200003F2004"));
+    assert!(text_of(&["run", "--state", ""], &DOCUMENT_TRACE).starts_with("1 0 0\n"));
+}
+
+#[test]
+fn frame_draws_or_refuses() {
+    assert_eq!(text_of(&["frame"], b""), "frame 132 65\nend\n");
+    assert_eq!(text_of(&["frame", "--state", "0011"], b""), "refused 1\n");
+}
+
+#[test]
+fn cases_are_shown() {
+    let counts = [
+        "--seed",
+        "9",
+        "--no-sweep",
+        "--singles",
+        "3",
+        "--events",
+        "5",
+        "--runs",
+        "1",
+        "--draws",
+        "1",
+        "--listings",
+        "1",
+    ];
+    let arguments = [&["cases"][..], &counts].concat();
+    let stream = oracle(&arguments, b"");
+    assert!(stream.status.success());
+    let text = text_of(&["show", "--from", "2", "--count", "9"], &stream.stdout);
+    for part in [
+        "case 2: single event\n",
+        "case 3: sequence of 5 events\n",
+        "case 4: run\n",
+        "case 5: draw\n",
+        "case 6: listing\n",
+    ] {
+        assert!(text.contains(part), "{part}");
+    }
+    assert!(!text.contains("case 1:"));
+    let arguments = [&["coverage"][..], &counts].concat();
+    assert!(text_of(&arguments, b"").contains("cases: 5 of 5"));
+    let summary = [&["cases", "--summary"][..], &counts].concat();
+    let output = oracle(&summary, b"");
+    assert_eq!(output.stdout, stream.stdout);
+    assert!(
+        String::from_utf8(output.stderr)
+            .unwrap()
+            .contains("cases: 5 of 5")
+    );
+}
+
+#[test]
+fn wrong_usage_is_told_with_status_2() {
+    for arguments in [
+        &[][..],
+        &["listen"],
+        &["list", "--seed", "1"],
+        &["cases"],
+        &["cases", "--seed"],
+        &["cases", "--seed", "x"],
+        &["cases", "--seed", "-1"],
+        &["cases", "--seed", "1", "--seed", "2"],
+        &["play", "--state", "0"],
+        &["play", "--state", "+1"],
+        &["play", "--state", "0G"],
+    ] {
+        let output = oracle(arguments, b"");
+        assert_eq!(output.status.code(), Some(2), "{arguments:?}");
+        assert!(output.stdout.is_empty());
+        assert!(output.stderr.starts_with(b"oracle: "));
+    }
+    for script in [
+        &b"jump\n"[..],
+        b"command\n",
+        b"command 1\n",
+        b"command 123\n",
+        b"write XY\n",
+        b"read 00\n",
+        b"reset 1\n",
+    ] {
+        assert_eq!(oracle(&["play"], script).status.code(), Some(2));
+    }
+}
+
+#[test]
+fn other_failures_have_status_1() {
+    let output = oracle(&["play", "--memory", "no/such/file"], b"");
+    assert_eq!(output.status.code(), Some(1));
+    let output = oracle(&["show"], b"not a stream of cases");
+    assert_eq!(output.status.code(), Some(1));
+}
+
+#[test]
+fn help_is_there() {
+    for arguments in [&["--help"][..], &["help"], &["cases", "--help"]] {
+        assert!(text_of(arguments, b"").contains("usage:"));
+    }
+}
