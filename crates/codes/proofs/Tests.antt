@@ -1,7 +1,14 @@
--- Laws on tests that every layer uses: a test that fails, and the two halves of one that holds.
+-- Laws on tests that every layer uses: a test that fails, the two halves of one that holds, and membership in a list of codes.
 -- Assumes nothing.
 use mathlib.Core.Path.{_≡_, refl}
-use mathlib.Core.Bool.{Bool, true, false, _&&_, false≢true}
+use mathlib.Core.Bool.{Bool, true, false, _&&_, _||_, false≢true}
+use mathlib.Core.Logic.{_⊎_, inl, inr, ⊎-elim}
+use mathlib.Core.List.{List, [], _∷_}
+use Prim.Native.Nat.{ℕ, _≤_}
+use native.Mathlib.Omega.{arith}
+use lib.Dec.{leb, eqb}
+use borrow.Author.Tests.{leb-true, eqb-true}
+use Rattle.codes.specs.Table.{oneOf}
 
 pub refuted : (t : Bool) → (t ≡ true → ⊥) → t ≡ false
 refuted true h = absurd (h refl)
@@ -10,3 +17,19 @@ refuted false h = refl
 pub both : (s t : Bool) → (s && t) ≡ true → (s ≡ true) × (t ≡ true)
 both true t e = (refl, e)
 both false t e = absurd (false≢true e)
+
+pub either : (s t : Bool) → (s || t) ≡ true → (s ≡ true) ⊎ (t ≡ true)
+either true t e = inl refl
+either false t e = inr e
+
+-- every number of the list is at most x
+abbrev pub atMost : ℕ → List ℕ → Bool
+atMost x [] = true
+atMost x (m ∷ ms) = leb m x && atMost x ms
+
+-- what is one of a list's numbers is at most what they all are
+pub one-of-at-most : (x : ℕ) (ms : List ℕ) (n : ℕ) → atMost x ms ≡ true → oneOf ms n ≡ true → n ≤ x
+one-of-at-most x [] n h e = absurd (false≢true e)
+one-of-at-most x (m ∷ ms) n h e =
+    let halves = both (leb m x) (atMost x ms) h in
+    ⊎-elim (λ p. omega (arith, eqb-true n m p, leb-true m x (halves .0))) (λ p. one-of-at-most x ms n (halves .1) p) (either (eqb n m) (oneOf ms n) e)

@@ -1,6 +1,6 @@
 -- Document 01, "Command bytes (hex)": its table, row by row, and how a byte is looked up in it.
 use Prim.Native.Nat.{ℕ, _/_, _%_}
-use mathlib.Core.Bool.{Bool, cond, _&&_, _||_}
+use mathlib.Core.Bool.{Bool, false, cond, _&&_, _||_}
 use mathlib.Core.List.{List, [], _∷_}
 use lib.Dec.{leb, eqb}
 use Rattle.codes.specs.declared.Command.{Command}
@@ -30,6 +30,11 @@ use Rattle.codes.specs.declared.Command.the-variants.{
 use Rattle.codes.specs.declared.Operand.{Operand}
 use Rattle.codes.specs.declared.Operand.the-variants.{Contrast, Multiplex, HeldByte, IndicatorMode, Offset, FramePhases, NotAllowed}
 
+-- Whether a number is one of a list's.
+abbrev pub oneOf : List ℕ → ℕ → Bool
+oneOf [] n = false
+oneOf (m ∷ ms) n = eqb n m || oneOf ms n
+
 -- A row of the table: a command of one byte, any of those from the first to the last, or a command of two, a code and the n after it.
 pub data Row : Type 0 where
   one : (first last : ℕ) → (ℕ → Command) → Row
@@ -41,7 +46,7 @@ offsetOf n = cond (leb n 0x3F) (Offset n) NotAllowed
 
 -- D4 takes 00, 10, 20 or 30.
 unfoldable pub framePhasesOf : ℕ → Operand
-framePhasesOf n = cond (eqb n 0x00 || eqb n 0x10 || eqb n 0x20 || eqb n 0x30) (FramePhases (n / 16)) NotAllowed
+framePhasesOf n = cond (oneOf (0x00 ∷ 0x10 ∷ 0x20 ∷ 0x30 ∷ []) n) (FramePhases (n / 16)) NotAllowed
 
 -- The table of document 01 in its order; b is the command byte, n the byte after it.
 unfoldable pub table : List Row

@@ -1,0 +1,20 @@
+-- `bus::data::address` meets its contract by computing.
+-- Assumes nothing.
+use borrow.Author.Needs.{needs}
+use Rattle.bus.proofs.data.address.Statement.{statement}
+use Rattle.bus.proofs.data.address.Tie as tie
+use Rattle.bus.specs.Memory.{address}
+use mathlib.Core.Path.{refl}
+
+mul-result : tie.Need-mul-result
+mul-result c = search needs
+
+add-result : tie.Need-add-result
+add-result c = search needs
+
+returns : tie.Need-returns
+unfolding address
+returns c = refl
+
+pub address-spec : {M : Type 1} → statement M
+address-spec = tie.close (tie.spec mul-result add-result returns)

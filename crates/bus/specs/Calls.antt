@@ -1,0 +1,54 @@
+-- The four event calls on a lent state and memory: the whole outcome as one function of what is lent.
+use Prim.Native.Nat.{ℕ}
+use mathlib.Core.Bool.{Bool, false, cond}
+use mathlib.Core.List.{List}
+use Rattle.bus.specs.Numbers.{tooShort}
+use Rattle.bus.specs.Events.{numberOf, byteOf, dummyOf, resetPin}
+use Rattle.bus.specs.Machine.{Event, Outcome, step}
+use Rattle.bus.specs.Image.{short, asked, stored}
+use Rattle.bus.specs.declared.answer.Answer.{Answer}
+use Rattle.bus.specs.declared.answer.Answer.the-variants.{Taken, Refused}
+use Rattle.bus.specs.declared.image.Asked.{Asked}
+use Rattle.bus.specs.declared.image.Asked.the-variants.{Legal, Illegal}
+use Rattle.bus.specs.declared.calls.Reply.{Reply}
+
+-- What a call replies, and the state and memory that it leaves.
+pub record Called : Type 0 where
+  pub reply : Reply
+  pub state : List ℕ
+  pub memory : List ℕ
+
+abbrev pub called : Reply → List ℕ → List ℕ → Called
+called r later left = record { reply = r; state = later; memory = left }
+
+-- An answer as a reply: a refusal, and each taken event but a read, replies byte 0 and not "dummy".
+unfoldable pub replyOf : Answer → Reply
+unfolding numberOf byteOf dummyOf
+replyOf answer = record { number = numberOf answer; byte = byteOf answer; dummy = dummyOf answer }
+
+-- A refusal leaves state and memory as they were.
+unfoldable pub refused : ℕ → List ℕ → List ℕ → Called
+refused number state memory = called (replyOf (Refused number)) state memory
+
+-- The state after an answer: the image of the registers that a taken event leaves.
+unfoldable pub stateAfter : Answer → List ℕ → List ℕ
+stateAfter (Taken after) state = stored (after .registers) state
+stateAfter (Refused number) state = state
+
+-- An event's outcome as a call's.
+unfoldable pub concluded : Outcome → List ℕ → Called
+concluded outcome state = called (replyOf (outcome .answer)) (stateAfter (outcome .answer) state) (outcome .memory)
+
+-- An event on what was asked first.
+unfoldable pub callOn : Asked → Event → List ℕ → List ℕ → Called
+callOn (Legal r) event state memory = concluded (step event r memory) state
+callOn (Illegal number) event state memory = refused number state memory
+
+-- The calls of a command byte, a data byte written and a data byte read.
+unfoldable pub call : Event → List ℕ → List ℕ → Called
+call event state memory = callOn (asked state memory) event state memory
+
+-- The call of a single pulse on the reset pin, which is not asked 2.
+unfoldable pub resetCall : List ℕ → List ℕ → Called
+resetCall state memory =
+    cond (short state memory) (refused tooShort state memory) (concluded (record { answer = resetPin; memory = memory }) state)

@@ -1,0 +1,9 @@
+pub mod Sizes
+pub mod Numbers
+pub mod Places
+pub mod Registers
+pub mod Memory
+pub mod Events
+pub mod Machine
+pub mod Image
+pub mod Calls

@@ -1,0 +1,42 @@
+-- The chip as a machine: its state is registers and display memory, and each bus event is a step.
+use Prim.Native.Nat.{ℕ}
+use mathlib.Core.List.{List}
+use Rattle.bus.specs.Events.{command, write, written, read, resetPin}
+use Rattle.bus.specs.declared.registers.Registers.{Registers}
+use Rattle.bus.specs.declared.answer.Answer.{Answer}
+use Rattle.bus.specs.declared.answer.Answer.the-variants.{Taken, Refused}
+
+pub record Chip : Type 0 where
+  pub registers : Registers
+  pub memory : List ℕ
+
+-- The four bus events.
+pub data Event : Type 0 where
+  commandByte : ℕ → Event
+  dataWritten : ℕ → Event
+  dataRead : Event
+  resetPulse : Event
+
+-- What a step answers, and the memory after it.
+pub record Outcome : Type 0 where
+  pub answer : Answer
+  pub memory : List ℕ
+
+unfoldable pub step : Event → Registers → List ℕ → Outcome
+step (commandByte b) r memory = record { answer = command b r; memory = memory }
+step (dataWritten b) r memory = record { answer = write r; memory = written b r memory }
+step dataRead r memory = record { answer = read r memory; memory = memory }
+step resetPulse r memory = record { answer = resetPin; memory = memory }
+
+-- The registers after an answer: those that a taken event leaves, and those before where it was refused.
+unfoldable pub registersAfter : Answer → Registers → Registers
+registersAfter (Taken after) r = after .registers
+registersAfter (Refused number) r = r
+
+-- The chip after an event.
+unfoldable pub chipAfter : Event → Chip → Chip
+chipAfter event chip =
+    record {
+      registers = registersAfter (step event (chip .registers) (chip .memory) .answer) (chip .registers);
+      memory = step event (chip .registers) (chip .memory) .memory;
+    }

@@ -1,0 +1,45 @@
+-- Document 01, "Numbers given": each number by name.
+use Prim.Native.Nat.{ℕ}
+
+abbrev pub taken : ℕ
+taken = 0
+
+-- a lent state, memory or frame is too short
+abbrev pub tooShort : ℕ
+tooShort = 1
+
+-- the state image is out of its ranges
+abbrev pub outOfRange : ℕ
+outOfRange = 2
+
+-- a command byte outside the table, B9 to BF apart
+abbrev pub outsideTable : ℕ
+outsideTable = 3
+
+-- B9 to BF
+abbrev pub noPage : ℕ
+noPage = 4
+
+-- an n of D3 or D4 that is not allowed
+abbrev pub notAllowed : ℕ
+notAllowed = 5
+
+-- a data write or read while a code is awaited
+abbrev pub codeAwaited : ℕ
+codeAwaited = 6
+
+-- a data write or read with the column above 131
+abbrev pub columnAbove : ℕ
+columnAbove = 7
+
+-- one to three bytes where a header should stand, or a payload past the end
+abbrev pub headerCut : ℕ
+headerCut = 8
+
+-- a kind that is not 1 to 4, or kind 4 with a payload
+abbrev pub kindUnknown : ℕ
+kindUnknown = 9
+
+-- a compared read differs
+abbrev pub readDiffers : ℕ
+readDiffers = 10

@@ -1,0 +1,87 @@
+// The four event calls, lent the state image and the display memory.
+ghost use mathlib.Core.Path.{_≡_};
+ghost use Rattle.bus.specs.Machine.{commandByte, dataWritten, dataRead};
+ghost use Rattle.bus.specs.Calls.{called, replyOf, stateAfter, call, resetCall};
+use crate::answer::Answer;
+use crate::image::Asked;
+use crate::image::ask;
+use crate::image::short;
+use crate::refusal::TAKEN;
+use crate::refusal::TOO_SHORT;
+use crate::registers::Registers;
+
+// What a call answers: the number, the byte read, and whether the read was the dummy read.
+pub struct Reply {
+    pub number: u8,
+    pub byte: u8,
+    pub dummy: bool,
+}
+
+// A command byte.
+pub fn command(state: &mut [u8], memory: &[u8], byte: u8) -> Reply
+    ensures { λ r. ⌜ called r (now (state .exit)) (now (memory .entry)) ≡ call (commandByte byte) (now (state .entry)) (now (memory .entry)) ⌝ }
+{
+    match ask(state, memory) {
+        Asked::Legal(registers) => conclude(registers.command(byte), state),
+        Asked::Illegal(number) => refuse(number),
+    }
+}
+
+// A data byte written.
+pub fn write(state: &mut [u8], memory: &mut [u8], byte: u8) -> Reply
+    ensures { λ r. ⌜ called r (now (state .exit)) (now (memory .exit)) ≡ call (dataWritten byte) (now (state .entry)) (now (memory .entry)) ⌝ }
+{
+    match ask(state, memory) {
+        Asked::Legal(registers) => conclude(registers.write(memory, byte), state),
+        Asked::Illegal(number) => refuse(number),
+    }
+}
+
+// A data byte read.
+pub fn read(state: &mut [u8], memory: &[u8]) -> Reply
+    ensures { λ r. ⌜ called r (now (state .exit)) (now (memory .entry)) ≡ call dataRead (now (state .entry)) (now (memory .entry)) ⌝ }
+{
+    match ask(state, memory) {
+        Asked::Legal(registers) => conclude(registers.read(memory), state),
+        Asked::Illegal(number) => refuse(number),
+    }
+}
+
+// A pulse on the reset pin.
+pub fn reset_pin(state: &mut [u8], memory: &[u8]) -> Reply
+    ensures { λ r. ⌜ called r (now (state .exit)) (now (memory .entry)) ≡ resetCall (now (state .entry)) (now (memory .entry)) ⌝ }
+{
+    if short(state, memory) {
+        return refuse(TOO_SHORT);
+    }
+    conclude(Registers::reset_pin(), state)
+}
+
+// Stores the registers of a taken event, and says its number, byte and dummy mark.
+fn conclude(answer: Answer, state: &mut [u8]) -> Reply
+    ensures { λ r. ⌜ (r ≡ replyOf answer) × (now (state .exit) ≡ stateAfter answer (now (state .entry))) ⌝ }
+{
+    match answer {
+        Answer::Taken(after) => {
+            let registers = after.registers;
+            registers.store(state);
+            Reply {
+                number: TAKEN,
+                byte: after.byte,
+                dummy: after.dummy,
+            }
+        }
+        Answer::Refused(number) => refuse(number),
+    }
+}
+
+// The reply of a refusal.
+fn refuse(number: u8) -> Reply
+    ensures { λ r. ⌜ r ≡ replyOf (Answer.Refused number) ⌝ }
+{
+    Reply {
+        number,
+        byte: 0,
+        dummy: false,
+    }
+}

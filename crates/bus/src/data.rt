@@ -1,0 +1,119 @@
+// Data written to and read from the display memory.
+ghost use mathlib.Core.Path.{_≡_};
+ghost use Prim.Native.Nat.{_≤_};
+ghost use lib.ListN.{set, getD};
+ghost use Rattle.bus.specs.Memory.{address, kept, onward};
+ghost use Rattle.bus.specs.Events.{access, write, written, read};
+use crate::answer::After;
+use crate::answer::Answer;
+use crate::refusal::CODE_AWAITED;
+use crate::refusal::COLUMN_ABOVE;
+use crate::refusal::TAKEN;
+use crate::registers::Registers;
+
+impl Registers {
+    // A data byte written: one byte of the memory is stored, fresh is 1 and the column moves on.
+    pub fn write(self, memory: &mut [u8], byte: u8) -> Answer
+        ensures { λ r. ⌜ (r ≡ write self) × (now (memory .exit) ≡ written byte self (now (memory .entry))) ⌝ }
+    {
+        let number = self.access();
+        if number == TAKEN {
+            let at = address(self.page, self.column);
+            let bits = kept(self.page, byte);
+            store(memory, at, bits);
+            let column = onward(self.column);
+            let registers = self.with_column(column).with_fresh(1);
+            return Answer::Taken(After {
+                registers,
+                byte: 0,
+                dummy: false,
+            });
+        }
+        Answer::Refused(number)
+    }
+
+    // A data byte read: the dummy read where fresh is 1, else the byte, and the column moves on outside read-modify-write.
+    pub fn read(self, memory: &[u8]) -> Answer
+        ensures { λ r. ⌜ r ≡ read self (now (memory .entry)) ⌝ }
+    {
+        let number = self.access();
+        if number == TAKEN {
+            if self.fresh == 1 {
+                let registers = self.with_fresh(0);
+                return Answer::Taken(After {
+                    registers,
+                    byte: 0,
+                    dummy: true,
+                });
+            }
+            let at = address(self.page, self.column);
+            let byte = kept(self.page, fetch(memory, at));
+            if self.modify == 1 {
+                return Answer::Taken(After {
+                    registers: self,
+                    byte,
+                    dummy: false,
+                });
+            }
+            let column = onward(self.column);
+            let registers = self.with_column(column);
+            return Answer::Taken(After {
+                registers,
+                byte,
+                dummy: false,
+            });
+        }
+        Answer::Refused(number)
+    }
+
+    // What a data write or read meets: 6 while a code is awaited, else 7 with the column above 131.
+    fn access(self) -> u8
+        ensures { λ r. ⌜ r ≡ access self ⌝ }
+    {
+        if self.awaited == 0 {
+            if self.column <= 131 {
+                return TAKEN;
+            }
+            return COLUMN_ABOVE;
+        }
+        CODE_AWAITED
+    }
+}
+
+// Where page and column lie in the display memory.
+fn address(page: u8, column: u8) -> usize
+    ensures { λ r. ⌜ r ≡ address page column ⌝ }
+{
+    (page as usize) * 132 + (column as usize)
+}
+
+// What the memory keeps of a byte: on page 8 its bit 0.
+fn kept(page: u8, byte: u8) -> u8
+    ensures { λ r. ⌜ r ≡ kept page byte ⌝ }
+{
+    if page == 8 { byte % 2 } else { byte }
+}
+
+// The column after a column: after 131 comes 0.
+fn onward(column: u8) -> u8
+    requires { ⌜ column ≤ 131 ⌝ }
+    ensures { λ r. ⌜ r ≡ onward column ⌝ }
+{
+    if column == 131 { 0 } else { column + 1 }
+}
+
+// Stores a byte; a place past the end is none.
+fn store(memory: &mut [u8], at: usize, byte: u8)
+    ensures { λ _. ⌜ now (memory .exit) ≡ set (now (memory .entry)) at byte ⌝ }
+{
+    if at < memory.len() {
+        memory[at] = byte;
+    }
+}
+
+// The byte at a place, and 0 past the end.
+fn fetch(memory: &[u8], at: usize) -> u8
+    ensures { λ r. ⌜ r ≡ getD (now (memory .entry)) at 0 ⌝ }
+{
+    if at < memory.len() { memory[at] } else { 0 }
+}

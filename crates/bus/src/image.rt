@@ -1,0 +1,196 @@
+// The image of the registers: its ranges, and the registers loaded from it and stored to it.
+ghost use mathlib.Core.Path.{_≡_};
+ghost use Prim.Native.Nat.{_≤_};
+ghost use lib.ListN.{length};
+ghost use mathlib.Core.List.{map};
+ghost use Rattle.codes.specs.Table.{oneOf};
+ghost use Rattle.bus.specs.Registers.{imageOf, registersOf, ranges};
+ghost use Rattle.bus.specs.Image.{within, awaitedCodes, legal, short, asked, stored};
+use crate::refusal::OUT_OF_RANGE;
+use crate::refusal::TOO_SHORT;
+use crate::registers::Registers;
+
+// What a lent state and memory are found to be: legal, with the registers, or refused 1 or 2.
+pub enum Asked {
+    Legal(Registers),
+    Illegal(u8),
+}
+
+// The largest value of each register, in the image's order.
+const LARGEST: [u8; 23] = [
+    8,
+    255,
+    63,
+    63,
+    63,
+    63,
+    7,
+    7,
+    1,
+    1,
+    255,
+    3,
+    1,
+    1,
+    1,
+    1,
+    1,
+    1,
+    3,
+    0xD4,
+    1,
+    255,
+    1,
+];
+
+// Asks a lent state and memory first for their lengths and then for the state's ranges.
+pub fn ask(state: &[u8], memory: &[u8]) -> Asked
+    ensures { λ r. ⌜ r ≡ asked (now (state .entry)) (now (memory .entry)) ⌝ }
+{
+    if short(state, memory) {
+        return Asked::Illegal(TOO_SHORT);
+    }
+    if legal(state) {
+        return Asked::Legal(load(state));
+    }
+    Asked::Illegal(OUT_OF_RANGE)
+}
+
+// Whether a lent state or memory is too short.
+pub fn short(state: &[u8], memory: &[u8]) -> bool
+    ensures { λ r. ⌜ r ≡ short (now (state .entry)) (now (memory .entry)) ⌝ }
+{
+    if state.len() < 23 {
+        return true;
+    }
+    memory.len() < 1188
+}
+
+// Whether an image is in its ranges; one that is too short is not.
+pub fn legal(image: &[u8]) -> bool
+    ensures { λ r. ⌜ r ≡ legal (now (image .entry)) ⌝ }
+{
+    if image.len() < 23 {
+        return false;
+    }
+    if within(image) {
+        if awaitable(image[19]) {
+            if image[20] == 0 {
+                return image[21] == 0;
+            }
+            return true;
+        }
+    }
+    false
+}
+
+// Whether each of the 23 bytes is at most its largest value.
+fn within(image: &[u8]) -> bool
+    requires { ⌜ 23 ≤ length (now image) ⌝ }
+    ensures { λ r. ⌜ r ≡ within (map (λ range. range .largest) ranges) (now (image .entry)) ⌝ }
+{
+    let mut i = 0;
+    while i < 23 {
+        if LARGEST[i] < image[i] {
+            return false;
+        }
+        i += 1;
+    }
+    true
+}
+
+// Whether a code is one of the seven that can be awaited, 0 among them.
+fn awaitable(code: u8) -> bool
+    ensures { λ r. ⌜ r ≡ oneOf awaitedCodes code ⌝ }
+{
+    match code {
+        0x00 => true,
+        0x81 => true,
+        0xA8 => true,
+        0xA9 => true,
+        0xAD => true,
+        0xD3 => true,
+        0xD4 => true,
+        _ => false,
+    }
+}
+
+// The registers of an image.
+fn load(image: &[u8]) -> Registers
+    requires { ⌜ 23 ≤ length (now image) ⌝ }
+    ensures { λ r. ⌜ r ≡ registersOf (now (image .entry)) ⌝ }
+{
+    Registers {
+        page: image[0],
+        column: image[1],
+        start: image[2],
+        offset: image[3],
+        multiplex: image[4],
+        contrast: image[5],
+        ratio: image[6],
+        power: image[7],
+        bias: image[8],
+        quarter: image[9],
+        held: image[10],
+        phases: image[11],
+        columns: image[12],
+        rows: image[13],
+        entire: image[14],
+        reverse: image[15],
+        on: image[16],
+        indicator: image[17],
+        mode: image[18],
+        awaited: image[19],
+        modify: image[20],
+        saved: image[21],
+        fresh: image[22],
+    }
+}
+
+impl Registers {
+    // Stores the image in the first 23 bytes of a lent state; one that is too short stays as it is.
+    pub fn store(self, state: &mut [u8])
+        ensures { λ _. ⌜ now (state .exit) ≡ stored self (now (state .entry)) ⌝ }
+    {
+        if state.len() < 23 {
+            return;
+        }
+        let image = self.image();
+        let mut i = 0;
+        while i < 23 {
+            state[i] = image[i];
+            i += 1;
+        }
+    }
+
+    // The image of the registers.
+    pub fn image(self) -> [u8; 23]
+        ensures { λ r. ⌜ r ≡ imageOf self ⌝ }
+    {
+        [
+            self.page,
+            self.column,
+            self.start,
+            self.offset,
+            self.multiplex,
+            self.contrast,
+            self.ratio,
+            self.power,
+            self.bias,
+            self.quarter,
+            self.held,
+            self.phases,
+            self.columns,
+            self.rows,
+            self.entire,
+            self.reverse,
+            self.on,
+            self.indicator,
+            self.mode,
+            self.awaited,
+            self.modify,
+            self.saved,
+            self.fresh,
+        ]
+    }
+}

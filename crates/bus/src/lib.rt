@@ -1,0 +1,8 @@
+// Layer 2, the bus: the registers and their image, the display memory, and what each of the four bus events does to them.
+pub mod answer;
+pub mod calls;
+pub mod command;
+pub mod data;
+pub mod image;
+pub mod refusal;
+pub mod registers;

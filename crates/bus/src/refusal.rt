@@ -1,0 +1,23 @@
+// Document 01, "Numbers given": each number by name.
+
+pub const TAKEN: u8 = 0;
+// A lent state, memory or frame is too short.
+pub const TOO_SHORT: u8 = 1;
+// The state image is out of its ranges.
+pub const OUT_OF_RANGE: u8 = 2;
+// A command byte outside the table, B9 to BF apart.
+pub const OUTSIDE_TABLE: u8 = 3;
+// B9 to BF.
+pub const NO_PAGE: u8 = 4;
+// An n of D3 or D4 that is not allowed.
+pub const NOT_ALLOWED: u8 = 5;
+// A data write or read while a code is awaited.
+pub const CODE_AWAITED: u8 = 6;
+// A data write or read with the column above 131.
+pub const COLUMN_ABOVE: u8 = 7;
+// One to three bytes where a header should stand, or a payload past the end.
+pub const HEADER_CUT: u8 = 8;
+// A kind that is not 1 to 4, or kind 4 with a payload.
+pub const KIND_UNKNOWN: u8 = 9;
+// A compared read differs.
+pub const READ_DIFFERS: u8 = 10;

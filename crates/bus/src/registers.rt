@@ -1,0 +1,261 @@
+// The registers of document 01, in its order.
+ghost use mathlib.Core.Path.{_≡_};
+ghost use Rattle.bus.specs.Registers.{powerOn, powerSave, _with_≔_};
+ghost use Rattle.bus.specs.Places.{page, column, start, offset, multiplex, contrast, ratio, power, bias, quarter, held, phases, columns, rows, entire, reverse, on, indicator, mode, awaited, modify, saved, fresh};
+
+pub struct Registers {
+    pub page: u8,
+    pub column: u8,
+    // Start line.
+    pub start: u8,
+    pub offset: u8,
+    pub multiplex: u8,
+    pub contrast: u8,
+    // Resistor ratio.
+    pub ratio: u8,
+    // Power control.
+    pub power: u8,
+    pub bias: u8,
+    // Quarter bias.
+    pub quarter: u8,
+    // The byte of A9.
+    pub held: u8,
+    // Frame phases.
+    pub phases: u8,
+    // Column direction: 0 normal.
+    pub columns: u8,
+    // Row direction: 0 normal, 1 reversed.
+    pub rows: u8,
+    // Entire on.
+    pub entire: u8,
+    pub reverse: u8,
+    // Display on.
+    pub on: u8,
+    // Indicator on.
+    pub indicator: u8,
+    // Indicator mode.
+    pub mode: u8,
+    // Awaited code, 0 where none is awaited.
+    pub awaited: u8,
+    // Read-modify-write.
+    pub modify: u8,
+    // Saved column.
+    pub saved: u8,
+    pub fresh: u8,
+}
+
+// Power save, by name.
+pub enum PowerSave {
+    Awake,
+    Sleep,
+    Standby,
+}
+
+impl Registers {
+    // The registers at power-on.
+    pub fn power_on() -> Registers
+        ensures { λ r. ⌜ r ≡ powerOn ⌝ }
+    {
+        Registers {
+            page: 0,
+            column: 0,
+            start: 0,
+            offset: 0,
+            multiplex: 63,
+            contrast: 32,
+            ratio: 4,
+            power: 0,
+            bias: 0,
+            quarter: 0,
+            held: 0,
+            phases: 0,
+            columns: 0,
+            rows: 0,
+            entire: 0,
+            reverse: 0,
+            on: 0,
+            indicator: 0,
+            mode: 0,
+            awaited: 0,
+            modify: 0,
+            saved: 0,
+            fresh: 1,
+        }
+    }
+
+    // Whether the chip is in power save, and in which.
+    pub fn power_save(self) -> PowerSave
+        ensures { λ r. ⌜ r ≡ powerSave self ⌝ }
+    {
+        if self.on == 0 {
+            if self.entire == 1 {
+                if self.indicator == 1 {
+                    return PowerSave::Standby;
+                }
+                return PowerSave::Sleep;
+            }
+        }
+        PowerSave::Awake
+    }
+
+    pub fn with_page(mut self, value: u8) -> Registers
+        ensures { λ r. ⌜ r ≡ (self with page ≔ value) ⌝ }
+    {
+        self.page = value;
+        self
+    }
+
+    pub fn with_column(mut self, value: u8) -> Registers
+        ensures { λ r. ⌜ r ≡ (self with column ≔ value) ⌝ }
+    {
+        self.column = value;
+        self
+    }
+
+    pub fn with_start(mut self, value: u8) -> Registers
+        ensures { λ r. ⌜ r ≡ (self with start ≔ value) ⌝ }
+    {
+        self.start = value;
+        self
+    }
+
+    pub fn with_offset(mut self, value: u8) -> Registers
+        ensures { λ r. ⌜ r ≡ (self with offset ≔ value) ⌝ }
+    {
+        self.offset = value;
+        self
+    }
+
+    pub fn with_multiplex(mut self, value: u8) -> Registers
+        ensures { λ r. ⌜ r ≡ (self with multiplex ≔ value) ⌝ }
+    {
+        self.multiplex = value;
+        self
+    }
+
+    pub fn with_contrast(mut self, value: u8) -> Registers
+        ensures { λ r. ⌜ r ≡ (self with contrast ≔ value) ⌝ }
+    {
+        self.contrast = value;
+        self
+    }
+
+    pub fn with_ratio(mut self, value: u8) -> Registers
+        ensures { λ r. ⌜ r ≡ (self with ratio ≔ value) ⌝ }
+    {
+        self.ratio = value;
+        self
+    }
+
+    pub fn with_power(mut self, value: u8) -> Registers
+        ensures { λ r. ⌜ r ≡ (self with power ≔ value) ⌝ }
+    {
+        self.power = value;
+        self
+    }
+
+    pub fn with_bias(mut self, value: u8) -> Registers
+        ensures { λ r. ⌜ r ≡ (self with bias ≔ value) ⌝ }
+    {
+        self.bias = value;
+        self
+    }
+
+    pub fn with_quarter(mut self, value: u8) -> Registers
+        ensures { λ r. ⌜ r ≡ (self with quarter ≔ value) ⌝ }
+    {
+        self.quarter = value;
+        self
+    }
+
+    pub fn with_held(mut self, value: u8) -> Registers
+        ensures { λ r. ⌜ r ≡ (self with held ≔ value) ⌝ }
+    {
+        self.held = value;
+        self
+    }
+
+    pub fn with_phases(mut self, value: u8) -> Registers
+        ensures { λ r. ⌜ r ≡ (self with phases ≔ value) ⌝ }
+    {
+        self.phases = value;
+        self
+    }
+
+    pub fn with_columns(mut self, value: u8) -> Registers
+        ensures { λ r. ⌜ r ≡ (self with columns ≔ value) ⌝ }
+    {
+        self.columns = value;
+        self
+    }
+
+    pub fn with_rows(mut self, value: u8) -> Registers
+        ensures { λ r. ⌜ r ≡ (self with rows ≔ value) ⌝ }
+    {
+        self.rows = value;
+        self
+    }
+
+    pub fn with_entire(mut self, value: u8) -> Registers
+        ensures { λ r. ⌜ r ≡ (self with entire ≔ value) ⌝ }
+    {
+        self.entire = value;
+        self
+    }
+
+    pub fn with_reverse(mut self, value: u8) -> Registers
+        ensures { λ r. ⌜ r ≡ (self with reverse ≔ value) ⌝ }
+    {
+        self.reverse = value;
+        self
+    }
+
+    pub fn with_on(mut self, value: u8) -> Registers
+        ensures { λ r. ⌜ r ≡ (self with on ≔ value) ⌝ }
+    {
+        self.on = value;
+        self
+    }
+
+    pub fn with_indicator(mut self, value: u8) -> Registers
+        ensures { λ r. ⌜ r ≡ (self with indicator ≔ value) ⌝ }
+    {
+        self.indicator = value;
+        self
+    }
+
+    pub fn with_mode(mut self, value: u8) -> Registers
+        ensures { λ r. ⌜ r ≡ (self with mode ≔ value) ⌝ }
+    {
+        self.mode = value;
+        self
+    }
+
+    pub fn with_awaited(mut self, value: u8) -> Registers
+        ensures { λ r. ⌜ r ≡ (self with awaited ≔ value) ⌝ }
+    {
+        self.awaited = value;
+        self
+    }
+
+    pub fn with_modify(mut self, value: u8) -> Registers
+        ensures { λ r. ⌜ r ≡ (self with modify ≔ value) ⌝ }
+    {
+        self.modify = value;
+        self
+    }
+
+    pub fn with_saved(mut self, value: u8) -> Registers
+        ensures { λ r. ⌜ r ≡ (self with saved ≔ value) ⌝ }
+    {
+        self.saved = value;
+        self
+    }
+
+    pub fn with_fresh(mut self, value: u8) -> Registers
+        ensures { λ r. ⌜ r ≡ (self with fresh ≔ value) ⌝ }
+    {
+        self.fresh = value;
+        self
+    }
+}
