@@ -1,3 +1,5 @@
 pub mod Access
 pub mod Concluded
 pub mod Legal
+pub mod ThereAndBack
+pub mod Kept

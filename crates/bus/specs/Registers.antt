@@ -108,7 +108,14 @@ ranges =
     range fresh 1 1 ∷
     []
 
+-- The largest value of each register.
+unfoldable pub largestValues : List ℕ
+unfolding ranges
+largestValues = map (λ r. r .largest) ranges
+
+-- The registers at power-on.
 unfoldable pub powerOn : Registers
+unfolding ranges
 powerOn = registersOf (map (λ r. r .atPowerOn) ranges)
 
 -- Display off with entire on is power save: sleep with the indicator off, standby with it on.

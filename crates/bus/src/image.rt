@@ -2,9 +2,8 @@
 ghost use mathlib.Core.Path.{_≡_};
 ghost use Prim.Native.Nat.{_≤_};
 ghost use lib.ListN.{length};
-ghost use mathlib.Core.List.{map};
 ghost use Rattle.codes.specs.Table.{oneOf};
-ghost use Rattle.bus.specs.Registers.{imageOf, registersOf, ranges};
+ghost use Rattle.bus.specs.Registers.{imageOf, registersOf, largestValues};
 ghost use Rattle.bus.specs.Image.{within, awaitedCodes, legal, short, asked, stored};
 use crate::refusal::OUT_OF_RANGE;
 use crate::refusal::TOO_SHORT;
@@ -87,7 +86,7 @@ pub fn legal(image: &[u8]) -> bool
 // Whether each of the 23 bytes is at most its largest value.
 fn within(image: &[u8]) -> bool
     requires { ⌜ 23 ≤ length (now image) ⌝ }
-    ensures { λ r. ⌜ r ≡ within (map (λ range. range .largest) ranges) (now (image .entry)) ⌝ }
+    ensures { λ r. ⌜ r ≡ within largestValues (now (image .entry)) ⌝ }
 {
     let mut i = 0;
     while i < 23 {
