@@ -3,3 +3,5 @@ pub mod Concluded
 pub mod Legal
 pub mod ThereAndBack
 pub mod Kept
+pub mod Untouched
+pub mod Settled
