@@ -9,32 +9,52 @@ use native.Mathlib.Omega.{arith}
 use lib.Dec.{leb, eqb, lit≤}
 use lib.ListN.{length, getD, drop, set}
 use borrow.Author.Tests.{le-leb, leb-true, eqb-true}
-use Rattle.codes.specs.Table.{table, commandOf, operandOf, oneOf}
-use Rattle.codes.specs.Values.{codesOf, Carried, Given}
+use Rattle.codes.specs.OneOf.{oneOf}
+use Rattle.codes.specs.Table.{table, commandOf, operandOf}
+use Rattle.codes.specs.Values.{codesOf, CommandInRange, OperandInRange}
 use Rattle.codes.specs.declared.Command.{Command}
 use Rattle.codes.specs.declared.Command.the-variants.{
-  ColumnLow, ColumnHigh, ResistorRatio, PowerControl, StartLine, ColumnDirection, Bias, EntireOn, Reverse, QuarterBias, IndicatorOff,
-  DisplayOn, Page, NoPage, RowDirection, EnterReadModifyWrite, SoftwareReset, Nothing, LeaveReadModifyWrite, Await, Outside,
+  ColumnLow,
+  ColumnHigh,
+  ResistorRatio,
+  PowerControl,
+  StartLine,
+  ColumnDirection,
+  Bias,
+  EntireOn,
+  Reverse,
+  QuarterBias,
+  IndicatorOff,
+  DisplayOn,
+  Page,
+  NoPage,
+  RowDirection,
+  EnterReadModifyWrite,
+  SoftwareReset,
+  Nothing,
+  LeaveReadModifyWrite,
+  Await,
+  Outside,
 }
 use Rattle.codes.specs.declared.Operand.{Operand}
-use Rattle.codes.specs.declared.Operand.the-variants.{Contrast, Multiplex, HeldByte, IndicatorMode, Offset, FramePhases, NotAllowed}
+use Rattle.codes.specs.declared.Operand.the-variants.{Contrast, Multiplex, HeldByte, IndicatorMode, Offset, FramePhases, NotAllowed, NotAwaited}
 use Rattle.codes.proofs.Tests.{both, one-of-at-most}
-use Rattle.codes.proofs.Carried.{carried, given as given-law}
+use Rattle.codes.proofs.InRange.{command-in-range, operand-in-range}
 use Rattle.bus.specs.Sizes.{imageSize, memorySize}
 use Rattle.bus.specs.Numbers.{taken, tooShort, outOfRange}
-use Rattle.bus.specs.Places.{page, column, start, offset, multiplex, contrast, ratio, power, bias, quarter, held, phases, columns, rows, entire, reverse, on, indicator, mode, awaited, modify, saved, fresh}
+use Rattle.bus.specs.Places.{page, column, start, offset, multiplex, contrast, ratio, power, bias, quarter, held, phases, mirrored, rows, entire, reverse, on, indicator, mode, awaited, modify, saved, fresh}
 use Rattle.bus.specs.Registers.{largestValues, imageOf, registersOf, _with_≔_, powerOn}
 use Rattle.bus.specs.Memory.{onward}
 use Rattle.bus.specs.Events.{done, given, enter, leave, softwareReset, obeyed, supplied, command, access, moved, write, read, dummyRead, byteRead, resetPin}
 use Rattle.bus.specs.Machine.{Event, commandByte, dataWritten, dataRead, resetPulse, step}
 use Rattle.bus.specs.Image.{within, awaitedCodes, legal, short, asked}
 use Rattle.bus.specs.declared.image.Asked.{Asked}
-use Rattle.bus.specs.declared.image.Asked.the-variants.{Legal, Illegal}
+use Rattle.bus.specs.declared.image.Asked.the-variants.{Found}
 use Rattle.bus.proofs.Legal.{long}
 use Rattle.bus.specs.declared.registers.Registers.{Registers}
 use Rattle.bus.specs.declared.answer.Answer.{Answer}
 use Rattle.bus.specs.declared.answer.Answer.the-variants.{Taken, Refused}
-use Rattle.bus.proofs.Access.{column-open}
+use Rattle.bus.proofs.Access.{opened}
 use Rattle.bus.proofs.ThereAndBack.{image-registers, image-with}
 
 -- the three parts of being legal, as facts of the registers
@@ -189,14 +209,14 @@ software-reset-keeps : (r : Registers) → LegalRegisters r → LegalRegisters (
 unfolding largestValues
 software-reset-keeps r l = record { inRanges = within-sets resets (imageOf r) (l .inRanges) refl; code = l .code; savedZero = refl }
 
-obeyed-keeps : (named : Command) (r : Registers) → Carried named → LegalRegisters r → Keeps (obeyed named r)
+obeyed-keeps : (named : Command) (r : Registers) → CommandInRange named → LegalRegisters r → Keeps (obeyed named r)
 unfolding obeyed largestValues codesOf table
 obeyed-keeps (ColumnLow low) r h l = done-keeps _ (set-plain r column _ l (omega (arith, bound r l column (omega arith))) refl refl refl)
 obeyed-keeps (ColumnHigh high) r h l = done-keeps _ (set-plain r column _ l (omega arith) refl refl refl)
 obeyed-keeps (ResistorRatio value) r h l = done-keeps _ (set-plain r ratio value l (omega arith) refl refl refl)
 obeyed-keeps (PowerControl value) r h l = done-keeps _ (set-plain r power value l (omega arith) refl refl refl)
 obeyed-keeps (StartLine value) r h l = done-keeps _ (set-plain r start value l (omega arith) refl refl refl)
-obeyed-keeps (ColumnDirection value) r h l = done-keeps _ (set-plain r columns value l (omega arith) refl refl refl)
+obeyed-keeps (ColumnDirection value) r h l = done-keeps _ (set-plain r mirrored value l (omega arith) refl refl refl)
 obeyed-keeps (Bias value) r h l = done-keeps _ (set-plain r bias value l (omega arith) refl refl refl)
 obeyed-keeps (EntireOn value) r h l = done-keeps _ (set-plain r entire value l (omega arith) refl refl refl)
 obeyed-keeps (Reverse value) r h l = done-keeps _ (set-plain r reverse value l (omega arith) refl refl refl)
@@ -212,14 +232,14 @@ obeyed-keeps Nothing r h l = done-keeps r l
 obeyed-keeps LeaveReadModifyWrite r h l = done-keeps _ (leave-keeps r l)
 obeyed-keeps (Await code) r h l =
     done-keeps _
-    (record { inRanges = put r awaited code (l .inRanges) (one-of-at-most 0xD4 (codesOf table) code refl h); code = code-legal code h; savedZero = l .savedZero })
+    (record { inRanges = put r awaited code (l .inRanges) (one-of-at-most 255 (codesOf table) code refl h); code = code-legal code h; savedZero = l .savedZero })
 obeyed-keeps Outside r h l = tt
 
 given-keeps : (r : Registers) → LegalRegisters r → Keeps (given r)
 unfolding largestValues awaitedCodes
 given-keeps r l = done-keeps _ (record { inRanges = put r awaited 0 (l .inRanges) (lit≤ tt); code = refl; savedZero = l .savedZero })
 
-supplied-keeps : (operand : Operand) (r : Registers) → Given operand → LegalRegisters r → Keeps (supplied operand r)
+supplied-keeps : (operand : Operand) (r : Registers) → OperandInRange operand → LegalRegisters r → Keeps (supplied operand r)
 unfolding supplied largestValues
 supplied-keeps (Contrast value) r h l = given-keeps _ (set-plain r contrast value l (omega arith) refl refl refl)
 supplied-keeps (Multiplex value) r h l = given-keeps _ (set-plain r multiplex value l (omega arith) refl refl refl)
@@ -229,28 +249,29 @@ supplied-keeps (IndicatorMode value) r h l =
 supplied-keeps (Offset value) r h l = given-keeps _ (set-plain r offset value l (omega arith) refl refl refl)
 supplied-keeps (FramePhases value) r h l = given-keeps _ (set-plain r phases value l (omega arith) refl refl refl)
 supplied-keeps NotAllowed r h l = tt
+supplied-keeps NotAwaited r h l = tt
 
 command-keeps : (b : ℕ) (r : Registers) → b < 256 → LegalRegisters r → Keeps (command b r)
 unfolding command
-command-keeps b r h l = either-keeps (eqb (r .awaited) 0) _ _ (obeyed-keeps (commandOf b) r (carried b) l) (supplied-keeps (operandOf (r .awaited) b) r (given-law (r .awaited) b h) l)
+command-keeps b r h l = either-keeps (eqb (r .awaited) 0) _ _ (obeyed-keeps (commandOf b) r (command-in-range b) l) (supplied-keeps (operandOf (r .awaited) b) r (operand-in-range (r .awaited) b h) l)
 
 onward-bound : (column : ℕ) → column ≤ 131 → onward column ≤ 255
 unfolding onward
 onward-bound column h = at-most (eqb column 131) 0 (column + 1) (lit≤ tt) (omega arith)
 
-moved-keeps : (r : Registers) → LegalRegisters r → access r ≡ taken → LegalRegisters (moved r)
+moved-keeps : (r : Registers) (size : ℕ) → LegalRegisters r → access r size ≡ taken → LegalRegisters (moved r)
 unfolding largestValues
-moved-keeps r l e = set-plain r column (onward (r .column)) l (onward-bound (r .column) (column-open r e)) refl refl refl
+moved-keeps r size l e = set-plain r column (onward (r .column)) l (onward-bound (r .column) (opened r size e .column)) refl refl refl
 
-write-keeps : (r : Registers) → LegalRegisters r → Keeps (write r)
+write-keeps : (r : Registers) (size : ℕ) → LegalRegisters r → Keeps (write r size)
 unfolding write
-write-keeps r l = taken-keeps (access r) _ (λ e. done-keeps (moved r) (moved-keeps r l e))
+write-keeps r size l = taken-keeps (access r size) _ (λ e. done-keeps (moved r) (moved-keeps r size l e))
 
 read-keeps : (r : Registers) (memory : List ℕ) → LegalRegisters r → Keeps (read r memory)
 unfolding read largestValues
 read-keeps r memory l =
-    taken-keeps (access r) _
-    (λ e. either-keeps (eqb (r .fresh) 1) _ _ (set-plain r fresh 0 l (lit≤ tt) refl refl refl) (chosen (eqb (r .modify) 1) r (moved r) (λ f. l) (λ f. moved-keeps r l e)))
+    taken-keeps (access r (length memory)) _
+    (λ e. either-keeps (eqb (r .fresh) 1) _ _ (set-plain r fresh 0 l (lit≤ tt) refl refl refl) (chosen (eqb (r .modify) 1) r (moved r) (λ f. l) (λ f. moved-keeps r (length memory) l e)))
 
 power-on-legal : LegalRegisters powerOn
 unfolding powerOn largestValues within awaitedCodes
@@ -266,22 +287,22 @@ IsByte resetPulse = Unit {0}
 pub step-keeps : (event : Event) (r : Registers) (memory : List ℕ) → IsByte event → LegalRegisters r → Keeps (step event r memory .answer)
 unfolding step resetPin
 step-keeps (commandByte b) r memory h l = command-keeps b r h l
-step-keeps (dataWritten b) r memory h l = write-keeps r l
+step-keeps (dataWritten b) r memory h l = write-keeps r (length memory) l
 step-keeps dataRead r memory h l = read-keeps r memory l
 step-keeps resetPulse r memory h l = power-on-legal
 
-found : (r s : Registers) → Legal r ≡ Legal s → r ≡ s
+found : (r s : Registers) → Found r ≡ Found s → r ≡ s
 found r s e = cc
 
-never : (r : Registers) (number : ℕ) → Illegal number ≡ Legal r → ⊥
+never : (r : Registers) (number : ℕ) → Asked.Refused number ≡ Found r → ⊥
 never r number e = let z : _≡_ {A = ℕ} 0 1 = cc in omega arith
 
 -- the registers that a lent state was found to hold are legal
-pub asked-legal : (state memory : List ℕ) (r : Registers) → asked state memory ≡ Legal r → LegalRegisters r
+pub asked-legal : (state memory : List ℕ) (r : Registers) → asked state memory ≡ Found r → LegalRegisters r
 unfolding asked
 asked-legal state memory r = by (short state memory) (legal state) refl refl
   where
-    by : (s t : Bool) → short state memory ≡ s → legal state ≡ t → cond s (Illegal tooShort) (cond t (Legal (registersOf state)) (Illegal outOfRange)) ≡ Legal r → LegalRegisters r
+    by : (s t : Bool) → short state memory ≡ s → legal state ≡ t → cond s (Asked.Refused tooShort) (cond t (Found (registersOf state)) (Asked.Refused outOfRange)) ≡ Found r → LegalRegisters r
     by true t p q e = absurd (never r _ e)
     by false true p q e = rw (found (registersOf state) r e) at (state-facts state (long state memory p .0) q)
     by false false p q e = absurd (never r _ e)
