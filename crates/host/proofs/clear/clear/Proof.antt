@@ -32,7 +32,7 @@ loop-less : tie.Need-loop-less Inv-loop μ-loop
 loop-less c = omega arith
 
 loop-again : tie.Need-loop-again Inv-loop μ-loop
-loop-again c = 
+loop-again c =
     let i = c .before .loop .i in
     (omega arith, ap (λ (l : List ℕ). set l i 0) (c .before .loop .inv .1) ∙ fill-more i 0 (now (c .before .before .args .memory)) (omega arith))
 
@@ -40,7 +40,7 @@ same-length : tie.Need-same-length Inv-loop μ-loop
 same-length c = ap length (c .before .loop .inv .1) ∙ filled-length (c .before .loop .i) (now (c .before .before .args .memory)) (omega arith)
 
 returns : tie.Need-returns Inv-loop μ-loop
-returns c = 
+returns c =
     let e : c .before .loop .i ≡ 1188 = omega arith in
     c .before .loop .inv .1 ∙ rw e
 
