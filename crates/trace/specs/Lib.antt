@@ -1,0 +1,4 @@
+pub mod Records
+pub mod Play
+pub mod Chip
+pub mod Run

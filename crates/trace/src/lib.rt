@@ -1,0 +1,2 @@
+// The run of a recorded trace over the bus.
+pub mod run;
