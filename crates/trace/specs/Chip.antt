@@ -6,7 +6,7 @@ use lib.Dec.{eqb}
 use lib.ListN.{length}
 use Rattle.bus.specs.Numbers.{kindUnknown, readDiffers}
 use Rattle.bus.specs.Machine.{Chip, Event, commandByte, dataWritten, dataRead, resetPulse, Outcome, step}
-use Rattle.bus.specs.declared.answer.After.{After}
+use Rattle.bus.specs.declared.registers.Registers.{Registers}
 use Rattle.bus.specs.declared.answer.Answer.{Answer}
 use Rattle.bus.specs.declared.answer.Answer.the-variants.{Taken, Refused}
 use Rattle.trace.specs.Records.{Record}
@@ -32,17 +32,17 @@ eventsOf r =
     (cond (eqb (r .kind) 4 && eqb (length (r .payload)) 0) (gives (event resetPulse ∷ []))
     (refuses kindUnknown))))
 
-abbrev pub chip : After → List ℕ → Chip
-chip after left = record { registers = after .registers; memory = left }
+abbrev pub chipOf : Registers → List ℕ → Chip
+chipOf r left = record { registers = r; memory = left }
 
 -- The chip after an event.
 unfoldable pub happened : Answer → List ℕ → Result Chip
-happened (Taken after) memory = gives (chip after memory)
+happened (Taken after) memory = gives (chipOf (after .registers) memory)
 happened (Refused number) memory = refuses number
 
 -- A read is compared with the byte that the firmware read, a dummy read is not; one that differs has not happened.
 unfoldable pub compared : ℕ → Answer → List ℕ → Result Chip
-compared byte (Taken after) memory = cond (after .dummy || eqb (after .byte) byte) (gives (chip after memory)) (refuses readDiffers)
+compared byte (Taken after) memory = cond (after .dummy || eqb (after .byte) byte) (gives (chipOf (after .registers) memory)) (refuses readDiffers)
 compared byte (Refused number) memory = refuses number
 
 -- The chip after what was recorded.

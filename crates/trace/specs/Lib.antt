@@ -1,4 +1,6 @@
 pub mod Records
+pub mod Front
 pub mod Play
 pub mod Chip
+pub mod Code
 pub mod Run

@@ -7,7 +7,7 @@ use Rattle.bus.specs.declared.image.Asked.{Asked}
 use Rattle.bus.specs.declared.image.Asked.the-variants.{Legal, Illegal}
 use Rattle.trace.specs.Records.{split}
 use Rattle.trace.specs.Play.{Played, play}
-use Rattle.trace.specs.Chip.{theChip}
+use Rattle.trace.specs.Chip.{chipOf, theChip}
 use Rattle.trace.specs.declared.run.Stop.{Stop}
 
 -- What a run answers, and the state and memory that it leaves.
@@ -28,7 +28,7 @@ ranOf p state = ran (stopOf (p .number) (p .offset) (p .count)) (stored (p .stat
 
 -- A run on what was asked first: for refusals 1 and 2 offset and count are 0.
 unfoldable pub runOn : Asked → List ℕ → List ℕ → List ℕ → Ran
-runOn (Legal r) state memory trace = ranOf (play theChip (split trace) (record { registers = r; memory = memory })) state
+runOn (Legal r) state memory trace = ranOf (play theChip (split trace) (chipOf r memory)) state
 runOn (Illegal number) state memory trace = ran (stopOf number 0 0) state memory
 
 unfoldable pub run : List ℕ → List ℕ → List ℕ → Ran
