@@ -1,5 +1,5 @@
 // The run of a recorded trace over the bus.
-pub mod events;
-pub mod record;
+mod events;
+mod record;
 pub mod records;
 pub mod run;
