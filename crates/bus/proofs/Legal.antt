@@ -2,14 +2,14 @@
 -- Assumes nothing.
 use mathlib.Core.Path.{_≡_, refl, sym}
 use mathlib.Core.Bool.{Bool, true, false, _||_, false≢true}
-use mathlib.Core.List.{List, [], _∷_, map}
+use mathlib.Core.List.{List, [], _∷_}
 use Prim.Native.Nat.{ℕ, _≤_, _<_, zero-le, suc-le-suc}
 use native.Mathlib.Omega.{arith}
 use lib.Dec.{leb, ltb}
 use borrow.Author.Tests.{ltb-false}
 use lib.ListN.{length}
 use Rattle.codes.proofs.Tests.{both, refuted}
-use Rattle.bus.specs.Registers.{ranges}
+use Rattle.bus.specs.Registers.{largestValues}
 use Rattle.bus.specs.Image.{within, short}
 use Rattle.bus.specs.Sizes.{imageSize, memorySize}
 
@@ -21,9 +21,9 @@ within-length (largest ∷ rest) [] e = absurd (false≢true e)
 within-length (largest ∷ rest) (byte ∷ image) e = suc-le-suc (within-length rest image (both (leb byte largest) (within rest image) e .1))
 
 -- an image that is too short is out of its ranges
-pub within-short : (image : List ℕ) → length image < 23 → within (map (λ range. range .largest) ranges) image ≡ false
-unfolding ranges
-within-short image h = refuted _ (λ e. omega (arith, within-length (map (λ range. range .largest) ranges) image e))
+pub within-short : (image : List ℕ) → length image < 23 → within largestValues image ≡ false
+unfolding largestValues
+within-short image h = refuted _ (λ e. omega (arith, within-length largestValues image e))
 
 neither : (s t : Bool) → (s || t) ≡ false → (s ≡ false) × (t ≡ false)
 neither true t e = absurd (false≢true (sym e))

@@ -1,15 +1,16 @@
--- The four event calls on a lent state and memory: the whole outcome as one function of what is lent.
+-- The event calls on a lent state and memory: the whole outcome as one function of what is lent.
 use Prim.Native.Nat.{ℕ}
 use mathlib.Core.Bool.{Bool, false, cond}
 use mathlib.Core.List.{List}
 use Rattle.bus.specs.Numbers.{tooShort}
-use Rattle.bus.specs.Events.{numberOf, byteOf, dummyOf, resetPin}
-use Rattle.bus.specs.Machine.{Event, Outcome, step}
+use Rattle.bus.specs.Registers.{registersOf}
+use Rattle.bus.specs.Events.{numberOf, byteOf, dummyOf}
+use Rattle.bus.specs.Machine.{Event, commandByte, dataWritten, dataRead, resetPulse, Outcome, step}
 use Rattle.bus.specs.Image.{short, asked, stored}
 use Rattle.bus.specs.declared.answer.Answer.{Answer}
 use Rattle.bus.specs.declared.answer.Answer.the-variants.{Taken, Refused}
 use Rattle.bus.specs.declared.image.Asked.{Asked}
-use Rattle.bus.specs.declared.image.Asked.the-variants.{Legal, Illegal}
+use Rattle.bus.specs.declared.image.Asked.the-variants.{Found}
 use Rattle.bus.specs.declared.calls.Reply.{Reply}
 
 -- What a call replies, and the state and memory that it leaves.
@@ -21,7 +22,7 @@ pub record Called : Type 0 where
 abbrev pub called : Reply → List ℕ → List ℕ → Called
 called r later left = record { reply = r; state = later; memory = left }
 
--- An answer as a reply: a refusal, and each taken event but a read, replies byte 0 and not "dummy".
+-- An answer as a reply: its number, byte and dummy mark.
 unfoldable pub replyOf : Answer → Reply
 unfolding numberOf byteOf dummyOf
 replyOf answer = record { number = numberOf answer; byte = byteOf answer; dummy = dummyOf answer }
@@ -39,16 +40,18 @@ stateAfter (Refused number) state = state
 unfoldable pub concluded : Outcome → List ℕ → Called
 concluded outcome state = called (replyOf (outcome .answer)) (stateAfter (outcome .answer) state) (outcome .memory)
 
--- An event on what was asked first.
+-- What is asked before an event: lengths and ranges, but of a single pulse on the reset pin the lengths alone.
+unfoldable pub askedBefore : Event → List ℕ → List ℕ → Asked
+askedBefore (commandByte b) state memory = asked state memory
+askedBefore (dataWritten b) state memory = asked state memory
+askedBefore dataRead state memory = asked state memory
+askedBefore resetPulse state memory = cond (short state memory) (Asked.Refused tooShort) (Found (registersOf state))
+
+-- An event on what was asked before it.
 unfoldable pub callOn : Asked → Event → List ℕ → List ℕ → Called
-callOn (Legal r) event state memory = concluded (step event r memory) state
-callOn (Illegal number) event state memory = refused number state memory
+callOn (Found r) event state memory = concluded (step event r memory) state
+callOn (Asked.Refused number) event state memory = refused number state memory
 
--- The calls of a command byte, a data byte written and a data byte read.
+-- The call of an event.
 unfoldable pub call : Event → List ℕ → List ℕ → Called
-call event state memory = callOn (asked state memory) event state memory
-
--- The call of a single pulse on the reset pin, which is not asked 2.
-unfoldable pub resetCall : List ℕ → List ℕ → Called
-resetCall state memory =
-    cond (short state memory) (refused tooShort state memory) (concluded (record { answer = resetPin; memory = memory }) state)
+call event state memory = callOn (askedBefore event state memory) event state memory

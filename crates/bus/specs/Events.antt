@@ -2,8 +2,8 @@
 use Prim.Native.Nat.{ℕ, _+_, _*_, _/_, _%_}
 use mathlib.Core.Bool.{Bool, true, false, cond}
 use mathlib.Core.List.{List}
-use lib.Dec.{leb, eqb}
-use lib.ListN.{getD, set}
+use lib.Dec.{leb, ltb, eqb}
+use lib.ListN.{length, getD, set}
 use Rattle.codes.specs.Table.{commandOf, operandOf}
 use Rattle.codes.specs.declared.Command.{Command}
 use Rattle.codes.specs.declared.Command.the-variants.{
@@ -30,9 +30,10 @@ use Rattle.codes.specs.declared.Command.the-variants.{
   Outside,
 }
 use Rattle.codes.specs.declared.Operand.{Operand}
-use Rattle.codes.specs.declared.Operand.the-variants.{Contrast, Multiplex, HeldByte, IndicatorMode, Offset, FramePhases, NotAllowed}
-use Rattle.bus.specs.Numbers.{taken, outsideTable, noPage, notAllowed, codeAwaited, columnAbove}
-use Rattle.bus.specs.Places.{page, column, start, offset, multiplex, contrast, ratio, power, bias, quarter, held, phases, columns, rows, entire, reverse, on, indicator, mode, awaited, modify, saved, fresh}
+use Rattle.codes.specs.declared.Operand.the-variants.{Contrast, Multiplex, HeldByte, IndicatorMode, Offset, FramePhases, NotAllowed, NotAwaited}
+use Rattle.bus.specs.Sizes.{lastColumn, pages, memorySize}
+use Rattle.bus.specs.Numbers.{taken, tooShort, outOfRange, outsideTable, noPage, notAllowed, codeAwaited, columnAbove}
+use Rattle.bus.specs.Places.{page, column, start, offset, multiplex, contrast, ratio, power, bias, quarter, held, phases, mirrored, rows, entire, reverse, on, indicator, mode, awaited, modify, saved, fresh}
 use Rattle.bus.specs.Registers.{_with_≔_, powerOn}
 use Rattle.bus.specs.Memory.{address, kept, onward}
 use Rattle.bus.specs.declared.registers.Registers.{Registers}
@@ -81,7 +82,7 @@ obeyed (ColumnHigh high) r = done (r with column ≔ high * 16 + r .column % 16)
 obeyed (ResistorRatio value) r = done (r with ratio ≔ value)
 obeyed (PowerControl value) r = done (r with power ≔ value)
 obeyed (StartLine value) r = done (r with start ≔ value)
-obeyed (ColumnDirection value) r = done (r with columns ≔ value)
+obeyed (ColumnDirection value) r = done (r with mirrored ≔ value)
 obeyed (Bias value) r = done (r with bias ≔ value)
 obeyed (EntireOn value) r = done (r with entire ≔ value)
 obeyed (Reverse value) r = done (r with reverse ≔ value)
@@ -102,7 +103,7 @@ obeyed Outside r = Refused outsideTable
 abbrev pub given : Registers → Answer
 given r = done (r with awaited ≔ 0)
 
--- The n of the awaited code.
+-- The n of the awaited code; a code that is none of the seven is out of its range, which a call has asked before.
 unfoldable pub supplied : Operand → Registers → Answer
 supplied (Contrast value) r = given (r with contrast ≔ value)
 supplied (Multiplex value) r = given (r with multiplex ≔ value)
@@ -111,26 +112,29 @@ supplied (IndicatorMode value) r = given (r with indicator ≔ 1 with mode ≔ v
 supplied (Offset value) r = given (r with offset ≔ value)
 supplied (FramePhases value) r = given (r with phases ≔ value)
 supplied NotAllowed r = Refused notAllowed
+supplied NotAwaited r = Refused outOfRange
 
 -- A command byte: a command, or n where a code is awaited, even if it looks like a command.
 unfoldable pub command : ℕ → Registers → Answer
 command b r = cond (eqb (r .awaited) 0) (obeyed (commandOf b) r) (supplied (operandOf (r .awaited) b) r)
 
--- What a data write or read meets: 6 while a code is awaited, else 7 with the column above 131.
-unfoldable pub access : Registers → ℕ
-access r = cond (eqb (r .awaited) 0) (cond (leb (r .column) 131) taken columnAbove) codeAwaited
+-- What a data write or read meets, at a memory of so many bytes: 1 and, of the page, 2, which a call has asked before; then 6 while a code is awaited; then 7 with the column above 131.
+unfoldable pub access : Registers → ℕ → ℕ
+access r size =
+    cond (ltb size memorySize) tooShort
+    (cond (ltb (r .page) pages) (cond (eqb (r .awaited) 0) (cond (leb (r .column) lastColumn) taken columnAbove) codeAwaited) outOfRange)
 
 -- The registers with the column moved on.
 abbrev pub moved : Registers → Registers
 moved r = r with column ≔ onward (r .column)
 
 -- A data byte written sets fresh to 1 and moves the column on.
-unfoldable pub write : Registers → Answer
-write r = cond (eqb (access r) taken) (silently (moved r with fresh ≔ 1)) (Refused (access r))
+unfoldable pub write : Registers → ℕ → Answer
+write r size = cond (eqb (access r size) taken) (silently (moved r with fresh ≔ 1)) (Refused (access r size))
 
 -- The memory after it: one byte is stored, and no other changes.
 unfoldable pub written : ℕ → Registers → List ℕ → List ℕ
-written b r memory = cond (eqb (access r) taken) (set memory (address (r .page) (r .column)) (kept (r .page) b)) memory
+written b r memory = cond (eqb (access r (length memory)) taken) (set memory (address (r .page) (r .column)) (kept (r .page) b)) memory
 
 -- The dummy read answers "dummy", byte 0, sets fresh to 0 and moves nothing.
 abbrev pub dummyRead : Registers → Answer
@@ -143,8 +147,9 @@ byteRead r memory =
 
 -- A data byte read.
 unfoldable pub read : Registers → List ℕ → Answer
-read r memory = cond (eqb (access r) taken) (cond (eqb (r .fresh) 1) (dummyRead r) (byteRead r memory)) (Refused (access r))
+read r memory =
+    cond (eqb (access r (length memory)) taken) (cond (eqb (r .fresh) 1) (dummyRead r) (byteRead r memory)) (Refused (access r (length memory)))
 
 -- A pulse on the reset pin gives the power-on state.
-unfoldable pub resetPin : Answer
-resetPin = silently powerOn
+unfoldable pub resetPin : Registers → Answer
+resetPin r = silently powerOn

@@ -1,17 +1,17 @@
 -- The state as hosts lend it: an image of 23 bytes, its legal ranges, and refusals 1 and 2.
 use Prim.Native.Nat.{ℕ}
 use mathlib.Core.Bool.{Bool, true, false, cond, _&&_, _||_}
-use mathlib.Core.List.{List, [], _∷_, _++_, map}
+use mathlib.Core.List.{List, [], _∷_, _++_}
 use lib.Dec.{leb, ltb, eqb}
 use lib.ListN.{length, getD, drop}
-use Rattle.codes.specs.Table.{oneOf}
+use Rattle.codes.specs.OneOf.{oneOf}
 use Rattle.bus.specs.Sizes.{imageSize, memorySize}
 use Rattle.bus.specs.Numbers.{tooShort, outOfRange}
 use Rattle.bus.specs.Places.{awaited, modify, saved}
-use Rattle.bus.specs.Registers.{Range, ranges, imageOf, registersOf}
+use Rattle.bus.specs.Registers.{largestValues, imageOf, registersOf}
 use Rattle.bus.specs.declared.registers.Registers.{Registers}
 use Rattle.bus.specs.declared.image.Asked.{Asked}
-use Rattle.bus.specs.declared.image.Asked.the-variants.{Legal, Illegal}
+use Rattle.bus.specs.declared.image.Asked.the-variants.{Found, Refused}
 
 -- Each byte of an image is at most the largest value in the list beside it.
 unfoldable pub within : List ℕ → List ℕ → Bool
@@ -26,7 +26,7 @@ awaitedCodes = 0x00 ∷ 0x81 ∷ 0xA8 ∷ 0xA9 ∷ 0xAD ∷ 0xD3 ∷ 0xD4 ∷ []
 -- An image is in its ranges: each register in its own, the awaited code one of seven, and the saved column 0 while read-modify-write is 0.
 unfoldable pub legal : List ℕ → Bool
 legal image =
-    within (map (λ range. range .largest) ranges) image &&
+    within largestValues image &&
     oneOf awaitedCodes (getD image awaited 0) &&
     cond (eqb (getD image modify 0) 0) (eqb (getD image saved 0) 0) true
 
@@ -36,7 +36,7 @@ short state memory = ltb (length state) imageSize || ltb (length memory) memoryS
 
 -- What a lent state and memory are asked first: their lengths, then the ranges.
 unfoldable pub asked : List ℕ → List ℕ → Asked
-asked state memory = cond (short state memory) (Illegal tooShort) (cond (legal state) (Legal (registersOf state)) (Illegal outOfRange))
+asked state memory = cond (short state memory) (Refused tooShort) (cond (legal state) (Found (registersOf state)) (Refused outOfRange))
 
 -- A lent state with the image of the registers in its first 23 bytes; one that is too short stays as it is.
 unfoldable pub stored : Registers → List ℕ → List ℕ

@@ -1,6 +1,7 @@
 -- The chip as a machine: its state is registers and display memory, and each bus event is a step.
 use Prim.Native.Nat.{ℕ}
 use mathlib.Core.List.{List}
+use lib.ListN.{length}
 use Rattle.bus.specs.Events.{command, write, written, read, resetPin}
 use Rattle.bus.specs.declared.registers.Registers.{Registers}
 use Rattle.bus.specs.declared.answer.Answer.{Answer}
@@ -24,9 +25,9 @@ pub record Outcome : Type 0 where
 
 unfoldable pub step : Event → Registers → List ℕ → Outcome
 step (commandByte b) r memory = record { answer = command b r; memory = memory }
-step (dataWritten b) r memory = record { answer = write r; memory = written b r memory }
+step (dataWritten b) r memory = record { answer = write r (length memory); memory = written b r memory }
 step dataRead r memory = record { answer = read r memory; memory = memory }
-step resetPulse r memory = record { answer = resetPin; memory = memory }
+step resetPulse r memory = record { answer = resetPin r; memory = memory }
 
 -- The registers after an answer: those that a taken event leaves, and those before where it was refused.
 unfoldable pub registersAfter : Answer → Registers → Registers

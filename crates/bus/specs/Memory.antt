@@ -2,10 +2,10 @@
 use Prim.Native.Nat.{ℕ, _+_, _*_, _%_}
 use mathlib.Core.Bool.{cond}
 use lib.Dec.{eqb}
-use Rattle.bus.specs.Sizes.{width, iconPage}
+use Rattle.bus.specs.Sizes.{width, lastColumn, iconPage}
 
 -- Page p, column c lies at 132 p + c.
-unfoldable pub address : ℕ → ℕ → ℕ
+abbrev pub address : ℕ → ℕ → ℕ
 address page column = page * width + column
 
 -- Page 8 has bit 0 only.
@@ -14,4 +14,4 @@ kept page byte = cond (eqb page iconPage) (byte % 2) byte
 
 -- The column moved on: after 131 comes 0.
 unfoldable pub onward : ℕ → ℕ
-onward column = cond (eqb column 131) 0 (column + 1)
+onward column = cond (eqb column lastColumn) 0 (column + 1)

@@ -12,15 +12,15 @@ tooShort = 1
 abbrev pub outOfRange : ℕ
 outOfRange = 2
 
--- a command byte outside the table, B9 to BF apart
+-- a command byte outside the table, B9 to BF apart, with no code awaited
 abbrev pub outsideTable : ℕ
 outsideTable = 3
 
--- B9 to BF
+-- B9 to BF with no code awaited
 abbrev pub noPage : ℕ
 noPage = 4
 
--- an n of D3 or D4 that is not allowed
+-- an n of D3 or D4 that is not allowed; the code stays awaited
 abbrev pub notAllowed : ℕ
 notAllowed = 5
 
@@ -40,6 +40,6 @@ headerCut = 8
 abbrev pub kindUnknown : ℕ
 kindUnknown = 9
 
--- a compared read differs
+-- a compared read differs; that read has not happened
 abbrev pub readDiffers : ℕ
 readDiffers = 10

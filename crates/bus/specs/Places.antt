@@ -44,8 +44,8 @@ abbrev pub phases : ℕ
 phases = 11
 
 -- column direction
-abbrev pub columns : ℕ
-columns = 12
+abbrev pub mirrored : ℕ
+mirrored = 12
 
 -- row direction
 abbrev pub rows : ℕ

@@ -4,10 +4,10 @@ use mathlib.Core.Bool.{Bool, true, false, cond, _&&_}
 use mathlib.Core.List.{List, [], _∷_, map}
 use lib.Dec.{leb, eqb}
 use lib.ListN.{getD, set}
-use Rattle.bus.specs.Places.{page, column, start, offset, multiplex, contrast, ratio, power, bias, quarter, held, phases, columns, rows, entire, reverse, on, indicator, mode, awaited, modify, saved, fresh}
+use Rattle.bus.specs.Places.{page, column, start, offset, multiplex, contrast, ratio, power, bias, quarter, held, phases, mirrored, rows, entire, reverse, on, indicator, mode, awaited, modify, saved, fresh}
 use Rattle.bus.specs.declared.registers.Registers.{Registers}
-use Rattle.bus.specs.declared.registers.PowerSave.{PowerSave}
-use Rattle.bus.specs.declared.registers.PowerSave.the-variants.{Awake, Sleep, Standby}
+use Rattle.bus.specs.declared.registers.PowerState.{PowerState}
+use Rattle.bus.specs.declared.registers.PowerState.the-variants.{Awake, Sleep, Standby}
 
 -- The image of the registers.
 abbrev pub imageOf : Registers → List ℕ
@@ -24,7 +24,7 @@ imageOf r =
     r .quarter ∷
     r .held ∷
     r .phases ∷
-    r .columns ∷
+    r .mirrored ∷
     r .rows ∷
     r .entire ∷
     r .reverse ∷
@@ -53,7 +53,7 @@ registersOf image =
       quarter = getD image quarter 0;
       held = getD image held 0;
       phases = getD image phases 0;
-      columns = getD image columns 0;
+      mirrored = getD image mirrored 0;
       rows = getD image rows 0;
       entire = getD image entire 0;
       reverse = getD image reverse 0;
@@ -71,7 +71,7 @@ infixl 20 _with_≔_
 abbrev pub _with_≔_ : Registers → ℕ → ℕ → Registers
 r with place ≔ value = registersOf (set (imageOf r) place value)
 
--- The register at a place: its range is from 0 to the largest value; and its value at power-on.
+-- The register at a place: the largest value that it may hold, and its value at power-on.
 pub record Range : Type 0 where
   pub place : ℕ
   pub largest : ℕ
@@ -80,7 +80,7 @@ pub record Range : Type 0 where
 abbrev pub range : ℕ → ℕ → ℕ → Range
 range register most first = record { place = register; largest = most; atPowerOn = first }
 
--- The ranges in the image's order; what more is asked of the awaited code and the saved column stands below.
+-- The ranges in the image's order; Image.antt has what more is asked of the awaited code and the saved column.
 unfoldable pub ranges : List Range
 ranges =
     range page 8 0 ∷
@@ -95,22 +95,29 @@ ranges =
     range quarter 1 0 ∷
     range held 255 0 ∷
     range phases 3 0 ∷
-    range columns 1 0 ∷
+    range mirrored 1 0 ∷
     range rows 1 0 ∷
     range entire 1 0 ∷
     range reverse 1 0 ∷
     range on 1 0 ∷
     range indicator 1 0 ∷
     range mode 3 0 ∷
-    range awaited 0xD4 0 ∷
+    range awaited 255 0 ∷
     range modify 1 0 ∷
     range saved 255 0 ∷
     range fresh 1 1 ∷
     []
 
+-- The largest value of each register.
+unfoldable pub largestValues : List ℕ
+unfolding ranges
+largestValues = map (λ r. r .largest) ranges
+
+-- The registers at power-on.
 unfoldable pub powerOn : Registers
+unfolding ranges
 powerOn = registersOf (map (λ r. r .atPowerOn) ranges)
 
 -- Display off with entire on is power save: sleep with the indicator off, standby with it on.
-unfoldable pub powerSave : Registers → PowerSave
-powerSave r = cond (eqb (r .on) 0 && eqb (r .entire) 1) (cond (eqb (r .indicator) 1) Standby Sleep) Awake
+unfoldable pub powerState : Registers → PowerState
+powerState r = cond (eqb (r .on) 0 && eqb (r .entire) 1) (cond (eqb (r .indicator) 1) Standby Sleep) Awake

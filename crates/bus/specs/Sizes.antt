@@ -5,6 +5,10 @@ use Prim.Native.Nat.{ℕ, _*_}
 abbrev pub width : ℕ
 width = 132
 
+-- the last column, after which comes 0
+abbrev pub lastColumn : ℕ
+lastColumn = 131
+
 -- pages of the display memory
 abbrev pub pages : ℕ
 pages = 9

@@ -1,7 +1,7 @@
 // The four event calls, lent the state image and the display memory.
 ghost use mathlib.Core.Path.{_≡_};
-ghost use Rattle.bus.specs.Machine.{commandByte, dataWritten, dataRead};
-ghost use Rattle.bus.specs.Calls.{called, replyOf, stateAfter, call, resetCall};
+ghost use Rattle.bus.specs.Machine.{commandByte, dataWritten, dataRead, resetPulse};
+ghost use Rattle.bus.specs.Calls.{called, replyOf, stateAfter, call};
 use crate::answer::Answer;
 use crate::image::Asked;
 use crate::image::ask;
@@ -22,8 +22,8 @@ pub fn command(state: &mut [u8], memory: &[u8], byte: u8) -> Reply
     ensures { λ r. ⌜ called r (now (state .exit)) (now (memory .entry)) ≡ call (commandByte byte) (now (state .entry)) (now (memory .entry)) ⌝ }
 {
     match ask(state, memory) {
-        Asked::Legal(registers) => conclude(registers.command(byte), state),
-        Asked::Illegal(number) => refuse(number),
+        Asked::Found(registers) => conclude(registers.command(byte), state),
+        Asked::Refused(number) => refuse(number),
     }
 }
 
@@ -32,8 +32,8 @@ pub fn write(state: &mut [u8], memory: &mut [u8], byte: u8) -> Reply
     ensures { λ r. ⌜ called r (now (state .exit)) (now (memory .exit)) ≡ call (dataWritten byte) (now (state .entry)) (now (memory .entry)) ⌝ }
 {
     match ask(state, memory) {
-        Asked::Legal(registers) => conclude(registers.write(memory, byte), state),
-        Asked::Illegal(number) => refuse(number),
+        Asked::Found(registers) => conclude(registers.write(memory, byte), state),
+        Asked::Refused(number) => refuse(number),
     }
 }
 
@@ -42,19 +42,20 @@ pub fn read(state: &mut [u8], memory: &[u8]) -> Reply
     ensures { λ r. ⌜ called r (now (state .exit)) (now (memory .entry)) ≡ call dataRead (now (state .entry)) (now (memory .entry)) ⌝ }
 {
     match ask(state, memory) {
-        Asked::Legal(registers) => conclude(registers.read(memory), state),
-        Asked::Illegal(number) => refuse(number),
+        Asked::Found(registers) => conclude(registers.read(memory), state),
+        Asked::Refused(number) => refuse(number),
     }
 }
 
-// A pulse on the reset pin.
+// A pulse on the reset pin, which is asked for the lengths alone.
 pub fn reset_pin(state: &mut [u8], memory: &[u8]) -> Reply
-    ensures { λ r. ⌜ called r (now (state .exit)) (now (memory .entry)) ≡ resetCall (now (state .entry)) (now (memory .entry)) ⌝ }
+    ensures { λ r. ⌜ called r (now (state .exit)) (now (memory .entry)) ≡ call resetPulse (now (state .entry)) (now (memory .entry)) ⌝ }
 {
     if short(state, memory) {
         return refuse(TOO_SHORT);
     }
-    conclude(Registers::reset_pin(), state)
+    let registers = Registers::power_on();
+    conclude(registers.reset_pin(), state)
 }
 
 // Stores the registers of a taken event, and says its number, byte and dummy mark.

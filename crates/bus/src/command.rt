@@ -1,11 +1,12 @@
 // The command byte and the reset pin.
 ghost use mathlib.Core.Path.{_≡_};
-ghost use Rattle.codes.specs.Values.{Carried};
+ghost use Rattle.codes.specs.Values.{CommandInRange};
 ghost use Rattle.bus.specs.Events.{command, obeyed, supplied, given, done, enter, leave, softwareReset, resetPin};
 use crate::answer::After;
 use crate::answer::Answer;
 use crate::refusal::NO_PAGE;
 use crate::refusal::NOT_ALLOWED;
+use crate::refusal::OUT_OF_RANGE;
 use crate::refusal::OUTSIDE_TABLE;
 use crate::registers::Registers;
 use codes::Command;
@@ -26,8 +27,8 @@ impl Registers {
     }
 
     // A pulse on the reset pin: the power-on state, whatever the state was.
-    pub fn reset_pin() -> Answer
-        ensures { λ r. ⌜ r ≡ resetPin ⌝ }
+    pub fn reset_pin(self) -> Answer
+        ensures { λ r. ⌜ r ≡ resetPin self ⌝ }
     {
         let registers = Registers::power_on();
         Answer::Taken(After {
@@ -39,7 +40,7 @@ impl Registers {
 
     // Obeys a command where no code is awaited.
     fn obey(self, named: Command) -> Answer
-        requires { ⌜ Carried named ⌝ }
+        requires { ⌜ CommandInRange named ⌝ }
         ensures { λ r. ⌜ r ≡ obeyed named self ⌝ }
     {
         match named {
@@ -48,7 +49,7 @@ impl Registers {
             Command::ResistorRatio(ratio) => self.with_ratio(ratio).done(),
             Command::PowerControl(power) => self.with_power(power).done(),
             Command::StartLine(line) => self.with_start(line).done(),
-            Command::ColumnDirection(direction) => self.with_columns(direction).done(),
+            Command::ColumnDirection(direction) => self.with_mirrored(direction).done(),
             Command::Bias(bias) => self.with_bias(bias).done(),
             Command::EntireOn(entire) => self.with_entire(entire).done(),
             Command::Reverse(reverse) => self.with_reverse(reverse).done(),
@@ -67,7 +68,7 @@ impl Registers {
         }
     }
 
-    // Takes the n of the awaited code, or refuses it.
+    // Takes the n of the awaited code, or refuses it; a code that is none of the seven is out of its range.
     fn supply(self, operand: Operand) -> Answer
         ensures { λ r. ⌜ r ≡ supplied operand self ⌝ }
     {
@@ -79,6 +80,7 @@ impl Registers {
             Operand::Offset(offset) => self.with_offset(offset).given(),
             Operand::FramePhases(phases) => self.with_phases(phases).given(),
             Operand::NotAllowed => Answer::Refused(NOT_ALLOWED),
+            Operand::NotAwaited => Answer::Refused(OUT_OF_RANGE),
         }
     }
 

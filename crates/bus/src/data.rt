@@ -1,26 +1,28 @@
 // Data written to and read from the display memory.
 ghost use mathlib.Core.Path.{_≡_};
 ghost use Prim.Native.Nat.{_≤_};
-ghost use lib.ListN.{set, getD};
+ghost use lib.ListN.{length};
 ghost use Rattle.bus.specs.Memory.{address, kept, onward};
 ghost use Rattle.bus.specs.Events.{access, write, written, read};
 use crate::answer::After;
 use crate::answer::Answer;
 use crate::refusal::CODE_AWAITED;
 use crate::refusal::COLUMN_ABOVE;
+use crate::refusal::OUT_OF_RANGE;
 use crate::refusal::TAKEN;
+use crate::refusal::TOO_SHORT;
 use crate::registers::Registers;
 
 impl Registers {
     // A data byte written: one byte of the memory is stored, fresh is 1 and the column moves on.
     pub fn write(self, memory: &mut [u8], byte: u8) -> Answer
-        ensures { λ r. ⌜ (r ≡ write self) × (now (memory .exit) ≡ written byte self (now (memory .entry))) ⌝ }
+        ensures { λ r. ⌜ (r ≡ write self (length (now (memory .entry)))) × (now (memory .exit) ≡ written byte self (now (memory .entry))) ⌝ }
     {
-        let number = self.access();
+        let number = self.access(memory.len());
         if number == TAKEN {
             let at = address(self.page, self.column);
             let bits = kept(self.page, byte);
-            store(memory, at, bits);
+            memory[at] = bits;
             let column = onward(self.column);
             let registers = self.with_column(column).with_fresh(1);
             return Answer::Taken(After {
@@ -36,8 +38,10 @@ impl Registers {
     pub fn read(self, memory: &[u8]) -> Answer
         ensures { λ r. ⌜ r ≡ read self (now (memory .entry)) ⌝ }
     {
-        let number = self.access();
+        let number = self.access(memory.len());
         if number == TAKEN {
+            let column = onward(self.column);
+            let moved = self.with_column(column);
             if self.fresh == 1 {
                 let registers = self.with_fresh(0);
                 return Answer::Taken(After {
@@ -47,7 +51,7 @@ impl Registers {
                 });
             }
             let at = address(self.page, self.column);
-            let byte = kept(self.page, fetch(memory, at));
+            let byte = kept(self.page, memory[at]);
             if self.modify == 1 {
                 return Answer::Taken(After {
                     registers: self,
@@ -55,10 +59,8 @@ impl Registers {
                     dummy: false,
                 });
             }
-            let column = onward(self.column);
-            let registers = self.with_column(column);
             return Answer::Taken(After {
-                registers,
+                registers: moved,
                 byte,
                 dummy: false,
             });
@@ -66,17 +68,23 @@ impl Registers {
         Answer::Refused(number)
     }
 
-    // What a data write or read meets: 6 while a code is awaited, else 7 with the column above 131.
-    fn access(self) -> u8
-        ensures { λ r. ⌜ r ≡ access self ⌝ }
+    // What a data write or read meets, at a memory of so many bytes: 1 and 2 as far as it uses them, then 6, then 7.
+    fn access(self, memory: usize) -> u8
+        ensures { λ r. ⌜ r ≡ access self memory ⌝ }
     {
-        if self.awaited == 0 {
-            if self.column <= 131 {
-                return TAKEN;
-            }
-            return COLUMN_ABOVE;
+        if memory < 1188 {
+            return TOO_SHORT;
         }
-        CODE_AWAITED
+        if self.page < 9 {
+            if self.awaited == 0 {
+                if self.column <= 131 {
+                    return TAKEN;
+                }
+                return COLUMN_ABOVE;
+            }
+            return CODE_AWAITED;
+        }
+        OUT_OF_RANGE
     }
 }
 
@@ -100,20 +108,4 @@ fn onward(column: u8) -> u8
     ensures { λ r. ⌜ r ≡ onward column ⌝ }
 {
     if column == 131 { 0 } else { column + 1 }
-}
-
-// Stores a byte; a place past the end is none.
-fn store(memory: &mut [u8], at: usize, byte: u8)
-    ensures { λ _. ⌜ now (memory .exit) ≡ set (now (memory .entry)) at byte ⌝ }
-{
-    if at < memory.len() {
-        memory[at] = byte;
-    }
-}
-
-// The byte at a place, and 0 past the end.
-fn fetch(memory: &[u8], at: usize) -> u8
-    ensures { λ r. ⌜ r ≡ getD (now (memory .entry)) at 0 ⌝ }
-{
-    if at < memory.len() { memory[at] } else { 0 }
 }

@@ -2,18 +2,17 @@
 ghost use mathlib.Core.Path.{_≡_};
 ghost use Prim.Native.Nat.{_≤_};
 ghost use lib.ListN.{length};
-ghost use mathlib.Core.List.{map};
-ghost use Rattle.codes.specs.Table.{oneOf};
-ghost use Rattle.bus.specs.Registers.{imageOf, registersOf, ranges};
+ghost use Rattle.codes.specs.OneOf.{oneOf};
+ghost use Rattle.bus.specs.Registers.{imageOf, registersOf, largestValues};
 ghost use Rattle.bus.specs.Image.{within, awaitedCodes, legal, short, asked, stored};
 use crate::refusal::OUT_OF_RANGE;
 use crate::refusal::TOO_SHORT;
 use crate::registers::Registers;
 
-// What a lent state and memory are found to be: legal, with the registers, or refused 1 or 2.
+// What a lent state and memory are found to be: taken up, with the registers, or refused 1 or 2.
 pub enum Asked {
-    Legal(Registers),
-    Illegal(u8),
+    Found(Registers),
+    Refused(u8),
 }
 
 // The largest value of each register, in the image's order.
@@ -37,7 +36,7 @@ const LARGEST: [u8; 23] = [
     1,
     1,
     3,
-    0xD4,
+    255,
     1,
     255,
     1,
@@ -48,12 +47,12 @@ pub fn ask(state: &[u8], memory: &[u8]) -> Asked
     ensures { λ r. ⌜ r ≡ asked (now (state .entry)) (now (memory .entry)) ⌝ }
 {
     if short(state, memory) {
-        return Asked::Illegal(TOO_SHORT);
+        return Asked::Refused(TOO_SHORT);
     }
     if legal(state) {
-        return Asked::Legal(load(state));
+        return Asked::Found(load(state));
     }
-    Asked::Illegal(OUT_OF_RANGE)
+    Asked::Refused(OUT_OF_RANGE)
 }
 
 // Whether a lent state or memory is too short.
@@ -87,7 +86,7 @@ pub fn legal(image: &[u8]) -> bool
 // Whether each of the 23 bytes is at most its largest value.
 fn within(image: &[u8]) -> bool
     requires { ⌜ 23 ≤ length (now image) ⌝ }
-    ensures { λ r. ⌜ r ≡ within (map (λ range. range .largest) ranges) (now (image .entry)) ⌝ }
+    ensures { λ r. ⌜ r ≡ within largestValues (now (image .entry)) ⌝ }
 {
     let mut i = 0;
     while i < 23 {
@@ -133,7 +132,7 @@ fn load(image: &[u8]) -> Registers
         quarter: image[9],
         held: image[10],
         phases: image[11],
-        columns: image[12],
+        mirrored: image[12],
         rows: image[13],
         entire: image[14],
         reverse: image[15],
@@ -180,7 +179,7 @@ impl Registers {
             self.quarter,
             self.held,
             self.phases,
-            self.columns,
+            self.mirrored,
             self.rows,
             self.entire,
             self.reverse,

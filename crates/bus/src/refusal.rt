@@ -5,11 +5,11 @@ pub const TAKEN: u8 = 0;
 pub const TOO_SHORT: u8 = 1;
 // The state image is out of its ranges.
 pub const OUT_OF_RANGE: u8 = 2;
-// A command byte outside the table, B9 to BF apart.
+// A command byte outside the table, B9 to BF apart, with no code awaited.
 pub const OUTSIDE_TABLE: u8 = 3;
-// B9 to BF.
+// B9 to BF with no code awaited.
 pub const NO_PAGE: u8 = 4;
-// An n of D3 or D4 that is not allowed.
+// An n of D3 or D4 that is not allowed; the code stays awaited.
 pub const NOT_ALLOWED: u8 = 5;
 // A data write or read while a code is awaited.
 pub const CODE_AWAITED: u8 = 6;
@@ -19,5 +19,5 @@ pub const COLUMN_ABOVE: u8 = 7;
 pub const HEADER_CUT: u8 = 8;
 // A kind that is not 1 to 4, or kind 4 with a payload.
 pub const KIND_UNKNOWN: u8 = 9;
-// A compared read differs.
+// A compared read differs; that read has not happened.
 pub const READ_DIFFERS: u8 = 10;

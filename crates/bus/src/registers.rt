@@ -1,7 +1,7 @@
 // The registers of document 01, in its order.
 ghost use mathlib.Core.Path.{_≡_};
-ghost use Rattle.bus.specs.Registers.{powerOn, powerSave, _with_≔_};
-ghost use Rattle.bus.specs.Places.{page, column, start, offset, multiplex, contrast, ratio, power, bias, quarter, held, phases, columns, rows, entire, reverse, on, indicator, mode, awaited, modify, saved, fresh};
+ghost use Rattle.bus.specs.Registers.{powerOn, powerState, _with_≔_};
+ghost use Rattle.bus.specs.Places.{page, column, start, offset, multiplex, contrast, ratio, power, bias, quarter, held, phases, mirrored, rows, entire, reverse, on, indicator, mode, awaited, modify, saved, fresh};
 
 pub struct Registers {
     pub page: u8,
@@ -22,8 +22,8 @@ pub struct Registers {
     pub held: u8,
     // Frame phases.
     pub phases: u8,
-    // Column direction: 0 normal.
-    pub columns: u8,
+    // Column direction: 0 normal, 1 mirrored.
+    pub mirrored: u8,
     // Row direction: 0 normal, 1 reversed.
     pub rows: u8,
     // Entire on.
@@ -44,8 +44,8 @@ pub struct Registers {
     pub fresh: u8,
 }
 
-// Power save, by name.
-pub enum PowerSave {
+// Awake, or in power save by its name.
+pub enum PowerState {
     Awake,
     Sleep,
     Standby,
@@ -69,7 +69,7 @@ impl Registers {
             quarter: 0,
             held: 0,
             phases: 0,
-            columns: 0,
+            mirrored: 0,
             rows: 0,
             entire: 0,
             reverse: 0,
@@ -84,18 +84,18 @@ impl Registers {
     }
 
     // Whether the chip is in power save, and in which.
-    pub fn power_save(self) -> PowerSave
-        ensures { λ r. ⌜ r ≡ powerSave self ⌝ }
+    pub fn power_state(self) -> PowerState
+        ensures { λ r. ⌜ r ≡ powerState self ⌝ }
     {
         if self.on == 0 {
             if self.entire == 1 {
                 if self.indicator == 1 {
-                    return PowerSave::Standby;
+                    return PowerState::Standby;
                 }
-                return PowerSave::Sleep;
+                return PowerState::Sleep;
             }
         }
-        PowerSave::Awake
+        PowerState::Awake
     }
 
     pub fn with_page(mut self, value: u8) -> Registers
@@ -182,10 +182,10 @@ impl Registers {
         self
     }
 
-    pub fn with_columns(mut self, value: u8) -> Registers
-        ensures { λ r. ⌜ r ≡ (self with columns ≔ value) ⌝ }
+    pub fn with_mirrored(mut self, value: u8) -> Registers
+        ensures { λ r. ⌜ r ≡ (self with mirrored ≔ value) ⌝ }
     {
-        self.columns = value;
+        self.mirrored = value;
         self
     }
 
@@ -235,20 +235,6 @@ impl Registers {
         ensures { λ r. ⌜ r ≡ (self with awaited ≔ value) ⌝ }
     {
         self.awaited = value;
-        self
-    }
-
-    pub fn with_modify(mut self, value: u8) -> Registers
-        ensures { λ r. ⌜ r ≡ (self with modify ≔ value) ⌝ }
-    {
-        self.modify = value;
-        self
-    }
-
-    pub fn with_saved(mut self, value: u8) -> Registers
-        ensures { λ r. ⌜ r ≡ (self with saved ≔ value) ⌝ }
-    {
-        self.saved = value;
         self
     }
 

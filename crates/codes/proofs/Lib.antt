@@ -1,3 +1,4 @@
-pub mod Rows
 pub mod Tests
-pub mod Carried
+pub mod Rows
+pub mod InRange
+pub mod Others

@@ -13,7 +13,7 @@ use Rattle.codes.proofs.Tests.{refuted, both}
 use Rattle.codes.specs.Table.{Row, one, two, table, commandBy, commandOf, operandBy, operandOf}
 use Rattle.codes.specs.declared.Command.{Command}
 use Rattle.codes.specs.declared.Command.the-variants.{Outside}
-use Rattle.codes.specs.declared.Operand.the-variants.{NotAllowed}
+use Rattle.codes.specs.declared.Operand.the-variants.{NotAwaited}
 
 -- no row of the list has the byte
 abbrev pub Apart : List Row → ℕ → Type 0
@@ -96,13 +96,13 @@ Unawaited [] code = Unit {0}
 Unawaited (one first last means ∷ rows) code = Unawaited rows code
 Unawaited (two awaited gives ∷ rows) code = (code ≡ awaited → ⊥) × Unawaited rows code
 
-refused : (rows : List Row) (code n : ℕ) → Unawaited rows code → operandBy rows code n ≡ NotAllowed
+refused : (rows : List Row) (code n : ℕ) → Unawaited rows code → operandBy rows code n ≡ NotAwaited
 unfolding operandBy
 refused [] code n h = refl
 refused (one first last means ∷ rows) code n h = refused rows code n h
 refused (two awaited gives ∷ rows) code n h = rw (refuted (eqb code awaited) (λ e. h .0 (eqb-true _ _ e))) (refused rows code n (h .1))
 
 -- the code awaits nothing
-pub unawaited : (code n : ℕ) → Unawaited table code → NotAllowed ≡ operandOf code n
+pub unawaited : (code n : ℕ) → Unawaited table code → NotAwaited ≡ operandOf code n
 unfolding operandOf
 unawaited code n h = sym (refused table code n h)

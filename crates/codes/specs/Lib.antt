@@ -1,2 +1,3 @@
+pub mod OneOf
 pub mod Table
 pub mod Values

@@ -1,8 +1,9 @@
--- Document 01, "Command bytes (hex)": its table, row by row, and how a byte is looked up in it.
+-- Document 01, "Command bytes (hex)": its table, row by row, with B9-BF after the pages that they do not name, and how a byte is looked up in it.
 use Prim.Native.Nat.{ℕ, _/_, _%_}
-use mathlib.Core.Bool.{Bool, false, cond, _&&_, _||_}
+use mathlib.Core.Bool.{cond, _&&_}
 use mathlib.Core.List.{List, [], _∷_}
 use lib.Dec.{leb, eqb}
+use Rattle.codes.specs.OneOf.{oneOf}
 use Rattle.codes.specs.declared.Command.{Command}
 use Rattle.codes.specs.declared.Command.the-variants.{
   ColumnLow,
@@ -28,12 +29,7 @@ use Rattle.codes.specs.declared.Command.the-variants.{
   Outside,
 }
 use Rattle.codes.specs.declared.Operand.{Operand}
-use Rattle.codes.specs.declared.Operand.the-variants.{Contrast, Multiplex, HeldByte, IndicatorMode, Offset, FramePhases, NotAllowed}
-
--- Whether a number is one of a list's.
-abbrev pub oneOf : List ℕ → ℕ → Bool
-oneOf [] n = false
-oneOf (m ∷ ms) n = eqb n m || oneOf ms n
+use Rattle.codes.specs.declared.Operand.the-variants.{Contrast, Multiplex, HeldByte, IndicatorMode, Offset, FramePhases, NotAllowed, NotAwaited}
 
 -- A row of the table: a command of one byte, any of those from the first to the last, or a command of two, a code and the n after it.
 pub data Row : Type 0 where
@@ -85,9 +81,9 @@ commandBy [] b = Outside
 commandBy (one first last means ∷ rows) b = cond (leb first b && leb b last) (means b) (commandBy rows b)
 commandBy (two code gives ∷ rows) b = cond (eqb b code) (Await b) (commandBy rows b)
 
--- What n gives by the first row of two bytes that has the code; a code in no such row allows no n.
+-- What n gives by the first row of two bytes that has the code; a code in no such row awaits no n.
 unfoldable pub operandBy : List Row → ℕ → ℕ → Operand
-operandBy [] code n = NotAllowed
+operandBy [] code n = NotAwaited
 operandBy (one first last means ∷ rows) code n = operandBy rows code n
 operandBy (two awaited gives ∷ rows) code n = cond (eqb code awaited) (gives n) (operandBy rows code n)
 

@@ -38,8 +38,10 @@ pub enum Operand {
     IndicatorMode(u8),
     Offset(u8),
     FramePhases(u8),
-    // An n that its code does not allow, and any n of a code that awaits none.
+    // An n that D3 or D4 does not allow.
     NotAllowed,
+    // The code is none that awaits n.
+    NotAwaited,
 }
 
 // The command that a byte is where no code is awaited.
@@ -73,7 +75,9 @@ pub fn command_of(byte: u8) -> Command
         0xE2 => Command::SoftwareReset,
         0xE3 => Command::Nothing,
         0xEE => Command::LeaveReadModifyWrite,
-        _ => Command::Outside,
+        0x30..=0x3F | 0x80 | 0x82..=0x9F => Command::Outside,
+        0xD0..=0xD2 | 0xD5..=0xDF => Command::Outside,
+        0xE1 | 0xE4..=0xED | 0xEF | 0xF0..=0xFF => Command::Outside,
     }
 }
 
@@ -88,7 +92,7 @@ pub fn operand_of(code: u8, n: u8) -> Operand
         0xAD => Operand::IndicatorMode(n % 4),
         0xD3 => offset_of(n),
         0xD4 => frame_phases_of(n),
-        _ => Operand::NotAllowed,
+        _ => Operand::NotAwaited,
     }
 }
 

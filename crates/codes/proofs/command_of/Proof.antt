@@ -1,7 +1,7 @@
 -- `codes::command_of` meets its contract: a single code by computing, a range by its row, the rest by being in no row.
 -- Assumes nothing.
 use native.Mathlib.Omega.{arith}
-use mathlib.Core.Path.{refl, _≡_}
+use mathlib.Core.Path.{refl}
 use Rattle.codes.specs.Table.{table, commandOf, commandBy}
 use Rattle.codes.proofs.Rows.{in-row, in-gap, other, past-code}
 use Rattle.codes.proofs.command_of.Statement.{statement}
@@ -113,15 +113,27 @@ returns-26 c = in-row 19 _ refl refl (omega arith) (omega arith)
 
 returns-27 : tie.Need-returns-27
 unfolding table
-returns-27 c = in-gap 4 0 0x30 0x3F _ refl refl (omega arith) (omega arith) tt
+returns-27 c = in-gap 20 2 0xD0 0xDF _ refl refl (omega arith) (omega arith) search
 
 returns-28 : tie.Need-returns-28
-unfolding table
-returns-28 c = in-gap 5 1 0x80 0x9F _ refl refl (omega arith) (omega arith) search
+unfolding table commandOf commandBy
+returns-28 c = rw (c .match .keys13)
 
 returns-29 : tie.Need-returns-29
 unfolding table
-returns-29 c = in-gap 20 6 0xD0 0xFF _ refl refl (omega arith) (omega arith) (search other)
+returns-29 c = in-gap 22 4 0xE0 0xFF _ refl refl (omega arith) (omega arith) (search other)
+
+returns-30 : tie.Need-returns-30
+unfolding table commandOf commandBy
+returns-30 c = rw (c .match .keys12)
+
+returns-31 : tie.Need-returns-31
+unfolding table
+returns-31 c = in-gap 4 0 0x30 0x3F _ refl refl (omega arith) (omega arith) tt
+
+returns-32 : tie.Need-returns-32
+unfolding table
+returns-32 c = in-gap 5 1 0x80 0x9F _ refl refl (omega arith) (omega arith) search
 
 pub command-of-spec : {M : Type 1} → statement M
-command-of-spec = tie.close (tie.spec returns returns-2 returns-3 returns-4 returns-5 returns-6 returns-7 returns-8 returns-9 returns-10 returns-11 returns-12 returns-13 returns-14 returns-15 returns-16 returns-17 returns-18 returns-19 returns-20 returns-21 returns-22 returns-23 returns-24 returns-25 returns-26 returns-27 returns-28 returns-29)
+command-of-spec = tie.close (tie.spec returns returns-2 returns-3 returns-4 returns-5 returns-6 returns-7 returns-8 returns-9 returns-10 returns-11 returns-12 returns-13 returns-14 returns-15 returns-16 returns-17 returns-18 returns-19 returns-20 returns-21 returns-22 returns-23 returns-24 returns-25 returns-26 returns-27 returns-28 returns-29 returns-30 returns-31 returns-32)

@@ -5,6 +5,7 @@ use Rattle.bus.proofs.calls.command.Statement.{statement}
 use Rattle.bus.proofs.calls.command.Tie as tie
 use mathlib.Core.Path.{refl}
 use Rattle.bus.specs.Machine.{commandByte, step}
+use Rattle.bus.specs.Calls.{askedBefore}
 use Rattle.bus.proofs.Concluded.{concludes, refuses}
 
 ask-requires : tie.Need-ask-requires
@@ -29,7 +30,7 @@ same-length : tie.Need-same-length
 same-length c = search needs
 
 returns : tie.Need-returns
-unfolding step
+unfolding step askedBefore
 returns c =
     let d = c .before .before .before .before in
     concludes (commandByte _) _ _ (d .before .before .before .before .ask .ensures) (d .before .before .registers .given .1) (d .command .ensures) (c .before .before .conclude .ensures .0) (c .before .before .conclude .ensures .1) refl
@@ -38,6 +39,7 @@ same-length-2 : tie.Need-same-length-2
 same-length-2 c = search needs
 
 returns-2 : tie.Need-returns-2
+unfolding askedBefore
 returns-2 c = refuses (commandByte _) _ _ (c .before .before .before .before .ask .ensures) (c .before .before .number .given .1) (c .refuse .ensures)
 
 pub command-spec : {M : Type 1} → statement M

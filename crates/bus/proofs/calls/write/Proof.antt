@@ -4,6 +4,7 @@ use borrow.Author.Needs.{needs}
 use Rattle.bus.proofs.calls.write.Statement.{statement}
 use Rattle.bus.proofs.calls.write.Tie as tie
 use Rattle.bus.specs.Machine.{dataWritten, step}
+use Rattle.bus.specs.Calls.{askedBefore}
 use Rattle.bus.proofs.Concluded.{concludes, refuses}
 
 ask-requires : tie.Need-ask-requires
@@ -31,7 +32,7 @@ same-length-2 : tie.Need-same-length-2
 same-length-2 c = search needs
 
 returns : tie.Need-returns
-unfolding step
+unfolding step askedBefore
 returns c =
     let d = c .before .before .before .before .before .before in
     concludes (dataWritten _) _ _ (d .before .before .before .before .before .ask .ensures) (d .before .before .before .registers .given .1) (d .write .ensures .0) (c .before .before .conclude .ensures .0) (c .before .before .conclude .ensures .1) (d .write .ensures .1)
@@ -43,6 +44,7 @@ same-length-4 : tie.Need-same-length-4
 same-length-4 c = search needs
 
 returns-2 : tie.Need-returns-2
+unfolding askedBefore
 returns-2 c = refuses (dataWritten _) _ _ (c .before .before .before .before .ask .ensures) (c .before .before .number .given .1) (c .refuse .ensures)
 
 pub write-spec : {M : Type 1} → statement M

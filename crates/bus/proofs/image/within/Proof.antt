@@ -1,10 +1,9 @@
 -- `bus::image::within` meets its contract: what is left to compare decides.
 -- Assumes nothing.
--- the largest values, in the image's order
 use Rattle.bus.proofs.image.within.Statement.{statement}
 use Rattle.bus.proofs.image.within.Tie as tie
 use mathlib.Core.Path.{_≡_, _∙_, sym}
-use mathlib.Core.List.{List, map}
+use mathlib.Core.List.{List}
 use Prim.Native.Nat.{ℕ, _≤_, _<_, _+_, _-_}
 use native.Mathlib.Omega.{arith}
 use native.Mathlib.Numerals.{add-one}
@@ -16,11 +15,7 @@ use denote.Ref.{now}
 use lib.ListN.{length, getD, drop}
 use lib.Seq.{drop-cons}
 use Rattle.bus.specs.Image.{within}
-use Rattle.bus.specs.Registers.{ranges}
-
-abbrev most : List ℕ
-unfolding ranges
-most = map (λ range. range .largest) ranges
+use Rattle.bus.specs.Registers.{largestValues}
 
 -- one byte more is compared
 turn : (largest image : List ℕ) (i : ℕ) → i < length largest → i < length image → within (drop i largest) (drop i image) ≡ (leb (getD image i 0) (getD largest i 0) && within (drop (i + 1) largest) (drop (i + 1) image))
@@ -28,7 +23,7 @@ unfolding within
 turn largest image i p q = rw (drop-cons largest i 0 p, drop-cons image i 0 q, add-one)
 
 abbrev Inv-loop : tie.InvT-loop
-Inv-loop image i₀ i = (i ≤ 23) × (within most image ≡ within (drop i most) (drop i image))
+Inv-loop image i₀ i = (i ≤ 23) × (within largestValues image ≡ within (drop i largestValues) (drop i image))
 
 abbrev μ-loop : tie.MeasureT-loop
 μ-loop image i₀ i = 23 - i
@@ -43,11 +38,11 @@ shared-slice-read-if1 : tie.Need-shared-slice-read-if1 Inv-loop μ-loop
 shared-slice-read-if1 c = omega arith
 
 returns : tie.Need-returns Inv-loop μ-loop
-unfolding ranges
+unfolding largestValues
 returns c =
     let image = now (c .before .before .before .before .args .image) in
     let i = c .before .before .before .loop .i in
-    sym (c .before .before .before .loop .inv .1 ∙ turn most image i (omega arith) (omega arith) ∙ rw (lt-leb (getD image i 0) (getD most i 0) (c .if1 .taken)))
+    sym (c .before .before .before .loop .inv .1 ∙ turn largestValues image i (omega arith) (omega arith) ∙ rw (lt-leb (getD image i 0) (getD largestValues i 0) (c .if1 .taken)))
 
 add-i : tie.Need-add-i Inv-loop μ-loop
 add-i c = omega arith
@@ -56,14 +51,14 @@ loop-less : tie.Need-loop-less Inv-loop μ-loop
 loop-less c = omega arith
 
 loop-again : tie.Need-loop-again Inv-loop μ-loop
-unfolding ranges
+unfolding largestValues
 loop-again c =
     let image = now (c .before .before .before .before .args .image) in
     let i = c .before .before .before .loop .i in
-    (omega arith, c .before .before .before .loop .inv .1 ∙ turn most image i (omega arith) (omega arith) ∙ rw (le-leb (getD image i 0) (getD most i 0) (c .if1 .left)))
+    (omega arith, c .before .before .before .loop .inv .1 ∙ turn largestValues image i (omega arith) (omega arith) ∙ rw (le-leb (getD image i 0) (getD largestValues i 0) (c .if1 .left)))
 
 returns-2 : tie.Need-returns-2 Inv-loop μ-loop
-unfolding ranges within
+unfolding largestValues within
 returns-2 c =
     let i = c .before .loop .i in
     let e : i ≡ 23 = omega arith in

@@ -5,14 +5,14 @@ use Rattle.bus.proofs.registers.Registers.command.Statement.{statement}
 use Rattle.bus.proofs.registers.Registers.command.Tie as tie
 use borrow.Author.Tests.{eq-eqb, ne-eqb}
 use mathlib.Core.Path.{_∙_, ap}
-use Rattle.codes.proofs.Carried.{carried}
+use Rattle.codes.proofs.InRange.{command-in-range}
 use Rattle.bus.specs.Events.{command, obeyed, supplied}
 
 command-of-requires : tie.Need-command-of-requires
 command-of-requires c κs = search needs
 
 obey-requires : tie.Need-obey-requires
-obey-requires c κs = rw (c .command-of .ensures) (carried _)
+obey-requires c κs = rw (c .command-of .ensures) (command-in-range _)
 
 returns : tie.Need-returns
 unfolding command

@@ -67,8 +67,8 @@ done-requires-5 c κs = search needs
 enum-known-named-6 : tie.Need-enum-known-named-6
 enum-known-named-6 c = search needs
 
-with-columns-requires : tie.Need-with-columns-requires
-with-columns-requires c κs = search needs
+with-mirrored-requires : tie.Need-with-mirrored-requires
+with-mirrored-requires c κs = search needs
 
 done-requires-6 : tie.Need-done-requires-6
 done-requires-6 c κs = search needs
@@ -218,7 +218,7 @@ returns-5 c = rw (c .before .before .before .named5 .given .1) (c .done5 .ensure
 
 returns-6 : tie.Need-returns-6
 unfolding obeyed
-returns-6 c = rw (c .before .before .before .named6 .given .1) (c .done6 .ensures ∙ ap done (c .before .with-columns .ensures))
+returns-6 c = rw (c .before .before .before .named6 .given .1) (c .done6 .ensures ∙ ap done (c .before .with-mirrored .ensures))
 
 returns-7 : tie.Need-returns-7
 unfolding obeyed
@@ -304,7 +304,7 @@ obey-spec =
     with-start-requires
     done-requires-5
     enum-known-named-6
-    with-columns-requires
+    with-mirrored-requires
     done-requires-6
     enum-known-named-7
     with-bias-requires

@@ -66,6 +66,9 @@ given-requires-6 c κs = search needs
 enum-told : tie.Need-enum-told
 enum-told c = search needs
 
+enum-told-2 : tie.Need-enum-told-2
+enum-told-2 c = search needs
+
 returns : tie.Need-returns
 unfolding supplied
 returns c = rw (c .before .before .before .operand .given .1) (c .given .ensures ∙ ap given (c .before .with-contrast .ensures))
@@ -94,6 +97,10 @@ returns-7 : tie.Need-returns-7
 unfolding supplied
 returns-7 c = rw (c .enum-told .given .1)
 
+returns-8 : tie.Need-returns-8
+unfolding supplied
+returns-8 c = rw (c .enum-told2 .given .1)
+
 pub supply-spec : {M : Type 1} → statement M
 supply-spec =
     tie.close
@@ -118,10 +125,12 @@ supply-spec =
     with-phases-requires
     given-requires-6
     enum-told
+    enum-told-2
     returns
     returns-2
     returns-3
     returns-4
     returns-5
     returns-6
-    returns-7)
+    returns-7
+    returns-8)

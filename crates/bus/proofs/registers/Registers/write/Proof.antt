@@ -1,12 +1,13 @@
 -- `bus::registers::Registers::write` meets its contract: each return by the test that led there and what its calls give.
 -- Assumes nothing.
 use borrow.Author.Needs.{needs}
-use borrow.Author.Tests.{eq-eqb, ne-eqb}
-use mathlib.Core.Path.{_∙_, sym}
-use Rattle.bus.specs.Events.{access, write, written}
-use Rattle.bus.proofs.Access.{column-open}
 use Rattle.bus.proofs.registers.Registers.write.Statement.{statement}
 use Rattle.bus.proofs.registers.Registers.write.Tie as tie
+use borrow.Author.Tests.{eq-eqb, ne-eqb}
+use mathlib.Core.Path.{_∙_, sym}
+use native.Mathlib.Omega.{arith}
+use Rattle.bus.specs.Events.{write, written}
+use Rattle.bus.proofs.Access.{opened, address-inside}
 
 access-requires : tie.Need-access-requires
 access-requires c κs = search needs
@@ -17,11 +18,13 @@ address-requires c κs = search needs
 kept-requires : tie.Need-kept-requires
 kept-requires c κs = search needs
 
-store-requires : tie.Need-store-requires
-store-requires c κs = search needs
+slice-write-memory : tie.Need-slice-write-memory
+slice-write-memory c =
+    let e = sym (c .before .before .before .access .ensures) ∙ c .before .before .if1 .taken in
+    omega (arith, c .before .address .ensures, address-inside _ _ e, opened _ _ e .enough)
 
 onward-requires : tie.Need-onward-requires
-onward-requires c κs = column-open _ (sym (c .before .before .before .before .before .before .before .access .ensures) ∙ c .before .before .before .before .before .before .if1 .taken)
+onward-requires c κs = opened _ _ (sym (c .before .before .before .access .ensures) ∙ c .before .before .if1 .taken) .column
 
 with-column-requires : tie.Need-with-column-requires
 with-column-requires c κs = search needs
@@ -35,8 +38,8 @@ same-length c = search needs
 returns : tie.Need-returns
 unfolding write written
 returns c = (
-  rw (c .with-fresh .ensures, c .before .with-column .ensures, c .before .before .onward .ensures, ← (c .before .before .before .before .before .before .before .before .before .before .access .ensures), eq-eqb _ _ (c .before .before .before .before .before .before .before .before .before .if1 .taken)),
-  c .before .before .before .before .before .store .ensures ∙ rw (c .before .before .before .before .before .before .before .kept .ensures, c .before .before .before .before .before .before .before .before .address .ensures, ← (c .before .before .before .before .before .before .before .before .before .before .access .ensures), eq-eqb _ _ (c .before .before .before .before .before .before .before .before .before .if1 .taken)),
+  rw (c .with-fresh .ensures, c .before .with-column .ensures, c .before .before .onward .ensures, ← (c .before .before .before .before .before .before .access .ensures), eq-eqb _ _ (c .before .before .before .before .before .if1 .taken)),
+  rw (c .before .before .before .kept .ensures, c .before .before .before .before .address .ensures, ← (c .before .before .before .before .before .before .access .ensures), eq-eqb _ _ (c .before .before .before .before .before .if1 .taken)),
 )
 
 returns-2 : tie.Need-returns-2
@@ -50,7 +53,7 @@ write-spec =
     access-requires
     address-requires
     kept-requires
-    store-requires
+    slice-write-memory
     onward-requires
     with-column-requires
     with-fresh-requires
