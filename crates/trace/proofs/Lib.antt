@@ -2,7 +2,6 @@ pub mod Samples
 pub mod Turn
 pub mod Replayed
 pub mod Fronts
-pub mod Refused
 pub mod Standing
 pub mod ByKind
 pub mod Rest

@@ -6,9 +6,9 @@ use Prim.Native.Nat.{ℕ}
 use lib.ListN.{take, replicate, set}
 use Rattle.codes.specs.Table.{table, commandBy, commandOf, operandBy, operandOf}
 use Rattle.bus.specs.Sizes.{memorySize}
-use Rattle.bus.specs.Registers.{ranges, powerOn, imageOf, _with_≔_}
+use Rattle.bus.specs.Registers.{largestValues, powerOn, imageOf, _with_≔_}
 use Rattle.bus.specs.Places.{column, on, fresh}
-use Rattle.bus.specs.Memory.{address, kept, onward}
+use Rattle.bus.specs.Memory.{kept, onward}
 use Rattle.bus.specs.Events.{command, obeyed, supplied, access, write, written, read, resetPin}
 use Rattle.bus.specs.Machine.{step}
 use Rattle.bus.specs.Image.{within, awaitedCodes, legal, short, asked, stored}
@@ -46,7 +46,7 @@ Outcomes =
     []
 
 outcomes : Outcomes
-unfolding powerOn ranges run runOn ranOf asked short legal within awaitedCodes stored split splitFrom playFrom playRecord playEvents eventsOf replay happened compared step command obeyed write written read access address kept onward commandOf commandBy table
+unfolding powerOn largestValues run runOn ranOf asked short legal within awaitedCodes stored split splitFrom playFrom playRecord playEvents eventsOf replay happened compared step command obeyed write written read access kept onward commandOf commandBy table
 outcomes = refl
 
 -- A trace and what it must answer.
@@ -100,5 +100,5 @@ abbrev Answers : Type 0
 Answers = map (λ s. fromStart (s .trace) .stop) samples ≡ map (λ s. stopOf (s .number) (s .offset) (s .count)) samples
 
 answers : Answers
-unfolding powerOn ranges run runOn ranOf asked short legal within awaitedCodes split splitFrom playFrom playRecord playEvents eventsOf replay happened compared step command obeyed supplied write written read resetPin access address kept onward commandOf commandBy operandOf operandBy table Rattle.codes.specs.Table.offsetOf
+unfolding powerOn largestValues run runOn ranOf asked short legal within awaitedCodes split splitFrom playFrom playRecord playEvents eventsOf replay happened compared step command obeyed supplied write written read resetPin access kept onward commandOf commandBy operandOf operandBy table Rattle.codes.specs.Table.offsetOf
 answers = refl

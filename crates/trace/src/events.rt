@@ -105,7 +105,7 @@ pub fn reads(
 pub fn reset_pin(registers: Registers, from: usize) -> Progress
     ensures { λ r. ⌜ ((memory : List ℕ) → endedOf r memory ≡ playEvents theChip (event resetPulse ∷ []) from (chipOf registers memory)) ⌝ }
 {
-    let answer = Registers::reset_pin();
+    let answer = registers.reset_pin();
     let Answer::Taken(after) = answer else {
         return stopped(answer, from, registers);
     };

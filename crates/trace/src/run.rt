@@ -33,13 +33,13 @@ pub fn run(state: &mut [u8], memory: &mut [u8], trace: &[u8]) -> Stop
     ensures { λ r. ⌜ ran r (now (state .exit)) (now (memory .exit)) ≡ run (now (state .entry)) (now (memory .entry)) (now (trace .entry)) ⌝ }
 {
     match ask(state, memory) {
-        Asked::Legal(registers) => {
+        Asked::Found(registers) => {
             let finish = play(registers, memory, trace);
             let left = finish.registers;
             left.store(state);
             finish.stop
         }
-        Asked::Illegal(number) => Stop {
+        Asked::Refused(number) => Stop {
             number,
             offset: 0,
             count: 0,

@@ -11,7 +11,7 @@ use Rattle.bus.specs.Events.{numberOf}
 use Rattle.bus.specs.Machine.{dataWritten, step}
 use Rattle.trace.specs.Chip.{write, theChip, chipOf}
 use Rattle.trace.specs.Code.{endedOf}
-use Rattle.trace.proofs.Refused.{refused-leaves}
+use Rattle.bus.proofs.Untouched.{refused-leaves}
 use Rattle.trace.proofs.Replayed.{event-taken, event-refused}
 use Rattle.trace.proofs.Turn.{playBytes, none-left, turn-refused, turn-given}
 
