@@ -6,3 +6,4 @@ pub mod Standing
 pub mod ByKind
 pub mod Rest
 pub mod Ran
+pub mod OneByOne

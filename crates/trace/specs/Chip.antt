@@ -9,7 +9,6 @@ use Rattle.bus.specs.Machine.{Chip, Event, commandByte, dataWritten, dataRead, 
 use Rattle.bus.specs.declared.registers.Registers.{Registers}
 use Rattle.bus.specs.declared.answer.Answer.{Answer}
 use Rattle.bus.specs.declared.answer.Answer.the-variants.{Taken, Refused}
-use Rattle.trace.specs.Records.{Record}
 use Rattle.trace.specs.Play.{Result, refuses, gives, Machine}
 
 -- What a record's payload stands for: a bus event, or a read event with the byte that the firmware read.
@@ -24,12 +23,12 @@ abbrev pub write : ℕ → Recorded
 write byte = event (dataWritten byte)
 
 -- Kind 1: command bytes. Kind 2: data written. Kind 3: bytes read. Kind 4: reset pin, length 0. Any other is refused 9.
-unfoldable pub eventsOf : Record → Result (List Recorded)
-eventsOf r =
-    cond (eqb (r .kind) 1) (gives (map command (r .payload)))
-    (cond (eqb (r .kind) 2) (gives (map write (r .payload)))
-    (cond (eqb (r .kind) 3) (gives (map readAs (r .payload)))
-    (cond (eqb (r .kind) 4 && eqb (length (r .payload)) 0) (gives (event resetPulse ∷ []))
+unfoldable pub eventsOf : ℕ → List ℕ → Result (List Recorded)
+eventsOf kind payload =
+    cond (eqb kind 1) (gives (map command payload))
+    (cond (eqb kind 2) (gives (map write payload))
+    (cond (eqb kind 3) (gives (map readAs payload))
+    (cond (eqb kind 4 && eqb (length payload) 0) (gives (event resetPulse ∷ []))
     (refuses kindUnknown))))
 
 abbrev pub chipOf : Registers → List ℕ → Chip

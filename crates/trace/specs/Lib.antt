@@ -4,3 +4,4 @@ pub mod Play
 pub mod Chip
 pub mod Code
 pub mod Run
+pub mod OneByOne

@@ -13,9 +13,9 @@ abbrev pub onResult : {A B : Type 0} → Result A → (ℕ → B) → (A → B) 
 onResult (refuses number) stop go = stop number
 onResult (gives a) stop go = go a
 
--- A machine with states S and events E: the events that a record stands for, by its header, and the state after an event.
+-- A machine with states S and events E: the events that a record of a kind and payload stands for, and the state after an event.
 pub record Machine (S E : Type 0) : Type 0 where
-  pub events : Record → Result (List E)
+  pub events : ℕ → List ℕ → Result (List E)
   pub step : E → S → Result S
 
 -- How a record's events end: all done, or stopped at one with its refusal number and offset; and the state that is left.
@@ -46,7 +46,7 @@ playEvents machine (event ∷ rest) offset s =
 -- A record: its header is checked before its payload acts, and refused at the record's first byte.
 unfoldable pub playRecord : {S E : Type 0} → Machine S E → Record → S → Ended S
 playRecord machine r s =
-    onResult (machine .events r) (λ number. stopped number (r .place) s) (λ events. playEvents machine events (r .place + headerSize) s)
+    onResult (machine .events (r .kind) (r .payload)) (λ number. stopped number (r .place) s) (λ events. playEvents machine events (r .place + headerSize) s)
 
 -- The records in order, after `count` whole ones.
 unfoldable pub playFrom : {S E : Type 0} → Machine S E → Trace → ℕ → S → Played S
