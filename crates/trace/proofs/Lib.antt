@@ -6,4 +6,7 @@ pub mod Standing
 pub mod ByKind
 pub mod Rest
 pub mod Ran
+pub mod Cases
 pub mod OneByOne
+pub mod Further
+pub mod Joined

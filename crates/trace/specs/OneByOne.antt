@@ -32,8 +32,8 @@ scriptFrom machine (cut offset) count = script [] headerCut offset count
 scriptFrom machine (r then rest) count =
     onResult (machine .events (r .kind) (r .payload)) (λ number. script [] number (r .place) count)
     (λ events.
-        let later = scriptFrom machine rest (count + 1) in
-        script (placed events (r .place + headerSize) count ++ later .events) (later .number) (later .offset) (later .count))
+    let later = scriptFrom machine rest (count + 1) in
+    script (placed events (r .place + headerSize) count ++ later .events) (later .number) (later .offset) (later .count))
 
 -- The events applied one by one, each to the state that the one before it left, up to the first refused one.
 unfoldable pub applied : {S E : Type 0} → (E → S → Result S) → List (Placed E) → ℕ → ℕ → ℕ → S → Played S
