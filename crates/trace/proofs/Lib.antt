@@ -10,3 +10,7 @@ pub mod Cases
 pub mod OneByOne
 pub mod Further
 pub mod Joined
+pub mod Sound
+pub mod Kept
+pub mod Stored
+pub mod Runs
