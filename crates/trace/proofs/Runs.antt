@@ -84,6 +84,10 @@ module _ (first : List ℕ) where
   replay-held (event e) c b h = happened-held _ _ (step-keeps e (c .registers) (c .memory) b (h .registers)) (step-length e (c .registers) (c .memory) ∙ h .size) (memory-past e (c .registers) (c .memory) ∙ h .past)
   replay-held (readAs byte) c b h = compared-held byte _ _ (step-keeps dataRead (c .registers) (c .memory) tt (h .registers)) (step-length dataRead (c .registers) (c .memory) ∙ h .size) (memory-past dataRead (c .registers) (c .memory) ∙ h .past)
 
+-- a run's outcome with the offset and the count of another before it added
+abbrev pub runFurther : Stop → Ran → Ran
+runFurther before r = ran (stopOf (r .stop .number) (before .offset + r .stop .offset) (before .count + r .stop .count)) (r .state) (r .memory)
+
 -- two outcomes that satisfy the run's statement are equal
 pub same-run : {stated : Ran} (s t : Stop) (state state′ memory memory′ : List ℕ) → ran s state memory ≡ stated → ran t state′ memory′ ≡ stated → (s ≡ t) × (state ≡ state′) × (memory ≡ memory′)
 same-run s t state state′ memory memory′ p q =
@@ -119,3 +123,27 @@ module _ (state memory : List ℕ) (r : Registers) (found : asked state memory �
   pub run-past : (trace : List ℕ) → Bytes trace → (drop imageSize (run state memory trace .state) ≡ drop imageSize state) × (drop memorySize (run state memory trace .memory) ≡ drop memorySize memory)
   unfolding ranOf
   run-past trace b = rw (run-found trace) (stored-past state (fits .image) _, left-held trace b .past)
+
+-- Whole records followed by more: running `a ++ b` is running `a`, then `b` from what it left, with offset and count added.
+module _ (state memory : List ℕ) (a b : List ℕ) (bytes : Bytes a) where
+  joined-found : (r : Registers) → asked state memory ≡ Found r → run state memory a .stop .number ≡ taken → run state memory (a ++ b) ≡ runFurther (run state memory a .stop) (run (run state memory a .state) (run state memory a .memory) b)
+  unfolding ranOf
+  joined-found r found h =
+      let e = run-found state memory r found a in
+      let first = play theChip (split a) (chipOf r memory) in
+      let later = stored (first .state .registers) state in
+      let again : asked later (first .state .memory) ≡ Found (first .state .registers) = rw e at (run-legal state memory r found a bytes) in
+      let second : run later (first .state .memory) b ≡ ranOf (play theChip (split b) (first .state)) state =
+      run-found later (first .state .memory) (first .state .registers) again b ∙ rw (stored-again state (fits state memory r found .image) (first .state .registers) (play theChip (split b) (first .state) .state .registers)) in
+      run-found state memory r found (a ++ b) ∙ ap (λ p. ranOf p state) (joined theChip the-chip-sound a b (chipOf r memory) (ap (λ outcome. outcome .stop .number) (sym e) ∙ h)) ∙ rw (e, second)
+
+  joined-refused : (number : ℕ) → asked state memory ≡ Asked.Refused number → run state memory a .stop .number ≡ taken → ⊥
+  unfolding run runOn
+  joined-refused number refused h = asked-no-zero state memory number refused (rw refused at h)
+
+  pub run-joined : run state memory a .stop .number ≡ taken → run state memory (a ++ b) ≡ runFurther (run state memory a .stop) (run (run state memory a .state) (run state memory a .memory) b)
+  run-joined h = by (asked state memory) refl
+    where
+      by : (asking : Asked) → asked state memory ≡ asking → run state memory (a ++ b) ≡ runFurther (run state memory a .stop) (run (run state memory a .state) (run state memory a .memory) b)
+      by (Found r) e = joined-found r e h
+      by (Asked.Refused number) e = absurd (joined-refused number e h)
