@@ -14,3 +14,4 @@ pub mod Sound
 pub mod Kept
 pub mod Stored
 pub mod Runs
+pub mod ByCalls

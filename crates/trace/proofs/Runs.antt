@@ -37,7 +37,7 @@ pub record Held (first : List ℕ) (c : Chip) : Type 0 where
   pub past : drop memorySize (c .memory) ≡ drop memorySize first
 
 -- the byte that an event of a trace brings
-abbrev Brings : Recorded → Type 0
+abbrev pub Brings : Recorded → Type 0
 Brings (event e) = IsByte e
 Brings (readAs byte) = Unit {0}
 
@@ -49,7 +49,7 @@ chosen : (t : Bool) (a b : Result (List Recorded)) → Gives (All Brings) a → 
 chosen true a b p q = p
 chosen false a b p q = q
 
-brings : (kind : ℕ) (payload : List ℕ) → Bytes payload → Gives (All Brings) (eventsOf kind payload)
+pub brings : (kind : ℕ) (payload : List ℕ) → Bytes payload → Gives (All Brings) (eventsOf kind payload)
 unfolding eventsOf
 brings kind payload h =
     chosen (eqb kind 1) _ _ (all-map _ Brings command (λ b p. p) payload h)
@@ -57,7 +57,7 @@ brings kind payload h =
     (chosen (eqb kind 3) _ _ (all-map _ Brings readAs (λ b p. tt) payload h)
     (chosen (eqb kind 4 && eqb (length payload) 0) _ _ (tt, tt) tt)))
 
-step-length : (e : Event) (r : Registers) (memory : List ℕ) → length (step e r memory .memory) ≡ length memory
+pub step-length : (e : Event) (r : Registers) (memory : List ℕ) → length (step e r memory .memory) ≡ length memory
 unfolding step
 step-length (commandByte b) r memory = refl
 step-length (dataWritten b) r memory = written-length b r memory
@@ -96,7 +96,7 @@ same-run s t state state′ memory memory′ p q =
 
 -- the run of a trace on a legal state and memory, which hold registers r
 module _ (state memory : List ℕ) (r : Registers) (found : asked state memory ≡ Found r) where
-  fits : Sized state memory r
+  pub fits : Sized state memory r
   fits = sized state memory r found
 
   pub run-found : (trace : List ℕ) → run state memory trace ≡ ranOf (play theChip (split trace) (chipOf r memory)) state

@@ -5,3 +5,4 @@ pub mod Chip
 pub mod Code
 pub mod Run
 pub mod OneByOne
+pub mod ByCalls
