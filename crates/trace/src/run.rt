@@ -6,9 +6,9 @@ ghost use Rattle.trace.specs.Chip.{theChip, chipOf};
 ghost use Rattle.trace.specs.Code.{playedOf};
 ghost use Rattle.trace.specs.Run.{ran, run};
 use crate::events::Progress;
+use crate::reader::read_at;
 use crate::record::obey;
 use crate::records::Front;
-use crate::records::front_at;
 use bus::image::Asked;
 use bus::image::ask;
 use bus::refusal::HEADER_CUT;
@@ -54,7 +54,7 @@ fn play(mut registers: Registers, memory: &mut [u8], trace: &[u8]) -> Finish
     let mut at = 0;
     let mut count = 0;
     loop {
-        match front_at(trace, at) {
+        match read_at(trace, at) {
             Front::Nothing => return end(TAKEN, at, count, registers),
             Front::Cut => return end(HEADER_CUT, at, count, registers),
             Front::Whole(header) => match obey(header, registers, memory, trace, at) {

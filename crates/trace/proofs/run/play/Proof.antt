@@ -25,7 +25,7 @@ abbrev μ-loop : tie.MeasureT-loop
 
 -- the record that stands at the loop's offset
 standing : (d : tie.After-known-told Inv-loop μ-loop) → frontOf (drop (d .before .before .before .before .loop .at) (now (d .before .before .before .before .before .before .before .args .trace))) ≡ Whole (d .before .header .given .0 .0)
-standing d = sym (d .before .before .before .front-at .ensures) ∙ d .before .header .given .1
+standing d = sym (d .before .before .before .read-at .ensures) ∙ d .before .header .given .1
 
 fits : (d : tie.After-known-told Inv-loop μ-loop) → d .before .before .before .before .loop .at + headerSize + d .before .header .given .0 .0 .length ≤ length (now (d .before .before .before .before .before .before .before .args .trace))
 fits d = within-trace (now (d .before .before .before .before .before .before .before .args .trace)) (d .before .before .before .before .loop .at) (d .before .header .given .0 .0) (standing d)
@@ -34,8 +34,8 @@ loop-holds : tie.Need-loop-holds Inv-loop μ-loop
 unfolding split
 loop-holds c = (omega arith, omega arith, refl, refl)
 
-front-at-requires : tie.Need-front-at-requires Inv-loop μ-loop
-front-at-requires c κs = search needs
+read-at-requires : tie.Need-read-at-requires Inv-loop μ-loop
+read-at-requires c κs = search needs
 
 enum-told : tie.Need-enum-told Inv-loop μ-loop
 enum-told c = search needs
@@ -52,7 +52,7 @@ returns c =
     let d = c .before .before .before in
     let loop = d .before .loop in
     rw (c .end .ensures)
-    (sym (loop .inv .3 ∙ plays-nothing _ _ theChip _ _ (sym (d .front-at .ensures) ∙ c .before .enum-told .given .1)))
+    (sym (loop .inv .3 ∙ plays-nothing _ _ theChip _ _ (sym (d .read-at .ensures) ∙ c .before .enum-told .given .1)))
 
 enum-told-2 : tie.Need-enum-told-2 Inv-loop μ-loop
 enum-told-2 c = search needs
@@ -69,13 +69,13 @@ returns-2 c =
     let d = c .before .before .before in
     let loop = d .before .loop in
     rw (c .end2 .ensures)
-    (sym (loop .inv .3 ∙ plays-cut _ _ theChip _ _ (sym (d .front-at .ensures) ∙ c .before .enum-told2 .given .1)))
+    (sym (loop .inv .3 ∙ plays-cut _ _ theChip _ _ (sym (d .read-at .ensures) ∙ c .before .enum-told2 .given .1)))
 
 enum-known-header : tie.Need-enum-known-header Inv-loop μ-loop
 enum-known-header c = search needs
 
 obey-requires : tie.Need-obey-requires Inv-loop μ-loop
-obey-requires c κs = sym (c .before .before .before .before .front-at .ensures) ∙ c .before .before .header .given .1
+obey-requires c κs = sym (c .before .before .before .before .read-at .ensures) ∙ c .before .before .header .given .1
 
 enum-known-left : tie.Need-enum-known-left Inv-loop μ-loop
 enum-known-left c = search needs
@@ -129,7 +129,7 @@ play-spec =
     Inv-loop
     μ-loop
     loop-holds
-    front-at-requires
+    read-at-requires
     enum-told
     end-requires
     same-length
