@@ -1,0 +1,120 @@
+-- The run is what the event calls give one by one: it answers and leaves what calling them in order on the lent state and memory gives, up to the first refused one.
+-- Assumes nothing.
+use mathlib.Core.Path.{_≡_, refl, sym, _∙_, ap}
+use mathlib.Core.Bool.{Bool, true, false, cond, not, _&&_, _||_}
+use mathlib.Core.List.{List, [], _∷_, _++_}
+use Prim.Native.Nat.{ℕ, _+_, _≤_}
+use native.Mathlib.Omega.{arith}
+use borrow.Author.Tests.{not-true, le-ltb}
+use lib.Dec.{eqb, ltb}
+use lib.ListN.{length, drop}
+use Rattle.bus.specs.Sizes.{imageSize, memorySize}
+use Rattle.bus.specs.Numbers.{taken, readDiffers}
+use Rattle.bus.specs.Registers.{imageOf, registersOf}
+use Rattle.bus.specs.Events.{numberOf, byteOf, dummyOf}
+use Rattle.bus.specs.Machine.{Chip, Event, commandByte, dataWritten, dataRead, resetPulse, Outcome, step}
+use Rattle.bus.specs.Image.{short, asked, stored}
+use Rattle.bus.specs.Calls.{Called, replyOf, stateAfter, concluded, askedBefore, callOn, call}
+use Rattle.bus.specs.declared.registers.Registers.{Registers}
+use Rattle.bus.specs.declared.answer.Answer.{Answer}
+use Rattle.bus.specs.declared.answer.Answer.the-variants.{Taken, Refused}
+use Rattle.bus.specs.declared.image.Asked.{Asked}
+use Rattle.bus.specs.declared.image.Asked.the-variants.{Found}
+use Rattle.bus.proofs.Kept.{LegalRegisters, Keeps, step-keeps, asked-legal}
+use Rattle.trace.specs.Records.{Trace, ended, cut, _then_, headerSize, split}
+use Rattle.trace.specs.Play.{Result, refuses, gives, onResult, Played, played, play}
+use Rattle.trace.specs.Chip.{Recorded, event, readAs, chipOf, happened, compared, replay, theChip}
+use Rattle.trace.specs.OneByOne.{Placed, placed, Script, script, scriptFrom, applied, oneByOne}
+use Rattle.trace.specs.ByCalls.{calledBy, meets, byCalls, runByCalls}
+use Rattle.trace.specs.Run.{Ran, ran, stopOf, ranOf, run}
+use Rattle.trace.specs.declared.run.Stop.{Stop}
+use Rattle.trace.proofs.OneByOne.{one-by-one}
+use Rattle.trace.proofs.Kept.{All, Bytes, OfBytes, Gives, split-of-bytes}
+use Rattle.trace.proofs.Runs.{Brings, brings, step-length, run-found, fits}
+use Rattle.trace.proofs.Sound.{honest, step-honest}
+use Rattle.trace.proofs.Stored.{sized, stored-long, stored-own, stored-again, asked-stored}
+
+module _ (state : List ℕ) (h : imageSize ≤ length state) where
+  -- what is asked before a call on a state that legal registers were stored in
+  asked-before : (e : Event) (r : Registers) (memory : List ℕ) → LegalRegisters r → memorySize ≤ length memory → askedBefore e (stored r state) memory ≡ Found r
+  unfolding askedBefore short
+  asked-before (commandByte b) r memory l m = asked-stored state h memory r m l
+  asked-before (dataWritten b) r memory l m = asked-stored state h memory r m l
+  asked-before dataRead r memory l m = asked-stored state h memory r m l
+  asked-before resetPulse r memory l m =
+      rw (stored-long state h r, le-ltb (length (imageOf r ++ drop imageSize state)) imageSize (omega arith), le-ltb (length memory) memorySize m)
+
+  call-stored : (e : Event) (r : Registers) (memory : List ℕ) → LegalRegisters r → memorySize ≤ length memory → call e (stored r state) memory ≡ concluded (step e r memory) (stored r state)
+  unfolding call callOn
+  call-stored e r memory l m = rw (asked-before e r memory l m)
+
+  -- the rest of the events, from the chip that one of them leaves
+  abbrev Later : List (Placed Recorded) → ℕ → ℕ → ℕ → Type 0
+  Later rest number offset count = (r : Registers) (memory : List ℕ) → LegalRegisters r → memorySize ≤ length memory → ranOf (applied replay rest number offset count (chipOf r memory)) state ≡ byCalls rest (stopOf number offset count) (stored r state) memory
+
+  module _ (rest : List (Placed Recorded)) (number offset count : ℕ) (later : Later rest number offset count) (r : Registers) (memory : List ℕ) (at before : ℕ) where
+    -- what follows an event's answer: the call's reply decides
+    after-event : (answer : Answer) (left : List ℕ) → honest answer ≡ true → Keeps answer → memorySize ≤ length left
+        → ranOf (onResult (happened answer left) (λ refusal. played refusal at before (chipOf r memory)) (λ t. applied replay rest number offset count t)) state ≡ cond (eqb (replyOf answer .number) taken) (byCalls rest (stopOf number offset count) (stateAfter answer (stored r state)) left) (ran (stopOf (replyOf answer .number) at before) (stored r state) memory)
+    unfolding happened replyOf stateAfter numberOf ranOf
+    after-event (Taken after) left ok k m = later (after .registers) left k m ∙ rw (stored-again state h r (after .registers))
+    after-event (Refused refusal) left ok k m = rw (not-true (eqb refusal taken) ok)
+
+    -- the same for a read that is compared
+    read-taken : (agrees : Bool) (s : Registers) (left : List ℕ) → LegalRegisters s → memorySize ≤ length left
+        → ranOf (onResult (cond agrees (gives (chipOf s left)) (refuses readDiffers)) (λ refusal. played refusal at before (chipOf r memory)) (λ t. applied replay rest number offset count t)) state ≡ cond (eqb (cond (not agrees) readDiffers taken) taken) (byCalls rest (stopOf number offset count) (stored s (stored r state)) left) (ran (stopOf (cond (not agrees) readDiffers taken) at before) (stored r state) memory)
+    unfolding ranOf
+    read-taken true s left k m = later s left k m ∙ rw (stored-again state h r s)
+    read-taken false s left k m = refl
+
+    after-read : (byte : ℕ) (answer : Answer) (left : List ℕ) → honest answer ≡ true → Keeps answer → memorySize ≤ length left
+        → ranOf (onResult (compared byte answer left) (λ refusal. played refusal at before (chipOf r memory)) (λ t. applied replay rest number offset count t)) state ≡ cond (eqb (meets (readAs byte) (replyOf answer)) taken) (byCalls rest (stopOf number offset count) (stateAfter answer (stored r state)) left) (ran (stopOf (meets (readAs byte) (replyOf answer)) at before) (stored r state) memory)
+    unfolding compared replyOf stateAfter numberOf byteOf dummyOf ranOf
+    after-read byte (Taken after) left ok k m = read-taken (after .dummy || eqb (after .byte) byte) (after .registers) left k m
+    after-read byte (Refused refusal) left ok k m = rw (not-true (eqb refusal taken) ok, not-true (eqb refusal taken) ok)
+
+    after-one : (recorded : Recorded) → Brings recorded → LegalRegisters r → memorySize ≤ length memory
+        → ranOf (onResult (replay recorded (chipOf r memory)) (λ refusal. played refusal at before (chipOf r memory)) (λ t. applied replay rest number offset count t)) state ≡ cond (eqb (meets recorded (call (calledBy recorded) (stored r state) memory .reply)) taken) (byCalls rest (stopOf number offset count) (call (calledBy recorded) (stored r state) memory .state) (call (calledBy recorded) (stored r state) memory .memory)) (ran (stopOf (meets recorded (call (calledBy recorded) (stored r state) memory .reply)) at before) (stored r state) memory)
+    unfolding replay concluded
+    after-one (event e) b l m =
+        rw (call-stored e r memory l m) (after-event (step e r memory .answer) (step e r memory .memory) (step-honest e r memory) (step-keeps e r memory b l) (omega (arith, step-length e r memory)))
+    after-one (readAs byte) b l m =
+        rw (call-stored dataRead r memory l m) (after-read byte (step dataRead r memory .answer) (step dataRead r memory .memory) (step-honest dataRead r memory) (step-keeps dataRead r memory tt l) (omega (arith, step-length dataRead r memory)))
+
+  by-calls : (events : List (Placed Recorded)) (number offset count : ℕ) → All (λ (p : Placed Recorded). Brings (p .event)) events → Later events number offset count
+  unfolding applied byCalls ranOf
+  by-calls [] number offset count b r memory l m = refl
+  by-calls (p ∷ rest) number offset count b r memory l m = after-one rest number offset count (by-calls rest number offset count (b .1)) r memory (p .offset) (p .before) (p .event) (b .0) l m
+
+-- every event of a trace of bytes brings a byte
+all-append : {A : Type 0} (P : A → Type 0) (a b : List A) → All P a → All P b → All P (a ++ b)
+all-append P [] b p q = q
+all-append P (x ∷ a) b p q = (p .0, all-append P a b (p .1) q)
+
+all-placed : (events : List Recorded) (at count : ℕ) → All Brings events → All (λ (p : Placed Recorded). Brings (p .event)) (placed events at count)
+all-placed [] at count h = tt
+all-placed (e ∷ rest) at count h = (h .0, all-placed rest (at + 1) count (h .1))
+
+header-brings : (header : Result (List Recorded)) (place count : ℕ) (later : Script Recorded) → Gives (All Brings) header → All (λ (p : Placed Recorded). Brings (p .event)) (later .events)
+    → All (λ (p : Placed Recorded). Brings (p .event)) (onResult header (λ number. script [] number place count) (λ events. script (placed events (place + headerSize) count ++ later .events) (later .number) (later .offset) (later .count)) .events)
+header-brings (refuses number) place count later g h = tt
+header-brings (gives events) place count later g h = all-append _ (placed events (place + headerSize) count) (later .events) (all-placed events (place + headerSize) count g) h
+
+script-brings : (trace : Trace) (count : ℕ) → OfBytes trace → All (λ (p : Placed Recorded). Brings (p .event)) (scriptFrom theChip trace count .events)
+unfolding scriptFrom
+script-brings (ended offset) count h = tt
+script-brings (cut offset) count h = tt
+script-brings (r then rest) count h = header-brings (theChip .events (r .kind) (r .payload)) (r .place) count (scriptFrom theChip rest (count + 1)) (brings (r .kind) (r .payload) (h .0)) (script-brings rest (count + 1) (h .1))
+
+-- the run, on a state and memory that are found legal
+module _ (state memory : List ℕ) (r : Registers) (found : asked state memory ≡ Found r) (trace : List ℕ) (bytes : Bytes trace) where
+  pub run-by-calls : run state memory trace ≡ runByCalls state memory trace
+  unfolding runByCalls split
+  run-by-calls =
+      let size = fits state memory r found in
+      let all = scriptFrom theChip (split trace) 0 in
+      let own : stored r state ≡ state = rw (← (size .registers)) (stored-own state (size .image)) in
+      run-found state memory r found trace ∙
+      ap (λ p. ranOf p state) (one-by-one theChip (split trace) 0 (chipOf r memory)) ∙
+      by-calls state (size .image) (all .events) (all .number) (all .offset) (all .count) (script-brings (split trace) 0 (split-of-bytes 0 0 trace bytes)) r memory (asked-legal state memory r found) (size .display) ∙
+      ap (λ lent. byCalls (all .events) (stopOf (all .number) (all .offset) (all .count)) lent memory) own

@@ -1,0 +1,69 @@
+-- A trace that begins at a later offset, with records before it, plays as it would from the start, offsets and count moved on. Over any machine.
+-- Assumes nothing.
+use mathlib.Core.Path.{_≡_, refl, sym, _∙_, ap, fun-ext}
+use mathlib.Core.Bool.{Bool, true, false, cond}
+use mathlib.Core.List.{List, [], _∷_}
+use Prim.Native.Nat.{ℕ, zero, suc, _+_}
+use native.Mathlib.Omega.{arith}
+use Rattle.trace.specs.Records.{Record, Trace, ended, cut, _then_, headerSize, lengthOf, whole, recordAt, splitFrom}
+use Rattle.trace.proofs.Cases.{by-cases}
+use Rattle.trace.specs.Play.{Result, refuses, gives, onResult, Machine, Ended, stopped, done, onEnded, Played, played, playEvents, playRecord, playFrom}
+
+-- a record, a split trace and what is played, moved on
+abbrev pub recordFurther : ℕ → Record → Record
+recordFurther k r = record { kind = r .kind; payload = r .payload; place = k + r .place }
+
+abbrev pub traceFurther : ℕ → Trace → Trace
+traceFurther k (ended offset) = ended (k + offset)
+traceFurther k (cut offset) = cut (k + offset)
+traceFurther k (r then rest) = recordFurther k r then traceFurther k rest
+
+abbrev endedFurther : {S : Type 0} → ℕ → Ended S → Ended S
+endedFurther k (stopped number offset s) = stopped number (k + offset) s
+endedFurther k (done s) = done s
+
+abbrev pub further : {S : Type 0} → ℕ → ℕ → Played S → Played S
+further k c p = played (p .number) (k + p .offset) (c + p .count) (p .state)
+
+split-choice : (k : ℕ) (there : Bool) (r : Record) (rest rest′ : Trace) (offset : ℕ) → rest′ ≡ traceFurther k rest → cond there (recordFurther k r then rest′) (cut (k + offset)) ≡ traceFurther k (cond there (r then rest) (cut offset))
+split-choice k true r rest rest′ offset e = rw e
+split-choice k false r rest rest′ offset e = refl
+
+pub split-further : (k left offset : ℕ) (bytes : List ℕ) → splitFrom left (k + offset) bytes ≡ traceFurther k (splitFrom left offset bytes)
+unfolding splitFrom
+split-further k left offset [] = refl
+split-further k (suc left) offset (byte ∷ bytes) =
+    let e : k + offset + 1 ≡ k + (offset + 1) = omega arith in
+    rw e (split-further k left (offset + 1) bytes)
+split-further k zero offset (byte ∷ bytes) =
+    let all = byte ∷ bytes in
+    let e : k + offset + 1 ≡ k + (offset + 1) = omega arith in
+    split-choice k (whole all) (recordAt offset all) (splitFrom (3 + lengthOf all) (offset + 1) bytes) (splitFrom (3 + lengthOf all) (k + offset + 1) bytes) offset (rw e (split-further k (3 + lengthOf all) (offset + 1) bytes))
+
+module _ {S E : Type 0} (machine : Machine S E) (k : ℕ) where
+  events-further : (events : List E) (offset : ℕ) (s : S) → playEvents machine events (k + offset) s ≡ endedFurther k (playEvents machine events offset s)
+  unfolding playEvents
+  events-further [] offset s = refl
+  events-further (e ∷ rest) offset s =
+      let on : k + offset + 1 ≡ k + (offset + 1) = omega arith in
+      by-cases (endedFurther k) (machine .step e s) (λ number. refl) (λ t. rw on (events-further rest (offset + 1) t))
+
+  record-further : (r : Record) (s : S) → playRecord machine (recordFurther k r) s ≡ endedFurther k (playRecord machine r s)
+  unfolding playRecord
+  record-further r s =
+      let on : k + r .place + headerSize ≡ k + (r .place + headerSize) = omega arith in
+      by-cases (endedFurther k) (machine .events (r .kind) (r .payload)) (λ number. refl) (λ events. rw on (events-further events (r .place + headerSize) s))
+
+  ended-further : (c count : ℕ) (ending : Ended S) (go go′ : S → Played S) → ((t : S) → go t ≡ further k c (go′ t))
+      → onEnded (endedFurther k ending) (λ n o t. played n o (c + count) t) go ≡ further k c (onEnded ending (λ n o t. played n o count t) go′)
+  ended-further c count (stopped number offset s) go go′ same = refl
+  ended-further c count (done s) go go′ same = same s
+
+  pub play-further : (c : ℕ) (trace : Trace) (count : ℕ) (s : S) → playFrom machine (traceFurther k trace) (c + count) s ≡ further k c (playFrom machine trace count s)
+  unfolding playFrom
+  play-further c (ended offset) count s = refl
+  play-further c (cut offset) count s = refl
+  play-further c (r then rest) count s =
+      let on : c + count + 1 ≡ c + (count + 1) = omega arith in
+      rw (record-further r s)
+      (ended-further c count (playRecord machine r s) _ (λ t. playFrom machine rest (count + 1) t) (λ t. rw on (play-further c rest (count + 1) t)))

@@ -1,0 +1,81 @@
+-- What holds of a machine's state, and is kept by each event that a trace of bytes can bring, holds of what a played trace leaves.
+-- Assumes nothing.
+use mathlib.Core.Bool.{Bool, true, false, cond}
+use mathlib.Core.List.{List, [], _∷_}
+use Prim.Native.Nat.{ℕ, zero, suc, _+_, _<_}
+use lib.ListN.{take, drop}
+use Rattle.trace.specs.Records.{Record, Trace, ended, cut, _then_, headerSize, lengthOf, payloadOf, whole, recordAt, splitFrom}
+use Rattle.trace.specs.Play.{Result, refuses, gives, onResult, Machine, Ended, stopped, done, onEnded, Played, played, playEvents, playRecord, playFrom}
+
+abbrev pub All : {A : Type 0} → (A → Type 0) → List A → Type 0
+All P [] = Unit {0}
+All P (a ∷ rest) = P a × All P rest
+
+-- a list of bytes
+abbrev pub Bytes : List ℕ → Type 0
+Bytes = All (λ (b : ℕ). b < 256)
+
+all-drop : {A : Type 0} (P : A → Type 0) (n : ℕ) (l : List A) → All P l → All P (drop n l)
+all-drop P zero l h = h
+all-drop P (suc n) [] h = h
+all-drop P (suc n) (a ∷ l) h = all-drop P n l (h .1)
+
+all-take : {A : Type 0} (P : A → Type 0) (n : ℕ) (l : List A) → All P l → All P (take n l)
+all-take P zero l h = tt
+all-take P (suc n) [] h = h
+all-take P (suc n) (a ∷ l) h = (h .0, all-take P n l (h .1))
+
+-- every payload is of bytes
+abbrev pub OfBytes : Trace → Type 0
+OfBytes (ended offset) = Unit {0}
+OfBytes (cut offset) = Unit {0}
+OfBytes (r then rest) = Bytes (r .payload) × OfBytes rest
+
+of-bytes : (there : Bool) (r : Record) (rest : Trace) (offset : ℕ) → Bytes (r .payload) → OfBytes rest → OfBytes (cond there (r then rest) (cut offset))
+of-bytes true r rest offset p q = (p, q)
+of-bytes false r rest offset p q = tt
+
+pub split-of-bytes : (left offset : ℕ) (bytes : List ℕ) → Bytes bytes → OfBytes (splitFrom left offset bytes)
+unfolding splitFrom
+split-of-bytes left offset [] h = tt
+split-of-bytes (suc left) offset (byte ∷ bytes) h = split-of-bytes left (offset + 1) bytes (h .1)
+split-of-bytes zero offset (byte ∷ bytes) h =
+    let all = byte ∷ bytes in
+    of-bytes (whole all) (recordAt offset all) _ offset (all-take _ (lengthOf all) (drop headerSize all) (all-drop _ headerSize all h)) (split-of-bytes (3 + lengthOf all) (offset + 1) bytes (h .1))
+
+-- what holds of what a result gives
+abbrev pub Gives : {A : Type 0} → (A → Type 0) → Result A → Type 0
+Gives P (refuses number) = Unit {0}
+Gives P (gives a) = P a
+
+abbrev Leaves : {S : Type 0} → (S → Type 0) → Ended S → Type 0
+Leaves P (stopped number offset s) = P s
+Leaves P (done s) = P s
+
+module _ {S E : Type 0} (machine : Machine S E) (P : S → Type 0) (Q : E → Type 0) (brings : (kind : ℕ) (payload : List ℕ) → Bytes payload → Gives (All Q) (machine .events kind payload)) (keeps : (e : E) (s : S) → Q e → P s → Gives P (machine .step e s)) where
+  on-step : (result : Result S) (offset : ℕ) (s : S) (go : S → Ended S) → Gives P result → P s → ((t : S) → P t → Leaves P (go t)) → Leaves P (onResult result (λ number. stopped number offset s) go)
+  on-step (refuses number) offset s go g h later = h
+  on-step (gives t) offset s go g h later = later t g
+
+  events-keep : (events : List E) (offset : ℕ) (s : S) → All Q events → P s → Leaves P (playEvents machine events offset s)
+  unfolding playEvents
+  events-keep [] offset s q h = h
+  events-keep (e ∷ rest) offset s q h = on-step (machine .step e s) offset s _ (keeps e s (q .0) h) h (λ t. events-keep rest (offset + 1) t (q .1))
+
+  on-header : (result : Result (List E)) (offset : ℕ) (s : S) (go : List E → Ended S) → Gives (All Q) result → P s → ((events : List E) → All Q events → Leaves P (go events)) → Leaves P (onResult result (λ number. stopped number offset s) go)
+  on-header (refuses number) offset s go g h later = h
+  on-header (gives events) offset s go g h later = later events g
+
+  record-keeps : (r : Record) (s : S) → Bytes (r .payload) → P s → Leaves P (playRecord machine r s)
+  unfolding playRecord
+  record-keeps r s b h = on-header (machine .events (r .kind) (r .payload)) (r .place) s _ (brings (r .kind) (r .payload) b) h (λ events q. events-keep events (r .place + headerSize) s q h)
+
+  on-record : (ending : Ended S) (count : ℕ) (go : S → Played S) → Leaves P ending → ((t : S) → P t → P (go t .state)) → P (onEnded ending (λ n o t. played n o count t) go .state)
+  on-record (stopped number offset t) count go h later = h
+  on-record (done t) count go h later = later t h
+
+  pub play-keeps : (trace : Trace) (count : ℕ) (s : S) → OfBytes trace → P s → P (playFrom machine trace count s .state)
+  unfolding playFrom
+  play-keeps (ended offset) count s b h = h
+  play-keeps (cut offset) count s b h = h
+  play-keeps (r then rest) count s b h = on-record (playRecord machine r s) count _ (record-keeps r s (b .0) h) (λ t. play-keeps rest (count + 1) t (b .1))

@@ -1,0 +1,17 @@
+pub mod Samples
+pub mod Turn
+pub mod Replayed
+pub mod Fronts
+pub mod Standing
+pub mod ByKind
+pub mod Rest
+pub mod Ran
+pub mod Cases
+pub mod OneByOne
+pub mod Further
+pub mod Joined
+pub mod Sound
+pub mod Kept
+pub mod Stored
+pub mod Runs
+pub mod ByCalls

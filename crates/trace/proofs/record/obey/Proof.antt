@@ -1,0 +1,89 @@
+use borrow.Author.Needs.{needs}
+use Rattle.trace.proofs.record.obey.Statement.{statement}
+use Rattle.trace.proofs.record.obey.Tie as tie
+use mathlib.Core.Path.{_≡_, sym, _∙_, ap}
+use Prim.Native.Nat.{_+_}
+use native.Mathlib.Omega.{arith}
+use denote.Ref.{now}
+use lib.ListN.{length, drop}
+use lib.Seq.{slice, length-slice}
+use Rattle.trace.specs.Records.{Record, headerSize, recordAt}
+use Rattle.trace.specs.Play.{playRecord}
+use Rattle.trace.specs.Chip.{theChip, chipOf}
+use Rattle.trace.proofs.Standing.{within-trace, the-record}
+use Rattle.trace.proofs.ByKind.{kind-1, kind-2, kind-3, kind-4, kind-4-loaded, kind-unknown}
+
+-- `trace::record::obey` meets its contract: the record that stands there, by its kind.
+-- Assumes nothing.
+
+add-from : tie.Need-add-from
+add-from c = let args = c .before .before .args in omega (arith, within-trace (now (args .trace)) (args .at) (args .header) (c .before .before .pre))
+
+add-to : tie.Need-add-to
+add-to c = let args = c .before .before .args in omega (arith, within-trace (now (args .trace)) (args .at) (args .header) (c .before .before .pre))
+
+commands-requires : tie.Need-commands-requires
+commands-requires c κs = let d = c .before .before .before in (omega arith, within-trace (now (d .args .trace)) (d .args .at) (d .args .header) (d .pre))
+
+writes-requires : tie.Need-writes-requires
+writes-requires c κs = let d = c .before .before .before .before in (omega arith, within-trace (now (d .args .trace)) (d .args .at) (d .args .header) (d .pre))
+
+reads-requires : tie.Need-reads-requires
+reads-requires c κs = let d = c .before .before .before .before in (omega arith, within-trace (now (d .args .trace)) (d .args .at) (d .args .header) (d .pre))
+
+reset-pin-requires : tie.Need-reset-pin-requires
+reset-pin-requires c κs = search needs
+
+returns : tie.Need-returns
+returns c = let d = c .before .before .before .before .before in c .reset-pin .ensures _ ∙ sym (kind-4 (now (d .args .trace)) (d .args .at) (d .args .header) (d .pre) _ (c .before .before .match .keys4) (c .before .if1 .taken))
+
+unknown-requires : tie.Need-unknown-requires
+unknown-requires c κs = search needs
+
+unknown-requires-2 : tie.Need-unknown-requires-2
+unknown-requires-2 c κs = search needs
+
+returns-2 : tie.Need-returns-2
+returns-2 c = let d = c .before .before .before .before in c .commands .ensures _ ∙ sym (kind-1 (now (d .args .trace)) (d .args .at) (d .args .header) (d .pre) _ (c .before .match .keys1))
+
+same-length : tie.Need-same-length
+same-length c = search needs
+
+returns-3 : tie.Need-returns-3
+returns-3 c = let d = c .before .before .before .before .before .before .before in c .before .before .writes .ensures ∙ sym (kind-2 (now (d .args .trace)) (d .args .at) (d .args .header) (d .pre) _ (c .before .before .before .before .match .keys2))
+
+same-length-2 : tie.Need-same-length-2
+same-length-2 c = search needs
+
+returns-4 : tie.Need-returns-4
+returns-4 c = let d = c .before .before .before .before .before in c .reads .ensures ∙ sym (kind-3 (now (d .args .trace)) (d .args .at) (d .args .header) (d .pre) _ (c .before .before .match .keys3))
+
+returns-5 : tie.Need-returns-5
+returns-5 c = let d = c .before .before .before .before .before in c .unknown .ensures _ ∙ sym (kind-4-loaded (now (d .args .trace)) (d .args .at) (d .args .header) (d .pre) _ (c .before .before .match .keys4) (c .before .if1 .left))
+
+returns-6 : tie.Need-returns-6
+returns-6 c =
+    let d = c .before .before .before .before in
+    let other = c .before .match .rest in
+    c .unknown2 .ensures _ ∙ sym (kind-unknown (now (d .args .trace)) (d .args .at) (d .args .header) (d .pre) _ (other .0 .0 .0 .1) (other .0 .0 .1) (other .0 .1) (other .1))
+
+pub obey-spec : {M : Type 1} → statement M
+obey-spec =
+    tie.close
+    (tie.spec
+    add-from
+    add-to
+    commands-requires
+    writes-requires
+    reads-requires
+    reset-pin-requires
+    returns
+    unknown-requires
+    unknown-requires-2
+    returns-2
+    same-length
+    returns-3
+    same-length-2
+    returns-4
+    returns-5
+    returns-6)

@@ -1,0 +1,152 @@
+-- `trace::run::play` meets its contract: what is left of the trace decides.
+-- Assumes nothing.
+use Rattle.trace.proofs.run.play.Statement.{statement}
+use Rattle.trace.proofs.run.play.Tie as tie
+use mathlib.Core.Path.{_≡_, refl, sym, _∙_, ap}
+use Prim.Native.Nat.{_+_, _≤_, _-_}
+use native.Mathlib.Omega.{arith}
+use borrow.Author.Needs.{needs}
+use denote.Ref.{now}
+use lib.ListN.{length, drop}
+use Rattle.trace.specs.Records.{headerSize, split}
+use Rattle.trace.specs.Front.{frontOf}
+use Rattle.trace.specs.declared.records.Front.the-variants.{Whole}
+use Rattle.trace.specs.Play.{play, playFrom}
+use Rattle.trace.specs.Chip.{theChip, chipOf}
+use Rattle.trace.specs.Code.{endedOf, playedOf}
+use Rattle.trace.proofs.Standing.{within-trace}
+use Rattle.trace.proofs.Rest.{rest, plays-nothing, plays-cut, plays-on, plays-stop}
+
+abbrev Inv-loop : tie.InvT-loop
+Inv-loop registers₀ memory₀ trace at₀ count₀ registers memory at count = (at ≤ length trace) × (count ≤ at) × (length memory ≡ length memory₀) × (play theChip (split trace) (chipOf registers₀ memory₀) ≡ playFrom theChip (rest trace at) count (chipOf registers memory))
+
+abbrev μ-loop : tie.MeasureT-loop
+μ-loop registers₀ memory₀ trace at₀ count₀ registers memory at count = length trace - at
+
+-- the record that stands at the loop's offset
+standing : (d : tie.After-known-told Inv-loop μ-loop) → frontOf (drop (d .before .before .before .before .loop .at) (now (d .before .before .before .before .before .before .before .args .trace))) ≡ Whole (d .before .header .given .0 .0)
+standing d = sym (d .before .before .before .read-at .ensures) ∙ d .before .header .given .1
+
+fits : (d : tie.After-known-told Inv-loop μ-loop) → d .before .before .before .before .loop .at + headerSize + d .before .header .given .0 .0 .length ≤ length (now (d .before .before .before .before .before .before .before .args .trace))
+fits d = within-trace (now (d .before .before .before .before .before .before .before .args .trace)) (d .before .before .before .before .loop .at) (d .before .header .given .0 .0) (standing d)
+
+loop-holds : tie.Need-loop-holds Inv-loop μ-loop
+unfolding split
+loop-holds c = (omega arith, omega arith, refl, refl)
+
+read-at-requires : tie.Need-read-at-requires Inv-loop μ-loop
+read-at-requires c κs = search needs
+
+enum-told : tie.Need-enum-told Inv-loop μ-loop
+enum-told c = search needs
+
+end-requires : tie.Need-end-requires Inv-loop μ-loop
+end-requires c κs = search needs
+
+same-length : tie.Need-same-length Inv-loop μ-loop
+same-length c = c .before .before .before .before .loop .inv .2
+
+returns : tie.Need-returns Inv-loop μ-loop
+unfolding playedOf
+returns c =
+    let d = c .before .before .before in
+    let loop = d .before .loop in
+    rw (c .end .ensures)
+    (sym (loop .inv .3 ∙ plays-nothing _ _ theChip _ _ (sym (d .read-at .ensures) ∙ c .before .enum-told .given .1)))
+
+enum-told-2 : tie.Need-enum-told-2 Inv-loop μ-loop
+enum-told-2 c = search needs
+
+end-requires-2 : tie.Need-end-requires-2 Inv-loop μ-loop
+end-requires-2 c κs = search needs
+
+same-length-2 : tie.Need-same-length-2 Inv-loop μ-loop
+same-length-2 c = c .before .before .before .before .loop .inv .2
+
+returns-2 : tie.Need-returns-2 Inv-loop μ-loop
+unfolding playedOf
+returns-2 c =
+    let d = c .before .before .before in
+    let loop = d .before .loop in
+    rw (c .end2 .ensures)
+    (sym (loop .inv .3 ∙ plays-cut _ _ theChip _ _ (sym (d .read-at .ensures) ∙ c .before .enum-told2 .given .1)))
+
+enum-known-header : tie.Need-enum-known-header Inv-loop μ-loop
+enum-known-header c = search needs
+
+obey-requires : tie.Need-obey-requires Inv-loop μ-loop
+obey-requires c κs = sym (c .before .before .before .before .read-at .ensures) ∙ c .before .before .header .given .1
+
+enum-known-left : tie.Need-enum-known-left Inv-loop μ-loop
+enum-known-left c = search needs
+
+add-at : tie.Need-add-at Inv-loop μ-loop
+add-at c = omega (arith, fits (c .before .before .before .before .before .before .before))
+
+add-at-2 : tie.Need-add-at-2 Inv-loop μ-loop
+add-at-2 c = omega (arith, fits (c .before .before .before .before .before .before .before .before), c .before .before .before .before .before .before .before .before .before .before .before .before .before .before .before .good .1 .1 .0 .0)
+
+add-count : tie.Need-add-count Inv-loop μ-loop
+add-count c = omega (arith, fits (c .before .before .before .before .before .before .before .before), c .before .before .before .before .before .before .before .before .before .before .before .before .before .before .before .good .1 .1 .0 .0)
+
+loop-less : tie.Need-loop-less Inv-loop μ-loop
+loop-less c = omega (arith, fits (c .before .before .before .before .before .before .before .before))
+
+loop-again : tie.Need-loop-again Inv-loop μ-loop
+unfolding endedOf
+loop-again c =
+    let d = c .before .before .before .before .before .before .before .before in
+    let loop = d .before .before .before .before .loop in
+    let obeyed = c .before .before .before .before .before .before .obey in (
+      fits d,
+      omega (arith, fits d),
+      obeyed .kept .1 .1 .0 ∙ loop .inv .2,
+      loop .inv .3 ∙ plays-on (now (d .before .before .before .before .before .before .before .args .trace)) (loop .at) theChip (loop .count) _ _ (standing d) _ (sym (obeyed .ensures) ∙ ap (λ progress. endedOf progress (obeyed .last .1 .1 .0)) (c .before .before .left .given .1)),
+    )
+
+enum-known-halt : tie.Need-enum-known-halt Inv-loop μ-loop
+enum-known-halt c = search needs
+
+end-requires-3 : tie.Need-end-requires-3 Inv-loop μ-loop
+end-requires-3 c κs = search needs
+
+same-length-3 : tie.Need-same-length-3 Inv-loop μ-loop
+same-length-3 c = c .before .before .before .before .before .before .before .obey .kept .1 .1 .0 ∙ c .before .before .before .before .before .before .before .before .before .before .before .before .before .loop .inv .2
+
+returns-3 : tie.Need-returns-3 Inv-loop μ-loop
+unfolding endedOf playedOf
+returns-3 c =
+    let d = c .before .before .before .before .before .before .before .before .before in
+    let loop = d .before .before .before .before .loop in
+    let obeyed = c .before .before .before .before .before .before .before .obey in
+    rw (c .end3 .ensures)
+    (sym (loop .inv .3 ∙ plays-stop (now (d .before .before .before .before .before .before .before .args .trace)) (loop .at) theChip (loop .count) _ _ (standing d) _ _ _ (sym (obeyed .ensures) ∙ ap (λ progress. endedOf progress (obeyed .last .1 .1 .0)) (c .before .before .before .halt .given .1))))
+
+pub play-spec : {M : Type 1} → statement M
+play-spec =
+    tie.close
+    (tie.spec
+    Inv-loop
+    μ-loop
+    loop-holds
+    read-at-requires
+    enum-told
+    end-requires
+    same-length
+    returns
+    enum-told-2
+    end-requires-2
+    same-length-2
+    returns-2
+    enum-known-header
+    obey-requires
+    enum-known-left
+    add-at
+    add-at-2
+    add-count
+    loop-less
+    loop-again
+    enum-known-halt
+    end-requires-3
+    same-length-3
+    returns-3)

@@ -1,0 +1,57 @@
+-- Document 01, "The trace": a trace's bytes split into records. It knows nothing of the chip.
+use Prim.Native.Nat.{ℕ, zero, suc, _+_, _*_}
+use mathlib.Core.Bool.{Bool, cond, _&&_}
+use mathlib.Core.List.{List, [], _∷_}
+use lib.Dec.{leb}
+use lib.ListN.{length, getD, take, drop}
+
+-- A record: its kind, its payload, and the offset of its first byte.
+pub record Record : Type 0 where
+  pub kind : ℕ
+  pub payload : List ℕ
+  pub place : ℕ
+
+infixr 5 _then_
+-- A trace taken apart: record after record, up to the offset where no byte is left, or where what is left is no whole record.
+pub data Trace : Type 0 where
+  ended : ℕ → Trace
+  cut : ℕ → Trace
+  _then_ : Record → Trace → Trace
+
+-- A number of two bytes, little-endian.
+abbrev pub number : List ℕ → ℕ → ℕ
+number bytes place = getD bytes place 0 + 256 * getD bytes (place + 1) 0
+
+-- A record's header: the length of its payload, then its kind, two bytes each.
+abbrev pub headerSize : ℕ
+headerSize = 4
+
+abbrev pub lengthOf : List ℕ → ℕ
+lengthOf bytes = number bytes 0
+
+abbrev pub kindOf : List ℕ → ℕ
+kindOf bytes = number bytes 2
+
+-- The payload follows its header.
+abbrev pub payloadOf : List ℕ → List ℕ
+payloadOf bytes = take (lengthOf bytes) (drop headerSize bytes)
+
+-- A whole record stands first among the bytes: its header is not cut, and its payload not past the end.
+abbrev pub whole : List ℕ → Bool
+whole bytes = leb headerSize (length bytes) && leb (headerSize + lengthOf bytes) (length bytes)
+
+-- The record that stands first among the bytes, which begin at an offset of the trace.
+abbrev pub recordAt : ℕ → List ℕ → Record
+recordAt offset bytes = record { kind = kindOf bytes; payload = payloadOf bytes; place = offset }
+
+-- The bytes from an offset on, the first `left` of which belong to the record before.
+unfoldable pub splitFrom : ℕ → ℕ → List ℕ → Trace
+splitFrom left offset [] = ended offset
+splitFrom (suc left) offset (byte ∷ bytes) = splitFrom left (offset + 1) bytes
+splitFrom zero offset (byte ∷ bytes) =
+    let all = byte ∷ bytes in
+    cond (whole all) (recordAt offset all then splitFrom (3 + lengthOf all) (offset + 1) bytes) (cut offset)
+
+-- The records of a trace.
+unfoldable pub split : List ℕ → Trace
+split trace = splitFrom 0 0 trace

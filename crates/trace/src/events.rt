@@ -1,0 +1,142 @@
+// The events of one record, in order, up to the first that is refused.
+ghost use mathlib.Core.Path.{_≡_};
+ghost use mathlib.Core.List.{List, [], _∷_, map};
+ghost use mathlib.Core.Bool.{_||_};
+ghost use Prim.Native.Nat.{ℕ, _≤_};
+ghost use lib.Dec.{eqb};
+ghost use lib.ListN.{length};
+ghost use lib.Seq.{slice};
+ghost use Rattle.bus.specs.Events.{numberOf};
+ghost use Rattle.bus.specs.Machine.{resetPulse};
+ghost use Rattle.trace.specs.Play.{playEvents};
+ghost use Rattle.trace.specs.Chip.{event, command, write, readAs, theChip, chipOf};
+ghost use Rattle.trace.specs.Code.{endedOf};
+use bus::answer::After;
+use bus::answer::Answer;
+use bus::refusal::READ_DIFFERS;
+use bus::refusal::TAKEN;
+use bus::registers::Registers;
+
+// The first refused event of a record: its number, its byte's offset, and the registers that are left.
+pub struct Halt {
+    pub number: u8,
+    pub offset: usize,
+    pub registers: Registers,
+}
+
+// How a record's events end: all are done, or one is refused.
+pub enum Progress {
+    Done(Registers),
+    Stopped(Halt),
+}
+
+// The command bytes from one offset of the trace to another.
+pub fn commands(mut registers: Registers, trace: &[u8], from: usize, to: usize) -> Progress
+    requires { ⌜ (from ≤ to) × (to ≤ length (now trace)) ⌝ }
+    ensures { λ r. ⌜ ((memory : List ℕ) → endedOf r memory ≡ playEvents theChip (map command (slice from to (now (trace .entry)))) from (chipOf registers memory)) ⌝ }
+{
+    let mut at = from;
+    while at < to {
+        let answer = registers.command(trace[at]);
+        let Answer::Taken(after) = answer else {
+            return stopped(answer, at, registers);
+        };
+        registers = after.registers;
+        at += 1;
+    }
+    Progress::Done(registers)
+}
+
+// The data bytes written, from one offset of the trace to another.
+pub fn writes(
+    mut registers: Registers,
+    memory: &mut [u8],
+    trace: &[u8],
+    from: usize,
+    to: usize,
+) -> Progress
+    requires { ⌜ (from ≤ to) × (to ≤ length (now trace)) ⌝ }
+    ensures { λ r. ⌜ endedOf r (now (memory .exit)) ≡ playEvents theChip (map write (slice from to (now (trace .entry)))) from (chipOf registers (now (memory .entry))) ⌝ }
+{
+    let mut at = from;
+    while at < to {
+        let answer = registers.write(memory, trace[at]);
+        let Answer::Taken(after) = answer else {
+            return stopped(answer, at, registers);
+        };
+        registers = after.registers;
+        at += 1;
+    }
+    Progress::Done(registers)
+}
+
+// The data bytes read and compared, from one offset of the trace to another.
+pub fn reads(
+    mut registers: Registers,
+    memory: &[u8],
+    trace: &[u8],
+    from: usize,
+    to: usize,
+) -> Progress
+    requires { ⌜ (from ≤ to) × (to ≤ length (now trace)) ⌝ }
+    ensures { λ r. ⌜ endedOf r (now (memory .entry)) ≡ playEvents theChip (map readAs (slice from to (now (trace .entry)))) from (chipOf registers (now (memory .entry))) ⌝ }
+{
+    let mut at = from;
+    while at < to {
+        let answer = registers.read(memory);
+        let Answer::Taken(after) = answer else {
+            return stopped(answer, at, registers);
+        };
+        if agrees(after, trace[at]) {
+            registers = after.registers;
+            at += 1;
+        } else {
+            return Progress::Stopped(Halt {
+                number: READ_DIFFERS,
+                offset: at,
+                registers,
+            });
+        }
+    }
+    Progress::Done(registers)
+}
+
+// A pulse on the reset pin, by the record whose payload would begin at an offset.
+pub fn reset_pin(registers: Registers, from: usize) -> Progress
+    ensures { λ r. ⌜ ((memory : List ℕ) → endedOf r memory ≡ playEvents theChip (event resetPulse ∷ []) from (chipOf registers memory)) ⌝ }
+{
+    let answer = registers.reset_pin();
+    let Answer::Taken(after) = answer else {
+        return stopped(answer, from, registers);
+    };
+    let restarted = after.registers;
+    Progress::Done(restarted)
+}
+
+// Whether a read is as the firmware read it; a dummy read is not compared.
+fn agrees(after: After, byte: u8) -> bool
+    ensures { λ r. ⌜ r ≡ (after .dummy || eqb (after .byte) byte) ⌝ }
+{
+    if after.dummy {
+        return true;
+    }
+    after.byte == byte
+}
+
+// An event that was refused: a refusal has the number of its answer.
+fn stopped(answer: Answer, offset: usize, registers: Registers) -> Progress
+    ensures { λ r. ⌜ r ≡ Progress.Stopped (record { number = numberOf answer; offset = offset; registers = registers }) ⌝ }
+{
+    match answer {
+        Answer::Taken(_) => Progress::Stopped(Halt {
+            number: TAKEN,
+            offset,
+            registers,
+        }),
+        Answer::Refused(number) => Progress::Stopped(Halt {
+            number,
+            offset,
+            registers,
+        }),
+    }
+}

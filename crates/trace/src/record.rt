@@ -1,0 +1,61 @@
+// One record: its header is checked before its payload acts.
+ghost use mathlib.Core.Path.{_≡_};
+ghost use mathlib.Core.List.{List};
+ghost use Prim.Native.Nat.{ℕ};
+ghost use lib.ListN.{drop};
+ghost use Rattle.bus.specs.Numbers.{kindUnknown};
+ghost use Rattle.trace.specs.Records.{recordAt};
+ghost use Rattle.trace.specs.Front.{frontOf};
+ghost use Rattle.trace.specs.Play.{Ended, playRecord};
+ghost use Rattle.trace.specs.Chip.{theChip, chipOf};
+ghost use Rattle.trace.specs.Code.{endedOf};
+use crate::events::Halt;
+use crate::events::Progress;
+use crate::events::commands;
+use crate::events::reads;
+use crate::events::reset_pin;
+use crate::events::writes;
+use crate::records::Front;
+use crate::records::Header;
+use bus::refusal::KIND_UNKNOWN;
+use bus::registers::Registers;
+
+// The record with this header that stands at an offset of the trace.
+pub fn obey(
+    header: Header,
+    registers: Registers,
+    memory: &mut [u8],
+    trace: &[u8],
+    at: usize,
+) -> Progress
+    requires { ⌜ frontOf (drop at (now trace)) ≡ Front.Whole header ⌝ }
+    ensures { λ r. ⌜ endedOf r (now (memory .exit)) ≡ playRecord theChip (recordAt at (drop at (now (trace .entry)))) (chipOf registers (now (memory .entry))) ⌝ }
+{
+    let kind = header.kind;
+    let length = header.length;
+    let from = at + 4;
+    let to = from + length;
+    match kind {
+        1 => commands(registers, trace, from, to),
+        2 => writes(registers, memory, trace, from, to),
+        3 => reads(registers, memory, trace, from, to),
+        4 => {
+            if length == 0 {
+                return reset_pin(registers, from);
+            }
+            unknown(at, registers)
+        }
+        _ => unknown(at, registers),
+    }
+}
+
+// A record of no known kind, refused at its first byte.
+fn unknown(at: usize, registers: Registers) -> Progress
+    ensures { λ r. ⌜ ((memory : List ℕ) → endedOf r memory ≡ Ended.stopped kindUnknown at (chipOf registers memory)) ⌝ }
+{
+    Progress::Stopped(Halt {
+        number: KIND_UNKNOWN,
+        offset: at,
+        registers,
+    })
+}
