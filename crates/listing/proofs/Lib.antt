@@ -1,1 +1,5 @@
+pub mod Pieces
+pub mod Decimals
+pub mod Walk
+pub mod Lengths
 pub mod Samples
