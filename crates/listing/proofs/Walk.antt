@@ -3,14 +3,15 @@
 use Prim.Native.Nat.{ℕ, zero, suc, _+_, _-_, _≤_, _<_}
 use mathlib.Core.Path.{_≡_, refl, sym, _∙_, ap}
 use mathlib.Core.Bool.{true, false, _||_}
-use mathlib.Core.List.{List, [], _∷_}
+use mathlib.Core.List.{List, [], _∷_, _++_}
 use native.Mathlib.Nat.{add-zero, add-suc, suc-add}
 use native.Mathlib.Numerals.{add-one}
 use native.Mathlib.Omega.{arith}
-use lib.ListN.{length, getD, drop, drop-of-length-le}
+use lib.ListN.{length, getD, drop, length-drop, drop-of-length-le}
 use lib.Seq.{drop-drop}
 use Rattle.listing.proofs.Pieces.{from}
 use Rattle.listing.specs.Runs.{Run, lit, anyLit, leading, runsFrom}
+use Rattle.listing.specs.Text.{runText, runsText}
 
 -- a number that is not 0 is a successor
 above : (b : ℕ) → (b ≡ 0 → ⊥) → b ≡ suc (b - 1)
@@ -65,3 +66,14 @@ runs-here row x h n = rw (from row x h, above _ n, passed-over (suc x) (leading 
 pub runs-end : (row : List ℕ) (x : ℕ) → length row ≤ x → runsFrom x 0 (drop x row) ≡ []
 unfolding runsFrom
 runs-end row x h = rw (drop-of-length-le row h)
+
+-- the text of the runs from a lit place on: the run that ends before `end`, and then the runs from there on
+pub run-text : (row : List ℕ) (x end : ℕ) → x < length row → (getD row x 0 ≡ 0 → ⊥) → end ≡ x + 1 + leading (drop (x + 1) row) → runsText (runsFrom x 0 (drop x row)) ≡ runText (record { first = x; last = end - 1 }) ++ runsText (runsFrom end 0 (drop end row))
+unfolding runsText
+run-text row x end h n e =
+    let last : x + leading (drop (x + 1) row) ≡ end - 1 = omega arith in
+    rw (runs-here row x h n, last, ← e)
+
+-- a run ends within its row
+pub run-within : (row : List ℕ) (x end : ℕ) → x < length row → end ≡ x + 1 + leading (drop (x + 1) row) → end ≤ length row
+run-within row x end h e = omega (arith, leading-length (drop (x + 1) row), length-drop (x + 1) row)

@@ -1,51 +1,62 @@
+-- `listing::frame::put_refused` meets its contract: five pieces one after the other, or none.
+-- Assumes nothing.
 use borrow.Author.Needs.{needs}
 use Rattle.listing.proofs.frame.put_refused.Statement.{statement}
 use Rattle.listing.proofs.frame.put_refused.Tie as tie
-use Rattle.listing.proofs.frame.put_refused.Reads as reads
-use Rattle.listing.proofs.frame.put_refused.Lts as lts
-use Rattle.listing.proofs.text.put.Reads as put-reads
-use Rattle.listing.proofs.text.put_bytes.Reads as put-bytes-reads
-use Rattle.listing.proofs.text.put_number.Reads as put-number-reads
+use native.Mathlib.Omega.{arith}
+use borrow.Author.Tests.{eq-eqb, ne-eqb}
+use Rattle.listing.specs.Ascii.{ascii}
+use Rattle.listing.specs.Text.{refusedText}
+use Rattle.listing.proofs.Pieces.{none, after}
+use Rattle.listing.proofs.Lengths.{refused-length}
 
--- src/frame.rt:30:9
 returns : tie.Need-returns
-returns c = ?
+unfolding refusedText
+returns c = rw (eq-eqb _ _ (c .if1 .taken)) (none _ _)
 
--- src/frame.rt:32:33
 slice-aggregate-put-bytes : tie.Need-slice-aggregate-put-bytes
 slice-aggregate-put-bytes c = search needs
 
--- src/frame.rt:32:9
 put-bytes-requires : tie.Need-put-bytes-requires
-put-bytes-requires c κs = ?
+put-bytes-requires c κs = 
+    let test = c .before .before in
+    omega (arith, refused-length (test .before .before .args .number) (test .before .before .args .offset) (test .if1 .left))
 
--- src/frame.rt:33:9
 put-number-requires : tie.Need-put-number-requires
-put-number-requires c κs = ?
+put-number-requires c κs = 
+    let test = c .before .before .before .before .before .before in
+    omega (arith, refused-length (test .before .before .args .number) (test .before .before .args .offset) (test .if1 .left))
 
--- src/frame.rt:34:32
 slice-aggregate-put-bytes-2 : tie.Need-slice-aggregate-put-bytes-2
 slice-aggregate-put-bytes-2 c = search needs
 
--- src/frame.rt:34:9
 put-bytes-requires-2 : tie.Need-put-bytes-requires-2
-put-bytes-requires-2 c κs = ?
+put-bytes-requires-2 c κs = 
+    let test = c .before .before .before .before .before .before .before .before .before .before .before in
+    omega (arith, refused-length (test .before .before .args .number) (test .before .before .args .offset) (test .if1 .left))
 
--- src/frame.rt:35:9
 put-number-requires-2 : tie.Need-put-number-requires-2
-put-number-requires-2 c κs = ?
+put-number-requires-2 c κs = 
+    let test = c .before .before .before .before .before .before .before .before .before .before .before .before .before .before .before in
+    omega (arith, refused-length (test .before .before .args .number) (test .before .before .args .offset) (test .if1 .left))
 
--- src/frame.rt:36:5
 put-requires : tie.Need-put-requires
-put-requires c κs = ?
+put-requires c κs = 
+    let test = c .before .before .before .before .before .before .before .before .before .before .before .before .before .before .before .before .before .before .before in
+    omega (arith, refused-length (test .before .before .args .number) (test .before .before .args .offset) (test .if1 .left))
 
--- src/frame.rt:25:1
 same-length : tie.Need-same-length
 same-length c = search needs
 
--- src/frame.rt:25:1
 returns-2 : tie.Need-returns-2
-returns-2 c = ?
+unfolding refusedText ascii
+returns-2 c = 
+    let line = c .before .before in
+    let offset = line .before .before .before .before in
+    let word = offset .before .before .before .before in
+    let number = word .before .before .before .before .before in
+    let first = number .before .before .before .before in
+    rw (ne-eqb _ _ (first .before .before .before .if1 .left)) (after (after (after (after (first .put-bytes .ensures) (number .put-number .ensures)) (word .put-bytes2 .ensures)) (offset .put-number2 .ensures)) (line .put .ensures))
 
 pub put-refused-spec : {M : Type 1} → statement M
 put-refused-spec =

@@ -5,11 +5,10 @@ use Rattle.listing.proofs.row.put_run.Statement.{statement}
 use Rattle.listing.proofs.row.put_run.Tie as tie
 use Prim.Native.Nat.{ℕ}
 use native.Mathlib.Omega.{arith}
-use mathlib.Core.Path.{_∙_}
 use Rattle.listing.specs.Ascii.{ascii}
 use Rattle.listing.specs.Runs.{Run}
 use Rattle.listing.specs.Text.{runText}
-use Rattle.listing.proofs.Pieces.{after, put-length}
+use Rattle.listing.proofs.Pieces.{after}
 use Rattle.listing.proofs.Lengths.{run-length}
 
 abbrev run : ℕ → ℕ → Run
@@ -28,12 +27,7 @@ put-number-requires-2 : tie.Need-put-number-requires-2
 put-number-requires-2 c κs = omega (arith, run-length (run (c .before .before .before .before .before .before .before .before .before .before .before .before .before .before .args .first) (c .before .before .before .before .before .before .before .before .before .before .before .before .before .before .args .last)))
 
 same-length : tie.Need-same-length
-same-length c =
-    let last = c .before .before in
-    let dash = last .before .before .before .before in
-    let first = dash .before .before .before .before in
-    let space = first .before .before .before .before in
-    put-length (last .put-number2 .ensures) ∙ put-length (dash .put2 .ensures) ∙ put-length (first .put-number .ensures) ∙ put-length (space .put .ensures)
+same-length c = search needs
 
 returns : tie.Need-returns
 unfolding runText ascii
