@@ -13,8 +13,27 @@ use Rattle.codes.specs.Table.{table, commandOf, operandOf, oneOf}
 use Rattle.codes.specs.Values.{codesOf, Carried, Given}
 use Rattle.codes.specs.declared.Command.{Command}
 use Rattle.codes.specs.declared.Command.the-variants.{
-  ColumnLow, ColumnHigh, ResistorRatio, PowerControl, StartLine, ColumnDirection, Bias, EntireOn, Reverse, QuarterBias, IndicatorOff,
-  DisplayOn, Page, NoPage, RowDirection, EnterReadModifyWrite, SoftwareReset, Nothing, LeaveReadModifyWrite, Await, Outside,
+  ColumnLow,
+  ColumnHigh,
+  ResistorRatio,
+  PowerControl,
+  StartLine,
+  ColumnDirection,
+  Bias,
+  EntireOn,
+  Reverse,
+  QuarterBias,
+  IndicatorOff,
+  DisplayOn,
+  Page,
+  NoPage,
+  RowDirection,
+  EnterReadModifyWrite,
+  SoftwareReset,
+  Nothing,
+  LeaveReadModifyWrite,
+  Await,
+  Outside,
 }
 use Rattle.codes.specs.declared.Operand.{Operand}
 use Rattle.codes.specs.declared.Operand.the-variants.{Contrast, Multiplex, HeldByte, IndicatorMode, Offset, FramePhases, NotAllowed}

@@ -78,7 +78,6 @@ call-past event state memory = on (asked state memory) refl
     on (Legal r) e = (state-past (step event r memory .answer) state, memory-past event r memory (asked-legal state memory r e))
     on (Illegal number) e = (refl, refl)
 
-
 -- nor does the call of a single pulse on the reset pin
 pub reset-call-past : (state memory : List ℕ) → (drop imageSize (resetCall state memory .state) ≡ drop imageSize state) × (resetCall state memory .memory ≡ memory)
 unfolding resetCall concluded refused

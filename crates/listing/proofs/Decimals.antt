@@ -11,7 +11,7 @@ use lib.Dec.{ltb}
 use Rattle.listing.specs.Decimal.{digits, decimal}
 
 -- more steps than n give the same digits
-enough : (f g n : ℕ) → n < f → n < g → digits f n ≡ digits g n
+pub enough : (f g n : ℕ) → n < f → n < g → digits f n ≡ digits g n
 unfolding digits
 enough zero g n p q = absurd (not-suc-le-zero p)
 enough (suc f) zero n p q = absurd (not-suc-le-zero q)

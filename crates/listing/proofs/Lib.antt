@@ -2,4 +2,6 @@ pub mod Pieces
 pub mod Decimals
 pub mod Walk
 pub mod Lengths
+pub mod Longest
+pub mod Outcomes
 pub mod Samples

@@ -31,8 +31,9 @@ none text at = record { counted = sym (add-zero at); stored = refl }
 -- a piece and then another
 pub after : {text : List ℕ} {at : ℕ} {p q : List ℕ} {n m : ℕ} {t u : List ℕ} → Put text at p n t → Put t n q m u → Put text at (p ++ q) m u
 after {text} {at} {p} {q} f g = record {
-    counted = omega (arith, f .counted, g .counted, length-append p q);
-    stored = g .stored ∙ rw (f .counted, f .stored) (sym (sets-append text at p q)) }
+  counted = omega (arith, f .counted, g .counted, length-append p q);
+  stored = g .stored ∙ rw (f .counted, f .stored) (sym (sets-append text at p q));
+}
 
 -- the first piece is counted where both are, and so is the second where the first was put
 pub room : (at : ℕ) (p q : List ℕ) → Countable at (p ++ q) → Countable at p
@@ -51,8 +52,9 @@ begin text at whole = record { counted = refl; stored = refl }
 
 pub turn : {text : List ℕ} {at : ℕ} {whole : List ℕ} {t : List ℕ} {n : ℕ} {p q : List ℕ} {m : ℕ} {u : List ℕ} → Rest text at whole t n (p ++ q) → Put t n p m u → Rest text at whole u m q
 turn {t = t} {n = n} {p = p} {q = q} r f = record {
-    counted = omega (arith, r .counted, f .counted, length-append p q);
-    stored = r .stored ∙ sets-append t n p q ∙ rw (f .counted, f .stored) }
+  counted = omega (arith, r .counted, f .counted, length-append p q);
+  stored = r .stored ∙ sets-append t n p q ∙ rw (f .counted, f .stored);
+}
 
 pub done : {text : List ℕ} {at : ℕ} {whole : List ℕ} {t : List ℕ} {n : ℕ} → Rest text at whole t n [] → Put text at whole n t
 done {n = n} r = record { counted = sym (r .counted ∙ add-zero n); stored = sym (r .stored) }

@@ -55,6 +55,13 @@ passed-over x zero row = rw add-zero
 passed-over x (suc n) [] = refl
 passed-over x (suc n) (b ∷ row) = passed-over (suc x) n row ∙ rw (suc-add, ← add-suc)
 
+-- the place after a run is dark, or there is none: to pass over it too changes nothing
+pub gap : (x : ℕ) (row : List ℕ) → runsFrom x (leading row) row ≡ runsFrom x (suc (leading row)) row
+unfolding runsFrom leading
+gap x [] = refl
+gap x (zero ∷ row) = refl
+gap x (suc b ∷ row) = gap (suc x) row
+
 pub runs-on : (row : List ℕ) (x : ℕ) → x < length row → getD row x 0 ≡ 0 → runsFrom x 0 (drop x row) ≡ runsFrom (x + 1) 0 (drop (x + 1) row)
 unfolding runsFrom
 runs-on row x h e = rw (from row x h, e, add-one x)

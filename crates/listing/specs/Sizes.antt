@@ -12,3 +12,7 @@ rows = 65
 -- bytes of the frame, 8,580
 abbrev pub frameSize : ℕ
 frameSize = rows * width
+
+-- bytes of the longest listing: a buffer of that length is enough for any
+abbrev pub longest : ℕ
+longest = 27408

@@ -53,7 +53,7 @@ part-put-line-end : tie.Need-part-put-line-end Inv-loop μ-loop
 part-put-line-end c = omega arith
 
 put-line-requires : tie.Need-put-line-requires Inv-loop μ-loop
-put-line-requires c κs = 
+put-line-requires c κs =
     let at = c .before .before .before in
     let start = at .before .before .before in
     let frame = now (start .args .frame) in
@@ -67,7 +67,7 @@ loop-less : tie.Need-loop-less Inv-loop μ-loop
 loop-less c = omega arith
 
 loop-again : tie.Need-loop-again Inv-loop μ-loop
-loop-again c = 
+loop-again c =
     let at = c .before .before .before .before .before .before in
     let frame = now (at .before .before .before .args .frame) in
     let p = at .loop .p in
@@ -78,7 +78,7 @@ same-length c = rest-length (c .before .loop .inv .1)
 
 returns : tie.Need-returns Inv-loop μ-loop
 unfolding lines
-returns c = 
+returns c =
     let e : rows - c .before .loop .p ≡ 0 = omega arith in
     done (rw e at (c .before .loop .inv .1))
 

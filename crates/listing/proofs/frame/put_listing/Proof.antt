@@ -1,43 +1,53 @@
+-- `listing::frame::put_listing` meets its contract: four pieces one after the other.
+-- Assumes nothing.
 use borrow.Author.Needs.{needs}
 use Rattle.listing.proofs.frame.put_listing.Statement.{statement}
 use Rattle.listing.proofs.frame.put_listing.Tie as tie
-use Rattle.listing.proofs.frame.put_listing.Reads as reads
-use Rattle.listing.proofs.frame.put_listing.Lts as lts
-use Rattle.listing.proofs.frame.put_lines.Reads as put-lines-reads
-use Rattle.listing.proofs.frame.put_refused.Reads as put-refused-reads
-use Rattle.listing.proofs.text.put_bytes.Reads as put-bytes-reads
+use native.Mathlib.Omega.{arith}
+use denote.Ref.{now}
+use Rattle.listing.specs.Ascii.{ascii}
+use Rattle.listing.specs.Decimal.{digits, decimal}
+use Rattle.listing.specs.Text.{frameText, listingOf}
+use Rattle.listing.proofs.Pieces.{after}
+use Rattle.listing.proofs.Lengths.{listing-length}
 
--- src/frame.rt:18:9
 put-refused-requires : tie.Need-put-refused-requires
-put-refused-requires c κs = ?
+put-refused-requires c κs =
+    let start = c .before .before .before in
+    omega (arith, listing-length (start .args .number) (start .args .offset) (now (start .args .frame)))
 
--- src/frame.rt:19:32
 slice-aggregate-put-bytes : tie.Need-slice-aggregate-put-bytes
 slice-aggregate-put-bytes c = search needs
 
--- src/frame.rt:19:9
 put-bytes-requires : tie.Need-put-bytes-requires
-put-bytes-requires c κs = ?
+put-bytes-requires c κs =
+    let start = c .before .before .before .before .before .before .before .before in
+    omega (arith, listing-length (start .args .number) (start .args .offset) (now (start .args .frame)))
 
--- src/frame.rt:20:9
 put-lines-requires : tie.Need-put-lines-requires
-put-lines-requires c κs = ?
+put-lines-requires c κs =
+    let start = c .before .before .before .before .before .before .before .before .before .before .before .before in
+    (start .pre .0, omega (arith, listing-length (start .args .number) (start .args .offset) (now (start .args .frame))))
 
--- src/frame.rt:21:24
 slice-aggregate-put-bytes-2 : tie.Need-slice-aggregate-put-bytes-2
 slice-aggregate-put-bytes-2 c = search needs
 
--- src/frame.rt:21:5
 put-bytes-requires-2 : tie.Need-put-bytes-requires-2
-put-bytes-requires-2 c κs = ?
+put-bytes-requires-2 c κs =
+    let start = c .before .before .before .before .before .before .before .before .before .before .before .before .before .before .before .before .before in
+    omega (arith, listing-length (start .args .number) (start .args .offset) (now (start .args .frame)))
 
--- src/frame.rt:13:1
 same-length : tie.Need-same-length
 same-length c = search needs
 
--- src/frame.rt:13:1
 returns : tie.Need-returns
-returns c = ?
+unfolding listingOf frameText ascii decimal digits
+returns c =
+    let end = c .before .before in
+    let lines = end .before .before .before .before .before in
+    let header = lines .before .before .before .before in
+    let refused = header .before .before .before .before .before in
+    after (refused .put-refused .ensures) (after (after (header .put-bytes .ensures) (lines .put-lines .ensures)) (end .put-bytes2 .ensures))
 
 pub put-listing-spec : {M : Type 1} → statement M
 put-listing-spec =

@@ -18,12 +18,12 @@ slice-aggregate-put-bytes : tie.Need-slice-aggregate-put-bytes
 slice-aggregate-put-bytes c = search needs
 
 put-bytes-requires : tie.Need-put-bytes-requires
-put-bytes-requires c κs = 
+put-bytes-requires c κs =
     let test = c .before .before in
     omega (arith, refused-length (test .before .before .args .number) (test .before .before .args .offset) (test .if1 .left))
 
 put-number-requires : tie.Need-put-number-requires
-put-number-requires c κs = 
+put-number-requires c κs =
     let test = c .before .before .before .before .before .before in
     omega (arith, refused-length (test .before .before .args .number) (test .before .before .args .offset) (test .if1 .left))
 
@@ -31,17 +31,17 @@ slice-aggregate-put-bytes-2 : tie.Need-slice-aggregate-put-bytes-2
 slice-aggregate-put-bytes-2 c = search needs
 
 put-bytes-requires-2 : tie.Need-put-bytes-requires-2
-put-bytes-requires-2 c κs = 
+put-bytes-requires-2 c κs =
     let test = c .before .before .before .before .before .before .before .before .before .before .before in
     omega (arith, refused-length (test .before .before .args .number) (test .before .before .args .offset) (test .if1 .left))
 
 put-number-requires-2 : tie.Need-put-number-requires-2
-put-number-requires-2 c κs = 
+put-number-requires-2 c κs =
     let test = c .before .before .before .before .before .before .before .before .before .before .before .before .before .before .before in
     omega (arith, refused-length (test .before .before .args .number) (test .before .before .args .offset) (test .if1 .left))
 
 put-requires : tie.Need-put-requires
-put-requires c κs = 
+put-requires c κs =
     let test = c .before .before .before .before .before .before .before .before .before .before .before .before .before .before .before .before .before .before .before in
     omega (arith, refused-length (test .before .before .args .number) (test .before .before .args .offset) (test .if1 .left))
 
@@ -50,7 +50,7 @@ same-length c = search needs
 
 returns-2 : tie.Need-returns-2
 unfolding refusedText ascii
-returns-2 c = 
+returns-2 c =
     let line = c .before .before in
     let offset = line .before .before .before .before in
     let word = offset .before .before .before .before in

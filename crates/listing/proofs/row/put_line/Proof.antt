@@ -15,19 +15,19 @@ any-lit-requires : tie.Need-any-lit-requires
 any-lit-requires c κs = search needs
 
 put-number-requires : tie.Need-put-number-requires
-put-number-requires c κs = 
+put-number-requires c κs =
     let any = c .before .before in
     let start = any .before .before .before in
     omega (arith, line-length (start .args .p) (now (start .args .row)) (sym (any .any-lit .ensures) ∙ c .before .if1 .taken))
 
 put-runs-requires : tie.Need-put-runs-requires
-put-runs-requires c κs = 
+put-runs-requires c κs =
     let test = c .before .before .before .before .before in
     let start = test .before .before .before .before in
     omega (arith, line-length (start .args .p) (now (start .args .row)) (sym (test .before .any-lit .ensures) ∙ test .if1 .taken))
 
 put-requires : tie.Need-put-requires
-put-requires c κs = 
+put-requires c κs =
     let test = c .before .before .before .before .before .before .before .before .before in
     let start = test .before .before .before .before in
     omega (arith, line-length (start .args .p) (now (start .args .row)) (sym (test .before .any-lit .ensures) ∙ test .if1 .taken))
@@ -37,7 +37,7 @@ same-length c = search needs
 
 returns : tie.Need-returns
 unfolding line ascii
-returns c = 
+returns c =
     let end = c .before .before in
     let runs = end .before .before .before .before in
     let number = runs .before .before .before .before in

@@ -31,7 +31,7 @@ loop-less : tie.Need-loop-less Inv-loop μ-loop
 loop-less c = omega arith
 
 loop-again : tie.Need-loop-again Inv-loop μ-loop
-loop-again c = 
+loop-again c =
     let at = c .before .before .before in
     (omega arith, rw (runs-on (now (at .before .before .before .args .row)) (at .loop .x) (c .before .before .loop-test .taken) (c .if1 .taken)) at (at .loop .inv .1))
 
@@ -45,7 +45,7 @@ sub-put-run : tie.Need-sub-put-run Inv-loop μ-loop
 sub-put-run c = omega arith
 
 put-run-requires : tie.Need-put-run-requires Inv-loop μ-loop
-put-run-requires c κs = 
+put-run-requires c κs =
     let test = c .before .before in
     let at = test .before .before .before in
     let start = at .before .before .before in
@@ -55,13 +55,14 @@ loop-less-2 : tie.Need-loop-less-2 Inv-loop μ-loop
 loop-less-2 c = omega arith
 
 loop-again-2 : tie.Need-loop-again-2 Inv-loop μ-loop
-loop-again-2 c = 
+loop-again-2 c =
     let end = c .before .before .before .before in
     let at = end .before .before .before .before in
     let row = now (at .before .before .before .args .row) in
-    let inside = end .before .before .before .loop-test .taken in
-    (run-within row (at .loop .x) (end .run-end .result) inside (end .run-end .ensures),
-    turn (rw (run-text row (at .loop .x) (end .run-end .result) inside (end .before .if1 .left) (end .run-end .ensures)) at (at .loop .inv .1)) (c .before .before .put-run .ensures))
+    let inside = end .before .before .before .loop-test .taken in (
+      run-within row (at .loop .x) (end .run-end .result) inside (end .run-end .ensures),
+      turn (rw (run-text row (at .loop .x) (end .run-end .result) inside (end .before .if1 .left) (end .run-end .ensures)) at (at .loop .inv .1)) (c .before .before .put-run .ensures),
+    )
 
 same-length : tie.Need-same-length Inv-loop μ-loop
 same-length c = rest-length (c .before .loop .inv .1)

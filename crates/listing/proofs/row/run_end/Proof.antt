@@ -34,7 +34,7 @@ loop-less : tie.Need-loop-less Inv-loop μ-loop
 loop-less c = omega arith
 
 loop-again : tie.Need-loop-again Inv-loop μ-loop
-loop-again c = 
+loop-again c =
     let before = c .before .before .before in
     (omega arith, omega (arith, before .loop .inv .1, leading-on (now (before .before .args .row)) (before .loop .x) (c .before .before .loop-test .taken) (c .if1 .left)))
 
