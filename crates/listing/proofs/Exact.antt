@@ -68,6 +68,7 @@ exact-from x zero (suc b ∷ row) (suc y) h = by (ltb y (leading row)) refl (exa
   where
     run : Run
     run = record { first = x; last = x + leading row }
+
     by : (t : Bool) → ltb y (leading row) ≡ t → (leading row ≤ y → covered (runsFrom (suc x) (leading row) row) (suc x + y) ≡ lit (getD row y 0)) → (inside run (x + suc y) || covered (runsFrom (suc x) (leading row) row) (x + suc y)) ≡ lit (getD row y 0)
     by true e more = let h = ltb-true y (leading row) e in rw (within run (x + suc y) (omega arith) (omega (arith, h)), leading-lit row y h)
     by false e more = let h = ltb-false y (leading row) e in rw (right-of run (x + suc y) (omega (arith, h)), add-suc, ← suc-add) (more h)
@@ -76,8 +77,9 @@ exact-from x zero (suc b ∷ row) (suc y) h = by (ltb y (leading row)) refl (exa
 pub runs-are : (row : List ℕ) → LongestRuns row (runs row)
 unfolding runs
 runs-are row = record {
-    exact = λ x. ap (covered (runsFrom 0 0 row)) (sym (zero-add x)) ∙ exact-from 0 0 row x (omega arith);
-    apart = apart-from 0 0 row }
+  exact = λ x. ap (covered (runsFrom 0 0 row)) (sym (zero-add x)) ∙ exact-from 0 0 row x (omega arith);
+  apart = apart-from 0 0 row;
+}
 
 -- Two lists of runs that stand apart and cover the same places.
 module _ (r s : Run) (rs ss : List Run) (a : Apart (r .first) (r ∷ rs)) (b : Apart (s .first) (s ∷ ss)) (agree : (y : ℕ) → covered (r ∷ rs) y ≡ covered (s ∷ ss) y) where
@@ -167,8 +169,10 @@ stretch z (run ∷ more) a x y h all = by (inside run x) (inside run y) refl ref
     -- past this run a covered place is the next runs'
     past : (p : ℕ) → run .last < p → x ≤ p → p ≤ y → run .last + 2 ≤ p
     past p l f t = is-after (run .last + 2) more (a .2) p (rw (right-of run p l) at (all p f t))
+
     next : inside run x ≡ false → run .last < x
     next d = let e = is-after (run .last + 2) more (a .2) x (rw d at (all x (omega arith) h)) in omega (arith, e)
+
     by : (t u : Bool) → inside run x ≡ t → inside run y ≡ u → (((p : ℕ) → x ≤ p → p ≤ y → covered more p ≡ true) → together more x y ≡ true) → ((t && u) || together more x y) ≡ true
     by true true d e rest = refl
     by true false d e rest =

@@ -8,26 +8,28 @@ use mathlib.Core.List.{List, [], _∷_, _++_}
 use native.Mathlib.Nat.{not-suc-le-zero, eq-or-lt-of-le, add-zero, add-suc, suc-add, pow-suc}
 use native.Mathlib.Numerals.{add-one}
 use native.Mathlib.Omega.{arith}
-use borrow.Author.Tests.{ltb-true, ltb-false, leb-true, eqb-false}
+use borrow.Author.Tests.{ltb-true, ltb-false, lt-ltb, leb-true, eqb-false}
 use lib.Dec.{ltb, leb, eqb, lit≤}
+use lib.Seq.{drop-append-add}
 use lib.ListN.{length, length-append, length-take, length-drop, drop, take}
 use Rattle.listing.specs.Sizes.{width, rows, longest}
 use Rattle.listing.specs.Ascii.{ascii}
 use Rattle.listing.specs.Decimal.{digits, decimal}
-use Rattle.listing.specs.Runs.{Run, anyLit, leading, runsFrom, runs}
+use Rattle.listing.specs.Runs.{Run, lit, anyLit, leading, runsFrom, runs}
 use Rattle.listing.specs.Text.{runText, runsText, line, rowOf, lines, frameText, refusedText, listingOf}
-use Rattle.listing.proofs.Decimals.{enough, one-digit, more-digits}
 use Rattle.listing.proofs.Walk.{leading-length, gap}
 use Rattle.listing.proofs.Lengths.{run-length, line-length, refused-length, listing-length}
 
 -- a number below 10 to the k has at most k digits
-few-digits : (k n : ℕ) → n < 10 ^ suc k → length (decimal n) ≤ suc k
-few-digits zero n h = rw (one-digit n h) (lit≤ tt)
-few-digits (suc k) n h = by (ltb n 10) refl (few-digits k (n / 10) (omega (arith, h, pow-suc 10 (suc k))))
+few-digits : (f k n : ℕ) → n < 10 ^ suc k → length (digits f n) ≤ suc k
+unfolding digits
+few-digits zero k n h = omega arith
+few-digits (suc f) zero n h = rw (lt-ltb n 10 h) (lit≤ tt)
+few-digits (suc f) (suc k) n h = by (ltb n 10) (few-digits f k (n / 10) (omega (arith, h, pow-suc 10 (suc k))))
   where
-    by : (t : Bool) → ltb n 10 ≡ t → length (decimal (n / 10)) ≤ suc k → length (decimal n) ≤ suc (suc k)
-    by true e r = rw (one-digit n (ltb-true n 10 e)) (omega arith)
-    by false e r = omega (arith, r, ap length (more-digits n (ltb-false n 10 e)), length-append (decimal (n / 10)) ((48 + n % 10) ∷ []))
+    by : (t : Bool) → length (digits f (n / 10)) ≤ suc k → length (cond t [] (digits f (n / 10)) ++ ((48 + n % 10) ∷ [])) ≤ suc (suc k)
+    by true r = omega arith
+    by false r = omega (arith, r, length-append (digits f (n / 10)) ((48 + n % 10) ∷ []))
 
 -- a larger number has no fewer digits
 digits-rise : (f m n : ℕ) → m ≤ n → length (digits f m) ≤ length (digits f n)
@@ -44,7 +46,7 @@ digits-rise (suc f) m n h =
 
 width-rises : (m n : ℕ) → m ≤ n → length (decimal m) ≤ length (decimal n)
 unfolding decimal
-width-rises m n h = rw (enough (suc m) (suc n) m (omega arith) (omega (arith, h))) (digits-rise (suc n) m n h)
+width-rises m n h = digits-rise 20 m n h
 
 -- What the runs of the last n places of a row can take: most where every second place is lit, from the first of them on.
 most : ℕ → ℕ
@@ -133,19 +135,50 @@ lines-most frame (suc n) p =
     (omega (arith, line-most p row (omega (arith, length-take width (drop (p * width) frame))), lines-most frame n (suc p)))
 
 refused-most : (number offset : ℕ) → number < 256 → offset < 2 ^ 64 → length (refusedText number offset) ≤ 36
-unfolding refusedText
+unfolding refusedText decimal
 refused-most number offset h k = by (eqb number 0) refl
   where
     by : (t : Bool) → eqb number 0 ≡ t → length (refusedText number offset) ≤ 36
     by true e = rw e (omega arith)
     by false e =
-        omega (arith, refused-length number offset (eqb-false number 0 e), few-digits 2 number (omega (arith, h)), few-digits 19 offset (omega (arith, k)))
+        omega (arith, refused-length number offset (eqb-false number 0 e), few-digits 20 2 number (omega (arith, h)), few-digits 20 19 offset (omega (arith, k)))
+
+lines-all : tall rows 0 ≡ 27355
+unfolding tall most decimal digits
+lines-all = refl
 
 -- no listing is longer
 pub at-most : (number offset : ℕ) (frame : List ℕ) → number < 256 → offset < 2 ^ 64 → length (listingOf number offset frame) ≤ longest
-unfolding tall most decimal digits
 at-most number offset frame h k =
-    omega (arith, listing-length number offset frame, refused-most number offset h k, lines-most frame rows 0, all)
-  where
-    all : tall rows 0 ≡ 27355
-    all = refl
+    omega (arith, listing-length number offset frame, refused-most number offset h k, lines-most frame rows 0, lines-all)
+
+-- places lit and dark by turns, and rows of them
+abbrev turns : ℕ → List ℕ
+turns zero = []
+turns (suc n) = 1 ∷ 0 ∷ turns n
+
+abbrev pub striped : ℕ → List ℕ
+striped zero = []
+striped (suc n) = turns 66 ++ striped n
+
+stripe : (n p : ℕ) → p < n → rowOf width (striped n) p ≡ turns 66
+unfolding rowOf
+stripe zero p h = absurd (not-suc-le-zero h)
+stripe (suc n) zero h = refl
+stripe (suc n) (suc p) h =
+    let e : suc p * width ≡ 132 + p * width = omega arith in
+    rw (e, drop-append-add (turns 66) (striped n) (p * width)) (stripe n p (omega (arith, h)))
+
+stripe-lines : (n p : ℕ) → p + n ≤ rows → length (lines width (striped rows) n p) ≡ tall n p
+unfolding lines tall most decimal digits lit anyLit leading runsFrom runs runText runsText ascii
+stripe-lines zero p h = refl
+stripe-lines (suc n) p h =
+    rw (length-append, stripe rows p (omega (arith, h)), line-length p (turns 66) refl, stripe-lines n (suc p) (omega (arith, h)))
+
+refused-all : length (refusedText 255 (2 ^ 64 - 1)) ≡ 36
+unfolding refusedText ascii decimal digits
+refused-all = refl
+
+-- and one is that long
+pub reached : length (listingOf 255 (2 ^ 64 - 1) (striped rows)) ≡ longest
+reached = listing-length 255 (2 ^ 64 - 1) (striped rows) ∙ rw (refused-all, stripe-lines rows 0 (lit≤ tt), lines-all)

@@ -81,7 +81,7 @@ put-number-put-number-requires : (t : ℕ) → put-number-lts.Need-put-number-re
 put-number-put-number-requires t c κs =
     let start = c .before .before .before in
     let number = start .args .number in
-    (omega arith, room (start .args .at) (decimal (number / 10)) ((48 + number % 10) ∷ []) (rw (more-digits number (c .before .if1 .left)) at (start .pre .1)))
+    (omega arith, room (start .args .at) (decimal (number / 10)) ((48 + number % 10) ∷ []) (rw (more-digits number (c .before .if1 .left) (start .fits .number .fits)) at (start .pre .1)))
 
 put-number-put-requires-2 : (t : ℕ) → put-number-lts.Need-put-requires-2 (
   put-reads.Asked,
@@ -92,7 +92,7 @@ put-number-put-requires-2 : (t : ℕ) → put-number-lts.Need-put-requires-2 (
 put-number-put-requires-2 t c κs =
     let put = c .before .before .before in
     let start = put .before .before .before .before in
-    room-after (put .put-number .ensures) _ (rw (more-digits (start .args .number) (put .before .before .if1 .left)) at (start .pre .1))
+    room-after (put .put-number .ensures) _ (rw (more-digits (start .args .number) (put .before .before .if1 .left) (start .fits .number .fits)) at (start .pre .1))
 
 put-number-same-length-2 : (t : ℕ) → put-number-lts.Need-same-length-2 (
   put-reads.Asked,
@@ -110,7 +110,8 @@ put-number-returns-2 : (t : ℕ) → put-number-lts.Need-returns-2 (
 ) (put-number-at t) put-number.Post
 put-number-returns-2 t c =
     let put = c .before .before .before .before .before .before in
-    rw (more-digits (put .before .before .before .before .args .number) (put .before .before .if1 .left)) (after (put .put-number .ensures) (c .before .before .put2 .ensures))
+    let start = put .before .before .before .before in
+    rw (more-digits (start .args .number) (put .before .before .if1 .left) (start .fits .number .fits)) (after (put .put-number .ensures) (c .before .before .put2 .ensures))
 
 pub +put-number-spec : {M : Type 1} → statement M
 +put-number-spec = close μ-put-number λ t. put-number-lts.spec (
