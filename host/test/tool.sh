@@ -109,7 +109,7 @@ run show "$here/sample.trace"
 check 'show: status 0' status_is 0
 blocks=$(printf '▀%.0s' {1..132})
 check 'show: 32 lines of panel rows, 1 of icons, 3 edges' [ "$(wc -l < "$here/out")" -eq 36 ]
-check 'show: rows 0 and 1' line_is 2 "│█▀$(printf '%130s')│"
+check 'show: rows 0 and 1' line_is 2 "│█▀$(printf '%130s' '')│"
 run show < <(bytes 03 00 01 00 A5 AF B9)
 check 'show: a refused run, status 1' status_is 1
 check 'show: the place in words' out_has 'refused 4 at 6: B9 to BF name no page'
