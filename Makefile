@@ -128,10 +128,11 @@ $(LIBRARY): crates.txt $(wildcard crates/*/src/*.rt)
 
 $(TOOL): $(call objects,host/tool/*.c) $(LINKED)
 $(COMPARE): $(call objects,host/compare/*.c) $(LINKED) \
-            $(OUT)/host/tool/listing.o $(OUT)/host/tool/played.o
+            $(addprefix $(OUT)/host/tool/,listing.o played.o registers.o)
 $(CALLS): $(OUT)/host/test/calls.o $(OUT)/host/compare/room.o $(LINKED)
 $(SAMPLES): $(OUT)/host/test/samples.o $(LINKED)
-$(BENCH): $(OUT)/bench/bench.o $(OUT)/bench/plain.o $(LINKED)
+$(BENCH): $(OUT)/bench/bench.o $(OUT)/bench/workloads.o $(OUT)/bench/plain.o \
+          $(LINKED)
 
 $(TOOL) $(COMPARE) $(CALLS) $(SAMPLES) $(BENCH):
 	$(CC) $(CFLAGS) $^ -o $@

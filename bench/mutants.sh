@@ -19,10 +19,10 @@ stream=$out/cases
   --draws 2000 --listings 200 > "$stream"
 
 # The tests themselves are compiled once, without the model.
-for source in host/compare/*.c host/tool/{listing,played}.c host/test/{calls,samples}.c; do
+for source in host/compare/*.c host/tool/{listing,played,registers}.c host/test/{calls,samples}.c; do
   "$cc" -std=c11 -O2 "${include[@]}" -c "$source" -o "$out/$(basename "$source" .c).o"
 done
-compare=("$out"/{compare,stream,room,report,tally,events,runs,draws,listings,listing,played}.o)
+compare=("$out"/{compare,stream,room,report,tally,events,runs,draws,listings,listing,played,registers}.o)
 
 # Compiles a plain.c as the model.
 compile() {

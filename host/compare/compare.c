@@ -13,13 +13,13 @@
 #include "tally.h"
 
 static const char usage[] =
-  "usage: compare [--made-by COMMAND] [--at-least EVENTS FRAMES] < STREAM\n"
+  "usage: compare [--shown-by COMMAND] [--at-least EVENTS FRAMES] < STREAM\n"
   "\n"
   "Makes every call of the oracle's stream of cases (oracle/README.md) on the\n"
   "library, and compares all that it answers and leaves.\n"
   "\n"
-  "  --made-by COMMAND          what wrote the stream, to be printed with a\n"
-  "                             difference\n"
+  "  --shown-by COMMAND         what shows a case of the stream, to be printed\n"
+  "                             with a difference\n"
   "  --at-least EVENTS FRAMES   fewer single events or drawn frames, or a\n"
   "                             number that no call gave, are a failure\n"
   "\n"
@@ -27,7 +27,7 @@ static const char usage[] =
   "wrong command line.\n";
 
 struct options {
-  const char *made_by;
+  const char *shown_by;
   bool at_least;
   unsigned long events;
   unsigned long frames;
@@ -51,13 +51,13 @@ static unsigned long number_of(const char *text)
 
 static struct options options_of(int argc, char **argv)
 {
-  struct options options = { NULL, false, 0, 0 };
+  struct options options = { "oracle show < STREAM", false, 0, 0 };
   for (int i = 1; i < argc; i++) {
     if (strcmp(argv[i], "--help") == 0) {
       fputs(usage, stdout);
       exit(0);
-    } else if (strcmp(argv[i], "--made-by") == 0 && i + 1 < argc) {
-      options.made_by = argv[++i];
+    } else if (strcmp(argv[i], "--shown-by") == 0 && i + 1 < argc) {
+      options.shown_by = argv[++i];
     } else if (strcmp(argv[i], "--at-least") == 0 && i + 2 < argc) {
       options.at_least = true;
       options.events = number_of(argv[++i]);
@@ -117,7 +117,7 @@ static unsigned long compare_all(void)
 int main(int argc, char **argv)
 {
   struct options options = options_of(argc, argv);
-  report_begin(options.made_by);
+  report_begin(options.shown_by);
   events_open();
   runs_open();
   draws_open();

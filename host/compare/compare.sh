@@ -20,5 +20,5 @@ cases=("$oracle" cases --seed "$seed"
   --runs $((5000 * times)) --draws $((26000 * times))
   --listings $((500 * times)))
 
-"${cases[@]}" | "$@" --made-by "${cases[*]}" \
+"${cases[@]}" | "$@" --shown-by "${cases[*]} | $oracle show" \
   --at-least $((1200000 * times)) $((20000 * times))

@@ -47,11 +47,11 @@ void compare_draw(struct body *body)
                                 memory_room.lent, memory_room.length,
                                 frame_room.lent, frame_room.length);
   tally_add(CALL_DRAW, found);
-  same_number("number", number, found);
-  same_bytes("frame", frame, frame_room.lent, frame_length);
-  same_bytes("state", state.at, state_room.lent, state.length);
-  same_bytes("memory", memory.at, memory_room.lent, memory.length);
-  same_guards("frame", &frame_room);
-  same_guards("state", &state_room);
-  same_guards("memory", &memory_room);
+  same_number(THE_NUMBER, number, found);
+  same_bytes(THE_FRAME, frame, frame_room.lent, frame_length);
+  same_bytes(THE_STATE, state.at, state_room.lent, state.length);
+  same_bytes(THE_MEMORY, memory.at, memory_room.lent, memory.length);
+  same_guards(THE_FRAME, &frame_room);
+  same_guards(THE_STATE, &state_room);
+  same_guards(THE_MEMORY, &memory_room);
 }

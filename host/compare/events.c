@@ -35,8 +35,8 @@ static struct answer read_call(void)
                                 dummy);
   answer.byte = *byte;
   answer.dummy = *dummy;
-  same_guards("the byte read", &byte_room);
-  same_guards("the dummy mark", &dummy_room);
+  same_guards(THE_BYTE, &byte_room);
+  same_guards(THE_DUMMY, &dummy_room);
   tally_add(CALL_READ, answer.number);
   return answer;
 }
@@ -78,15 +78,15 @@ static bool compare_event(struct event event, struct answer expected,
     memory_after[change.index] = change.value;
   }
   struct answer found = call(event);
-  bool same = same_number("number", expected.number, found.number);
-  same &= same_number("byte", expected.byte, found.byte);
-  same &= same_number("dummy", expected.dummy, found.dummy);
-  same &= same_bytes("state", state_after.at, state_room.lent,
+  bool same = same_number(THE_NUMBER, expected.number, found.number);
+  same &= same_number(THE_BYTE, expected.byte, found.byte);
+  same &= same_number(THE_DUMMY, expected.dummy, found.dummy);
+  same &= same_bytes(THE_STATE, state_after.at, state_room.lent,
                      state_after.length);
-  same &= same_bytes("memory", memory_after, memory_room.lent,
+  same &= same_bytes(THE_MEMORY, memory_after, memory_room.lent,
                      memory_room.length);
-  same &= same_guards("state", &state_room);
-  same &= same_guards("memory", &memory_room);
+  same &= same_guards(THE_STATE, &state_room);
+  same &= same_guards(THE_MEMORY, &memory_room);
   return same;
 }
 
@@ -134,6 +134,6 @@ void compare_sequence(struct body *body)
   take_nothing_more(body);
   if (same) {
     report_call("the memory after all events");
-    same_bytes("memory", last.at, memory_room.lent, last.length);
+    same_bytes(THE_MEMORY, last.at, memory_room.lent, last.length);
   }
 }

@@ -45,7 +45,7 @@ static void compare_calls(struct bytes trace, struct bytes text)
   size_t *length = (void *)room_lend(&length_room, junk, sizeof(size_t));
 
   report_call("start");
-  same_number("number", SSD1815B_TAKEN,
+  same_number(THE_NUMBER, SSD1815B_TAKEN,
               ssd1815b_start(state, SSD1815B_STATE_SIZE, memory,
                              SSD1815B_MEMORY_SIZE));
   report_call("run");
@@ -55,7 +55,7 @@ static void compare_calls(struct bytes trace, struct bytes text)
                                 SSD1815B_MEMORY_SIZE, trace_room.lent,
                                 trace.length, &offset, &count);
   report_call("draw");
-  same_number("number", SSD1815B_TAKEN,
+  same_number(THE_NUMBER, SSD1815B_TAKEN,
               ssd1815b_draw(state, SSD1815B_STATE_SIZE, memory,
                             SSD1815B_MEMORY_SIZE, frame, SSD1815B_FRAME_SIZE));
   static uint8_t drawn[SSD1815B_FRAME_SIZE];
@@ -65,19 +65,31 @@ static void compare_calls(struct bytes trace, struct bytes text)
   uint8_t found = ssd1815b_list(number, offset, frame, SSD1815B_FRAME_SIZE,
                                 listed, SSD1815B_TEXT_SIZE, length);
   tally_add(CALL_LIST, found);
-  same_number("number", SSD1815B_TAKEN, found);
-  if (same_number("length", text.length, *length)) {
-    same_bytes("text", text.at, listed, text.length);
-    same_bytes("the text buffer after the text", junk + text.length,
+  same_number(THE_NUMBER, SSD1815B_TAKEN, found);
+  if (same_number(THE_LENGTH, text.length, *length)) {
+    same_bytes(THE_TEXT, text.at, listed, text.length);
+    same_bytes(AFTER_THE_TEXT, junk + text.length,
                listed + text.length, SSD1815B_TEXT_SIZE - text.length);
   }
-  same_bytes("frame", drawn, frame, SSD1815B_FRAME_SIZE);
-  same_guards("state", &state_room);
-  same_guards("memory", &memory_room);
-  same_guards("trace", &trace_room);
-  same_guards("frame", &frame_room);
-  same_guards("text", &text_room);
-  same_guards("length", &length_room);
+  same_bytes(THE_FRAME, drawn, frame, SSD1815B_FRAME_SIZE);
+  same_guards(THE_STATE, &state_room);
+  same_guards(THE_MEMORY, &memory_room);
+  same_guards(THE_TRACE, &trace_room);
+  same_guards(THE_FRAME, &frame_room);
+  same_guards(THE_TEXT, &text_room);
+  same_guards(THE_LENGTH, &length_room);
+}
+
+static void compare_tool(struct bytes trace, struct bytes text)
+{
+  static struct played played;
+  static uint8_t listed[SSD1815B_TEXT_SIZE];
+  size_t length;
+  report_call("the tool's listing");
+  listing_of(&played, trace.at, trace.length, listed, &length);
+  if (same_number(THE_LENGTH, text.length, length)) {
+    same_bytes(THE_TEXT, text.at, listed, length);
+  }
 }
 
 void compare_listing(struct body *body)
@@ -90,13 +102,7 @@ void compare_listing(struct body *body)
 
   if (trace.length <= LISTING_LONGEST_TRACE) {
     compare_calls(trace, text);
-  }
-  report_call("the tool's listing");
-  static struct played played;
-  static uint8_t listed[SSD1815B_TEXT_SIZE];
-  size_t length;
-  listing_of(&played, trace.at, trace.length, listed, &length);
-  if (same_number("length", text.length, length)) {
-    same_bytes("text", text.at, listed, length);
+  } else {
+    compare_tool(trace, text);
   }
 }

@@ -6,10 +6,13 @@
 #include <string.h>
 #include <unistd.h>
 
+#include "registers.h"
+#include "ssd1815b.h"
+
 enum { ENOUGH = 10 };
 
 static struct {
-  const char *made_by;
+  const char *shown_by;
   const char *what;       /* the kind of the case */
   unsigned long number;   /* of the case */
   bool begun;
@@ -41,17 +44,10 @@ static void describe(char *text, size_t size)
 {
   char call[64];
   describe_call(call, sizeof call);
-  if (now.made_by != NULL) {
-    snprintf(text, size,
-             "case %lu: %s: %s\n"
-             "  to show it: %s | oracle show --from %lu --count 1\n",
-             now.number, now.what, call, now.made_by, now.number);
-  } else {
-    snprintf(text, size,
-             "case %lu: %s: %s\n"
-             "  to show it: oracle show --from %lu --count 1 < STREAM\n",
-             now.number, now.what, call, now.number);
-  }
+  snprintf(text, size,
+           "case %lu, %s: %s\n"
+           "  to show it: %s --from %lu --count 1\n",
+           now.number, now.what, call, now.shown_by, now.number);
 }
 
 /*
@@ -71,9 +67,9 @@ static void stepped_outside(int signal_number)
   _exit(1);
 }
 
-void report_begin(const char *made_by)
+void report_begin(const char *shown_by)
 {
-  now.made_by = made_by;
+  now.shown_by = shown_by;
   struct sigaction action;
   memset(&action, 0, sizeof action);
   action.sa_handler = stepped_outside;
@@ -115,18 +111,41 @@ static void differ(void)
   }
 }
 
-bool same_number(const char *what, uint64_t expected, uint64_t found)
+static const char *const things[] = {
+  [THE_NUMBER] = "number", [THE_BYTE] = "byte", [THE_DUMMY] = "dummy",
+  [THE_OFFSET] = "offset", [THE_COUNT] = "count", [THE_LENGTH] = "length",
+  [THE_STATE] = "state", [THE_MEMORY] = "memory", [THE_FRAME] = "frame",
+  [THE_TRACE] = "trace", [THE_TEXT] = "text",
+  [AFTER_THE_TEXT] = "the text buffer after the text"
+};
+
+/* A byte of a thing, by the name that document 01 has for it. */
+static void print_place(enum thing thing, size_t place)
+{
+  fprintf(stderr, "  %s: byte %zu", things[thing], place);
+  if (thing == THE_STATE && place < SSD1815B_STATE_SIZE) {
+    fprintf(stderr, " (%s)", register_name((int)place));
+  } else if (thing == THE_MEMORY && place < SSD1815B_MEMORY_SIZE) {
+    fprintf(stderr, " (page %zu column %zu)", place / SSD1815B_COLUMNS,
+            place % SSD1815B_COLUMNS);
+  } else if (thing == THE_FRAME && place < SSD1815B_FRAME_SIZE) {
+    fprintf(stderr, " (row %zu place %zu)", place / SSD1815B_COLUMNS,
+            place % SSD1815B_COLUMNS);
+  }
+}
+
+bool same_number(enum thing thing, uint64_t expected, uint64_t found)
 {
   if (expected == found) {
     return true;
   }
   differ();
-  fprintf(stderr, "  %s: expected %llu, found %llu\n", what,
+  fprintf(stderr, "  %s: expected %llu, found %llu\n", things[thing],
           (unsigned long long)expected, (unsigned long long)found);
   return false;
 }
 
-bool same_bytes(const char *what, const uint8_t *expected,
+bool same_bytes(enum thing thing, const uint8_t *expected,
                 const uint8_t *found, size_t length)
 {
   if (length == 0 || memcmp(expected, found, length) == 0) {
@@ -141,20 +160,20 @@ bool same_bytes(const char *what, const uint8_t *expected,
       count++;
     }
   }
-  fprintf(stderr, "  %s: byte %zu: expected %02X, found %02X"
-          " (%zu of %zu bytes differ)\n", what, first, expected[first],
-          found[first], count, length);
+  print_place(thing, first);
+  fprintf(stderr, ": expected %02X, found %02X; %zu of %zu bytes differ\n",
+          expected[first], found[first], count, length);
   return false;
 }
 
-bool same_guards(const char *what, struct room *room)
+bool same_guards(enum thing thing, struct room *room)
 {
   if (room_intact(room)) {
     return true;
   }
   differ();
-  fprintf(stderr, "  %s: a byte outside the %zu lent ones was written\n", what,
-          room->length);
+  fprintf(stderr, "  %s: a byte outside the %zu lent ones was written\n",
+          things[thing], room->length);
   room_mend(room);
   return false;
 }

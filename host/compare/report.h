@@ -11,9 +11,14 @@
 #include "room.h"
 #include "stream.h"
 
-/* Begins the report.  made_by is the command that wrote the stream, for the
-** reader who wants to see a case; null if it is not known. */
-void report_begin(const char *made_by);
+/* What is compared. */
+enum thing { THE_NUMBER, THE_BYTE, THE_DUMMY, THE_OFFSET, THE_COUNT,
+             THE_LENGTH, THE_STATE, THE_MEMORY, THE_FRAME, THE_TRACE, THE_TEXT,
+             AFTER_THE_TEXT };
+
+/* Begins the report.  shown_by is the command that shows a case of the stream
+** if ` --from N --count 1` is put after it. */
+void report_begin(const char *shown_by);
 
 /* The next case of the stream; they count from 0. */
 void report_case(const char *what);
@@ -24,10 +29,10 @@ void report_event(size_t index, struct event event);
 
 /* Each compares one thing, prints a difference, and answers whether there
 ** is none. */
-bool same_number(const char *what, uint64_t expected, uint64_t found);
-bool same_bytes(const char *what, const uint8_t *expected,
+bool same_number(enum thing thing, uint64_t expected, uint64_t found);
+bool same_bytes(enum thing thing, const uint8_t *expected,
                 const uint8_t *found, size_t length);
-bool same_guards(const char *what, struct room *room);
+bool same_guards(enum thing thing, struct room *room);
 
 /* How many cases differ; whether that is enough to stop. */
 unsigned report_differences(void);

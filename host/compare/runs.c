@@ -48,15 +48,15 @@ void compare_run(struct body *body)
                                trace_room.lent, trace_room.length,
                                offset_at, count_at);
   tally_add(CALL_RUN, found);
-  same_number("number", number, found);
-  same_number("offset", offset, *(size_t *)offset_at);
-  same_number("count", count, *(size_t *)count_at);
-  same_bytes("state", state_after.at, state_room.lent, state_after.length);
-  same_bytes("memory", memory_after.at, memory_room.lent, memory_after.length);
-  same_bytes("trace", trace.at, trace_room.lent, trace.length);
-  same_guards("state", &state_room);
-  same_guards("memory", &memory_room);
-  same_guards("trace", &trace_room);
-  same_guards("offset", &offset_room);
-  same_guards("count", &count_room);
+  same_number(THE_NUMBER, number, found);
+  same_number(THE_OFFSET, offset, *(size_t *)offset_at);
+  same_number(THE_COUNT, count, *(size_t *)count_at);
+  same_bytes(THE_STATE, state_after.at, state_room.lent, state_after.length);
+  same_bytes(THE_MEMORY, memory_after.at, memory_room.lent, memory_after.length);
+  same_bytes(THE_TRACE, trace.at, trace_room.lent, trace.length);
+  same_guards(THE_STATE, &state_room);
+  same_guards(THE_MEMORY, &memory_room);
+  same_guards(THE_TRACE, &trace_room);
+  same_guards(THE_OFFSET, &offset_room);
+  same_guards(THE_COUNT, &count_room);
 }
