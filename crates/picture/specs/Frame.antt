@@ -1,0 +1,46 @@
+-- Document 01, "The frame": what each place shows, and the frame as one definition of registers and memory.
+use Prim.Native.Nat.{ℕ, zero, suc, _+_, _-_, _/_, _%_, _^_}
+use mathlib.Core.Bool.{cond}
+use mathlib.Core.List.{List, [], _∷_, _++_}
+use lib.Dec.{eqb}
+use lib.ListN.{getD}
+use Rattle.bus.specs.Sizes.{width}
+use Rattle.bus.specs.Memory.{address}
+use Rattle.bus.specs.declared.registers.Registers.{Registers}
+use Rattle.picture.specs.Sizes.{height, frameRows}
+use Rattle.picture.specs.Rows.{panelRow, rowShows}
+use Rattle.picture.specs.declared.rows.RamRow.{RamRow}
+use Rattle.picture.specs.declared.rows.Shown.{Shown}
+use Rattle.picture.specs.declared.rows.Shown.the-variants.{Dark, Lit, Bits}
+
+-- Bit b of page p is RAM row 8p + b, bit 0 the least: the bit of a RAM row in a column.
+unfoldable pub bit : List ℕ → RamRow → ℕ → ℕ
+bit memory row column = getD memory (address (row .0 / 8) column) 0 / 2 ^ (row .0 % 8) % 2
+
+-- Columns normal: segment x shows RAM column x. Otherwise, of w columns, RAM column w - 1 - x.
+unfoldable pub columnOf : ℕ → Registers → ℕ → ℕ
+columnOf w r x = cond (eqb (r .columns) 0) x (w - 1 - x)
+
+-- Reverse, 0 or 1, turns a bit round.
+unfoldable pub turned : ℕ → ℕ → ℕ
+turned reverse b = (b + reverse) % 2
+
+-- Segment x of a row: 0 dark, 1 lit. Reverse turns each shown bit round, but no dark row and none that is lit whole.
+unfoldable pub segment : ℕ → Registers → List ℕ → Shown → ℕ → ℕ
+segment w r memory Dark x = 0
+segment w r memory Lit x = 1
+segment w r memory (Bits row) x = turned (r .reverse) (bit memory row (columnOf w r x))
+
+-- A row of w places.
+unfoldable pub line : ℕ → (ℕ → ℕ) → List ℕ
+line zero f = []
+line (suc w) f = line w f ++ f w ∷ []
+
+-- Rows 0 to h - 1 of w places each, one after the other.
+unfoldable pub grid : ℕ → ℕ → (ℕ → ℕ → ℕ) → List ℕ
+grid w zero f = []
+grid w (suc h) f = grid w h f ++ line w (f h)
+
+-- The frame: panel rows 0 to 63, then the icon line, each 132 wide.
+unfoldable pub frame : Registers → List ℕ → List ℕ
+frame r memory = grid width frameRows (λ y. segment width r memory (rowShows height r (panelRow y)))

@@ -1,0 +1,82 @@
+// The three countings of rows, and the row rule that converts between them.
+ghost use mathlib.Core.Path.{_≡_};
+ghost use Prim.Native.Nat.{_≤_};
+ghost use Rattle.picture.specs.Sizes.{height};
+ghost use Rattle.picture.specs.Rows.{comOf, used, ramRowOf, lighted, rowShows};
+use bus::registers::Registers;
+
+// A panel row, counted from the top of the glass; the icon line comes after the last.
+pub struct PanelRow(pub u8);
+
+// A COM number.
+pub struct Com(pub u8);
+
+// A row of the display memory.
+pub struct RamRow(pub u8);
+
+// What a row of the frame shows: nothing, each place lit, or the bits of a RAM row.
+pub enum Shown {
+    Dark,
+    Lit,
+    Bits(RamRow),
+}
+
+impl PanelRow {
+    // The COM that the panel row belongs to.
+    fn belongs_to(self, registers: Registers) -> Com
+        ensures { λ r. ⌜ r ≡ comOf height registers self ⌝ }
+    {
+        let sum = (self.0 as u16) + (registers.offset as u16);
+        Com((sum % 64) as u8)
+    }
+}
+
+impl Com {
+    // Whether the COM is in use.
+    fn used(self, registers: Registers) -> bool
+        ensures { λ r. ⌜ r ≡ used registers self ⌝ }
+    {
+        self.0 <= registers.multiplex
+    }
+
+    // The RAM row that the COM shows, where it is in use.
+    fn shows(self, registers: Registers) -> RamRow
+        requires { ⌜ self .0 ≤ registers .multiplex ⌝ }
+        ensures { λ r. ⌜ r ≡ ramRowOf height registers self ⌝ }
+    {
+        if registers.rows == 0 {
+            let sum = (registers.start as u16) + (self.0 as u16);
+            return RamRow((sum % 64) as u8);
+        }
+        let turned = registers.multiplex - self.0;
+        let sum = (registers.start as u16) + (turned as u16);
+        RamRow((sum % 64) as u8)
+    }
+}
+
+// What a row of the frame shows: a panel row, or the icon line after the last of them.
+pub fn row_shows(registers: Registers, row: PanelRow) -> Shown
+    ensures { λ r. ⌜ r ≡ rowShows height registers row ⌝ }
+{
+    if registers.on == 0 {
+        return Shown::Dark;
+    }
+    if row.0 < 64 {
+        let com = row.belongs_to(registers);
+        if com.used(registers) {
+            return lighted(registers, com.shows(registers));
+        }
+        return Shown::Dark;
+    }
+    lighted(registers, RamRow(64))
+}
+
+// A RAM row as it is shown: entire on lights it.
+fn lighted(registers: Registers, row: RamRow) -> Shown
+    ensures { λ r. ⌜ r ≡ lighted registers row ⌝ }
+{
+    if registers.entire == 1 {
+        return Shown::Lit;
+    }
+    Shown::Bits(row)
+}
