@@ -6,12 +6,12 @@ use Prim.Native.Nat.{ℕ, _+_, _-_, _%_, _≤_, _<_}
 use native.Mathlib.Nat.{mod-lt, le-of-lt, le-refl}
 use lib.Dec.{ltb, eqb}
 use Rattle.bus.specs.declared.registers.Registers.{Registers}
-use Rattle.picture.specs.Rows.{comOf, used, ramRowOf, lighted, panelShows, iconsShow, rowShows}
+use Rattle.picture.specs.Rows.{comOf, used, ramRowOf, panelShows, rowShows}
 use Rattle.picture.specs.declared.rows.PanelRow.{PanelRow}
 use Rattle.picture.specs.declared.rows.Com.{Com}
 use Rattle.picture.specs.declared.rows.RamRow.{RamRow}
 use Rattle.picture.specs.declared.rows.Shown.{Shown}
-use Rattle.picture.specs.declared.rows.Shown.the-variants.{Dark, Lit, Bits}
+use Rattle.picture.specs.declared.rows.Shown.the-variants.{Dark, Ram}
 
 -- what holds of both choices holds of the one taken
 pub of-both {ℓ} : {A : Type ℓ} (P : A → Type 0) (t : Bool) {a b : A} → P a → P b → P (cond t a b)
@@ -21,24 +21,18 @@ of-both P false p q = q
 -- the RAM row that is shown, if any, is at most h
 abbrev pub WithinRam : ℕ → Shown → Type 0
 WithinRam h Dark = Unit
-WithinRam h Lit = Unit
-WithinRam h (Bits row) = row .0 ≤ h
+WithinRam h (Ram row) = row .0 ≤ h
 
 ram-row-within : (h : ℕ) (r : Registers) (k : Com) → 0 < h → ramRowOf h r k .0 ≤ h
 unfolding ramRowOf
 ram-row-within h r k pos = of-both (λ (row : RamRow). row .0 ≤ h) (eqb (r .rows) 0) (le-of-lt (mod-lt _ pos)) (le-of-lt (mod-lt _ pos))
 
-lighted-within : (h : ℕ) (r : Registers) (row : RamRow) → row .0 ≤ h → WithinRam h (lighted r row)
-unfolding lighted
-lighted-within h r row l = of-both (WithinRam h) (eqb (r .entire) 1) tt l
-
 shows-within : (h : ℕ) (r : Registers) (row : PanelRow) → 0 < h → WithinRam h (rowShows h r row)
-unfolding rowShows panelShows iconsShow
+unfolding rowShows panelShows
 shows-within h r row pos =
-    of-both (WithinRam h) (eqb (r .on) 0) tt
-    (of-both (WithinRam h) (ltb (row .0) h)
-    (of-both (WithinRam h) (used r (comOf h r row)) (lighted-within h r _ (ram-row-within h r (comOf h r row) pos)) tt)
-    (lighted-within h r _ (le-refl h)))
+    of-both (WithinRam h) (ltb (row .0) h)
+    (of-both (WithinRam h) (used r (comOf h r row)) (ram-row-within h r (comOf h r row) pos) tt)
+    (le-refl h)
 
-pub ram-within : (h : ℕ) (r : Registers) (row : PanelRow) → 0 < h → {ram : RamRow} → rowShows h r row ≡ Bits ram → ram .0 ≤ h
+pub ram-within : (h : ℕ) (r : Registers) (row : PanelRow) → 0 < h → {ram : RamRow} → rowShows h r row ≡ Ram ram → ram .0 ≤ h
 ram-within h r row pos e = subst (WithinRam h) e (shows-within h r row pos)

@@ -11,7 +11,7 @@ use Rattle.picture.specs.Sizes.{height, frameRows}
 use Rattle.picture.specs.Rows.{panelRow, rowShows}
 use Rattle.picture.specs.declared.rows.RamRow.{RamRow}
 use Rattle.picture.specs.declared.rows.Shown.{Shown}
-use Rattle.picture.specs.declared.rows.Shown.the-variants.{Dark, Lit, Bits}
+use Rattle.picture.specs.declared.rows.Shown.the-variants.{Dark, Ram}
 
 -- Bit b of page p is RAM row 8p + b, bit 0 the least: the bit of a RAM row in a column.
 unfoldable pub bit : List ℕ → RamRow → ℕ → ℕ
@@ -25,11 +25,18 @@ columnOf w r x = cond (eqb (r .columns) 0) x (w - 1 - x)
 unfoldable pub turned : ℕ → ℕ → ℕ
 turned reverse b = (b + reverse) % 2
 
--- Segment x of a row: 0 dark, 1 lit. Reverse turns each shown bit round, but no dark row and none that is lit whole.
+-- Segment x of a RAM row as it is shown.
+unfoldable pub bits : ℕ → Registers → List ℕ → RamRow → ℕ → ℕ
+bits w r memory row x = turned (r .reverse) (bit memory row (columnOf w r x))
+
+-- Segment x of a row in use, or of the icons: entire on lights it, reverse or no. A dark row is not turned round.
+unfoldable pub lighted : ℕ → Registers → List ℕ → Shown → ℕ → ℕ
+lighted w r memory Dark x = 0
+lighted w r memory (Ram row) x = cond (eqb (r .entire) 1) 1 (bits w r memory row x)
+
+-- Segment x of a row: 0 dark, 1 lit. Display off makes all dark, before any other rule.
 unfoldable pub segment : ℕ → Registers → List ℕ → Shown → ℕ → ℕ
-segment w r memory Dark x = 0
-segment w r memory Lit x = 1
-segment w r memory (Bits row) x = turned (r .reverse) (bit memory row (columnOf w r x))
+segment w r memory shown x = cond (eqb (r .on) 0) 0 (lighted w r memory shown x)
 
 -- A row of w places.
 unfoldable pub line : ℕ → (ℕ → ℕ) → List ℕ

@@ -7,7 +7,7 @@ use Rattle.picture.specs.declared.rows.PanelRow.{PanelRow}
 use Rattle.picture.specs.declared.rows.Com.{Com}
 use Rattle.picture.specs.declared.rows.RamRow.{RamRow}
 use Rattle.picture.specs.declared.rows.Shown.{Shown}
-use Rattle.picture.specs.declared.rows.Shown.the-variants.{Dark, Lit, Bits}
+use Rattle.picture.specs.declared.rows.Shown.the-variants.{Dark, Ram}
 
 abbrev pub panelRow : ℕ → PanelRow
 panelRow p = record { 0 = p }
@@ -34,18 +34,10 @@ used r k = ltb (k .0) (rowsInUse r)
 unfoldable pub ramRowOf : ℕ → Registers → Com → RamRow
 ramRowOf h r k = cond (eqb (r .rows) 0) (ramRow ((r .start + k .0) % h)) (ramRow ((r .start + rowsInUse r - 1 - k .0) % h))
 
--- Entire on lights all rows in use and the icons; else their bits show.
-unfoldable pub lighted : Registers → RamRow → Shown
-lighted r row = cond (eqb (r .entire) 1) Lit (Bits row)
-
--- A panel row shows the RAM row of its COM, or is dark where that is not in use.
+-- A panel row shows the RAM row of its COM; it is dark where that COM is not in use.
 unfoldable pub panelShows : ℕ → Registers → PanelRow → Shown
-panelShows h r p = cond (used r (comOf h r p)) (lighted r (ramRowOf h r (comOf h r p))) Dark
+panelShows h r p = cond (used r (comOf h r p)) (Ram (ramRowOf h r (comOf h r p))) Dark
 
--- The icon line shows RAM row h always.
-unfoldable pub iconsShow : ℕ → Registers → Shown
-iconsShow h r = lighted r (ramRow h)
-
--- What a row of the frame shows: panel rows 0 to h - 1, then the icon line. Display off makes all dark, before any other rule.
+-- The rows of the frame: panel rows 0 to h - 1, then the icon line, which shows RAM row h always.
 unfoldable pub rowShows : ℕ → Registers → PanelRow → Shown
-rowShows h r row = cond (eqb (r .on) 0) Dark (cond (ltb (row .0) h) (panelShows h r row) (iconsShow h r))
+rowShows h r row = cond (ltb (row .0) h) (panelShows h r row) (Ram (ramRow h))

@@ -5,7 +5,7 @@ ghost use lib.ListN.{length, getD};
 ghost use Rattle.bus.specs.Sizes.{width, memorySize};
 ghost use Rattle.picture.specs.Sizes.{height, frameRows};
 ghost use Rattle.picture.specs.Rows.{rowShows};
-ghost use Rattle.picture.specs.Frame.{segment, line, turned};
+ghost use Rattle.picture.specs.Frame.{segment, bits, line, turned};
 use crate::rows::PanelRow;
 use crate::rows::RamRow;
 use crate::rows::Shown;
@@ -17,17 +17,26 @@ pub fn draw_row(registers: Registers, memory: &[u8], row: PanelRow, places: &mut
     requires { ⌜ (row .0 < frameRows) × (memorySize ≤ length (now memory)) × (length (now places) ≡ width) ⌝ }
     ensures { λ _. ⌜ now (places .exit) ≡ line width (segment width registers (now (memory .entry)) (rowShows height registers row)) ⌝ }
 {
+    if registers.on == 0 {
+        fill(places, 0);
+        return;
+    }
     match row_shows(registers, row) {
         Shown::Dark => fill(places, 0),
-        Shown::Lit => fill(places, 1),
-        Shown::Bits(ram) => draw_bits(registers, memory, ram, places),
+        Shown::Ram(ram) => {
+            if registers.entire == 1 {
+                fill(places, 1);
+            } else {
+                draw_bits(registers, memory, ram, places);
+            }
+        }
     }
 }
 
 // Draws the bits of a RAM row, its columns in the column direction.
 fn draw_bits(registers: Registers, memory: &[u8], row: RamRow, places: &mut [u8])
     requires { ⌜ (row .0 ≤ height) × (memorySize ≤ length (now memory)) × (length (now places) ≡ width) ⌝ }
-    ensures { λ _. ⌜ now (places .exit) ≡ line width (segment width registers (now (memory .entry)) (Shown.Bits row)) ⌝ }
+    ensures { λ _. ⌜ now (places .exit) ≡ line width (bits width registers (now (memory .entry)) row) ⌝ }
 {
     let number = row.0 as usize;
     let bit = row.0 % 8;

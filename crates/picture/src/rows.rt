@@ -2,7 +2,7 @@
 ghost use mathlib.Core.Path.{_≡_};
 ghost use Prim.Native.Nat.{_≤_};
 ghost use Rattle.picture.specs.Sizes.{height};
-ghost use Rattle.picture.specs.Rows.{comOf, used, ramRowOf, lighted, rowShows};
+ghost use Rattle.picture.specs.Rows.{comOf, used, ramRowOf, rowShows};
 use bus::registers::Registers;
 
 // A panel row, counted from the top of the glass; the icon line comes after the last.
@@ -14,11 +14,10 @@ pub struct Com(pub u8);
 // A row of the display memory.
 pub struct RamRow(pub u8);
 
-// What a row of the frame shows: nothing, each place lit, or the bits of a RAM row.
+// What a row of the frame shows: nothing, or the bits of a RAM row.
 pub enum Shown {
     Dark,
-    Lit,
-    Bits(RamRow),
+    Ram(RamRow),
 }
 
 impl PanelRow {
@@ -58,25 +57,12 @@ impl Com {
 pub fn row_shows(registers: Registers, row: PanelRow) -> Shown
     ensures { λ r. ⌜ r ≡ rowShows height registers row ⌝ }
 {
-    if registers.on == 0 {
-        return Shown::Dark;
-    }
     if row.0 < 64 {
         let com = row.belongs_to(registers);
         if com.used(registers) {
-            return lighted(registers, com.shows(registers));
+            return Shown::Ram(com.shows(registers));
         }
         return Shown::Dark;
     }
-    lighted(registers, RamRow(64))
-}
-
-// A RAM row as it is shown: entire on lights it.
-fn lighted(registers: Registers, row: RamRow) -> Shown
-    ensures { λ r. ⌜ r ≡ lighted registers row ⌝ }
-{
-    if registers.entire == 1 {
-        return Shown::Lit;
-    }
-    Shown::Bits(row)
+    Shown::Ram(RamRow(64))
 }
