@@ -1,9 +1,9 @@
 -- Document 01, "The frame": what each place shows, and the frame as one definition of registers and memory.
-use Prim.Native.Nat.{ℕ, zero, suc, _+_, _-_, _/_, _%_, _^_}
+use Prim.Native.Nat.{ℕ, zero, suc, _+_, _*_, _-_, _/_, _%_, _^_}
 use mathlib.Core.Bool.{cond}
 use mathlib.Core.List.{List, [], _∷_, _++_}
 use lib.Dec.{eqb}
-use lib.ListN.{getD}
+use lib.ListN.{getD, take, drop}
 use Rattle.bus.specs.Sizes.{width}
 use Rattle.bus.specs.Memory.{address}
 use Rattle.bus.specs.declared.registers.Registers.{Registers}
@@ -51,3 +51,11 @@ grid w (suc h) f = grid w h f ++ line w (f h)
 -- The frame: panel rows 0 to 63, then the icon line, each 132 wide.
 unfoldable pub frame : Registers → List ℕ → List ℕ
 frame r memory = grid width frameRows (λ y. segment width r memory (rowShows height r (panelRow y)))
+
+-- Row y of a frame.
+unfoldable pub rowOf : ℕ → List ℕ → List ℕ
+rowOf y places = take width (drop (y * width) places)
+
+-- What stands in row y at segment x.
+unfoldable pub placeOf : ℕ → ℕ → List ℕ → ℕ
+placeOf y x places = getD places (y * width + x) 0

@@ -2,3 +2,4 @@ pub mod Sizes
 pub mod Rows
 pub mod Frame
 pub mod Draw
+pub mod Samples
