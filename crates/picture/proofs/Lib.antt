@@ -1,6 +1,10 @@
 pub mod Asking
 pub mod Lines
+pub mod Flip
+pub mod Full
 pub mod Places
+pub mod Ranges
 pub mod RowRule
 pub mod Samples
 pub mod Bits
+pub mod Demand3

@@ -3,3 +3,4 @@ pub mod Rows
 pub mod Frame
 pub mod Draw
 pub mod Samples
+pub mod Demand3
