@@ -9,6 +9,9 @@ ghost use Rattle.picture.specs.Frame.{frame};
 ghost use Rattle.picture.specs.Draw.{drawn, draw};
 use crate::row::draw_row;
 use crate::rows::PanelRow;
+use crate::sizes::FRAME_ROWS;
+use crate::sizes::FRAME_SIZE;
+use crate::sizes::WIDTH;
 use bus::image::Asked;
 use bus::image::ask;
 use bus::refusal::TAKEN;
@@ -19,7 +22,7 @@ use bus::registers::Registers;
 pub fn draw(state: &[u8], memory: &[u8], frame: &mut [u8]) -> u8
     ensures { λ r. ⌜ drawn r (now (frame .exit)) ≡ draw (now (state .entry)) (now (memory .entry)) (now (frame .entry)) ⌝ }
 {
-    if frame.len() < 8580 {
+    if frame.len() < FRAME_SIZE {
         return TOO_SHORT;
     }
     match ask(state, memory) {
@@ -36,9 +39,9 @@ fn draw_rows(registers: Registers, memory: &[u8], places: &mut [u8])
     requires { ⌜ (memorySize ≤ length (now memory)) × (frameSize ≤ length (now places)) ⌝ }
     ensures { λ _. ⌜ now (places .exit) ≡ frame registers (now (memory .entry)) ++ drop frameSize (now (places .entry)) ⌝ }
 {
-    for y in 0..65usize {
-        let start = y * 132;
-        let end = start + 132;
+    for y in 0..FRAME_ROWS {
+        let start = y * WIDTH;
+        let end = start + WIDTH;
         draw_row(
             registers,
             memory,

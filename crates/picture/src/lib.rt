@@ -2,3 +2,4 @@
 pub mod draw;
 mod row;
 pub mod rows;
+mod sizes;

@@ -10,6 +10,7 @@ use crate::rows::PanelRow;
 use crate::rows::RamRow;
 use crate::rows::Shown;
 use crate::rows::row_shows;
+use crate::sizes::WIDTH;
 use bus::registers::Registers;
 
 // Draws one row of the frame into its own 132 bytes.
@@ -41,8 +42,8 @@ fn draw_bits(registers: Registers, memory: &[u8], row: RamRow, places: &mut [u8]
     let number = row.0 as usize;
     let bit = row.0 % 8;
     let reverse = registers.reverse % 2;
-    let start = number / 8 * 132;
-    let end = start + 132;
+    let start = number / 8 * WIDTH;
+    let end = start + WIDTH;
     if registers.columns == 0 {
         straight(&memory[start..end], bit, reverse, places);
     } else {
@@ -56,7 +57,7 @@ fn straight(page: &[u8], bit: u8, reverse: u8, places: &mut [u8])
     ensures { λ _. ⌜ now (places .exit) ≡ line width (λ x. turned reverse (getD (now (page .entry)) x 0 / 2 ^ bit % 2)) ⌝ }
 {
     let mut x = 0;
-    while x < 132 {
+    while x < WIDTH {
         places[x] = ((page[x] >> bit) % 2 + reverse) % 2;
         x += 1;
     }
@@ -68,8 +69,9 @@ fn mirrored(page: &[u8], bit: u8, reverse: u8, places: &mut [u8])
     ensures { λ _. ⌜ now (places .exit) ≡ line width (λ x. turned reverse (getD (now (page .entry)) (width - 1 - x) 0 / 2 ^ bit % 2)) ⌝ }
 {
     let mut x = 0;
-    while x < 132 {
-        places[x] = ((page[131 - x] >> bit) % 2 + reverse) % 2;
+    while x < WIDTH {
+        let column = WIDTH - 1 - x;
+        places[x] = ((page[column] >> bit) % 2 + reverse) % 2;
         x += 1;
     }
 }
@@ -80,7 +82,7 @@ fn fill(places: &mut [u8], value: u8)
     ensures { λ _. ⌜ now (places .exit) ≡ line width (λ x. value) ⌝ }
 {
     let mut x = 0;
-    while x < 132 {
+    while x < WIDTH {
         places[x] = value;
         x += 1;
     }

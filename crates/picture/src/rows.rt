@@ -1,8 +1,9 @@
 // The three countings of rows, and the row rule that converts between them.
 ghost use mathlib.Core.Path.{_≡_};
-ghost use Prim.Native.Nat.{_≤_};
+ghost use Prim.Native.Nat.{_≤_, _%_};
 ghost use Rattle.picture.specs.Sizes.{height};
 ghost use Rattle.picture.specs.Rows.{comOf, used, ramRowOf, rowShows};
+use crate::sizes::HEIGHT;
 use bus::registers::Registers;
 
 // A panel row, counted from the top of the glass; the icon line comes after the last.
@@ -26,7 +27,7 @@ impl PanelRow {
         ensures { λ r. ⌜ r ≡ comOf height registers self ⌝ }
     {
         let sum = (self.0 as u16) + (registers.offset as u16);
-        Com((sum % 64) as u8)
+        Com(around(sum))
     }
 }
 
@@ -45,11 +46,11 @@ impl Com {
     {
         if registers.rows == 0 {
             let sum = (registers.start as u16) + (self.0 as u16);
-            return RamRow((sum % 64) as u8);
+            return RamRow(around(sum));
         }
         let turned = registers.multiplex - self.0;
         let sum = (registers.start as u16) + (turned as u16);
-        RamRow((sum % 64) as u8)
+        RamRow(around(sum))
     }
 }
 
@@ -57,12 +58,19 @@ impl Com {
 pub fn row_shows(registers: Registers, row: PanelRow) -> Shown
     ensures { λ r. ⌜ r ≡ rowShows height registers row ⌝ }
 {
-    if row.0 < 64 {
+    if row.0 < HEIGHT {
         let com = row.belongs_to(registers);
         if com.used(registers) {
             return Shown::Ram(com.shows(registers));
         }
         return Shown::Dark;
     }
-    Shown::Ram(RamRow(64))
+    Shown::Ram(RamRow(HEIGHT))
+}
+
+// A row counted on past the last panel row comes round to the first.
+fn around(row: u16) -> u8
+    ensures { λ r. ⌜ r ≡ row % height ⌝ }
+{
+    (row % (HEIGHT as u16)) as u8
 }

@@ -8,14 +8,15 @@ use Prim.Native.Nat.{_≤_, _-_}
 use native.Mathlib.Omega.{arith}
 use denote.Ref.{now}
 use lib.ListN.{length, drop}
+use Rattle.bus.specs.Sizes.{width}
 use Rattle.picture.specs.Frame.{line}
 use Rattle.picture.proofs.Lines.{line-turn, line-done, line-kept}
 
 abbrev Inv-loop : tie.InvT-loop
-Inv-loop places₀ value x₀ places x = (x ≤ 132) × (places ≡ line x (λ x. value) ++ drop x places₀)
+Inv-loop places₀ value x₀ places x = (x ≤ width) × (places ≡ line x (λ x. value) ++ drop x places₀)
 
 abbrev μ-loop : tie.MeasureT-loop
-μ-loop places₀ value x₀ places x = 132 - x
+μ-loop places₀ value x₀ places x = width - x
 
 loop-holds : tie.Need-loop-holds Inv-loop μ-loop
 unfolding line
@@ -39,8 +40,8 @@ same-length c = rw (c .before .loop .inv .1) (line-kept (c .before .loop .x) (λ
 
 returns : tie.Need-returns Inv-loop μ-loop
 returns c =
-    let e : c .before .loop .x ≡ 132 = omega arith in
-    c .before .loop .inv .1 ∙ rw e (line-done 132 _ (now (c .before .before .args .places)) (c .before .before .pre))
+    let e : c .before .loop .x ≡ width = omega arith in
+    c .before .loop .inv .1 ∙ rw e (line-done width _ (now (c .before .before .args .places)) (c .before .before .pre))
 
 pub fill-spec : {M : Type 1} → statement M
 fill-spec =

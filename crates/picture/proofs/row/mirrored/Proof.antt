@@ -9,24 +9,28 @@ use Prim.Native.Nat.{ℕ, _+_, _≤_, _-_, _/_, _%_, _^_}
 use native.Mathlib.Omega.{arith}
 use denote.Ref.{now}
 use lib.ListN.{length, getD, drop}
+use Rattle.bus.specs.Sizes.{width}
 use Rattle.picture.specs.Frame.{line, turned}
 use Rattle.picture.proofs.Lines.{line-turn, line-done, line-kept}
 
 abbrev shown : List ℕ → ℕ → ℕ → ℕ → ℕ
-shown page bit reverse x = turned reverse (getD page (131 - x) 0 / 2 ^ bit % 2)
+shown page bit reverse x = turned reverse (getD page (width - 1 - x) 0 / 2 ^ bit % 2)
 
 abbrev Inv-loop : tie.InvT-loop
-Inv-loop page bit reverse places₀ x₀ places x = (x ≤ 132) × (places ≡ line x (shown page bit reverse) ++ drop x places₀)
+Inv-loop page bit reverse places₀ x₀ places x = (x ≤ width) × (places ≡ line x (shown page bit reverse) ++ drop x places₀)
 
 abbrev μ-loop : tie.MeasureT-loop
-μ-loop page bit reverse places₀ x₀ places x = 132 - x
+μ-loop page bit reverse places₀ x₀ places x = width - x
 
 loop-holds : tie.Need-loop-holds Inv-loop μ-loop
 unfolding line
 loop-holds c = (omega arith, refl)
 
-sub-places : tie.Need-sub-places Inv-loop μ-loop
-sub-places c = omega arith
+sub-column : tie.Need-sub-column Inv-loop μ-loop
+sub-column c = omega arith
+
+sub-column-2 : tie.Need-sub-column-2 Inv-loop μ-loop
+sub-column-2 c = omega arith
 
 shared-slice-read-places : tie.Need-shared-slice-read-places Inv-loop μ-loop
 shared-slice-read-places c = omega arith
@@ -61,8 +65,8 @@ same-length c =
 
 returns : tie.Need-returns Inv-loop μ-loop
 returns c =
-    let e : c .before .loop .x ≡ 132 = omega arith in
-    c .before .loop .inv .1 ∙ rw e (line-done 132 _ (now (c .before .before .args .places)) (omega arith))
+    let e : c .before .loop .x ≡ width = omega arith in
+    c .before .loop .inv .1 ∙ rw e (line-done width _ (now (c .before .before .args .places)) (omega arith))
 
 pub mirrored-spec : {M : Type 1} → statement M
 mirrored-spec =
@@ -71,7 +75,8 @@ mirrored-spec =
     Inv-loop
     μ-loop
     loop-holds
-    sub-places
+    sub-column
+    sub-column-2
     shared-slice-read-places
     shr-places
     add-places

@@ -9,6 +9,7 @@ use Prim.Native.Nat.{ℕ, _+_, _≤_, _-_, _/_, _%_, _^_}
 use native.Mathlib.Omega.{arith}
 use denote.Ref.{now}
 use lib.ListN.{length, getD, drop}
+use Rattle.bus.specs.Sizes.{width}
 use Rattle.picture.specs.Frame.{line, turned}
 use Rattle.picture.proofs.Lines.{line-turn, line-done, line-kept}
 
@@ -16,10 +17,10 @@ abbrev shown : List ℕ → ℕ → ℕ → ℕ → ℕ
 shown page bit reverse x = turned reverse (getD page x 0 / 2 ^ bit % 2)
 
 abbrev Inv-loop : tie.InvT-loop
-Inv-loop page bit reverse places₀ x₀ places x = (x ≤ 132) × (places ≡ line x (shown page bit reverse) ++ drop x places₀)
+Inv-loop page bit reverse places₀ x₀ places x = (x ≤ width) × (places ≡ line x (shown page bit reverse) ++ drop x places₀)
 
 abbrev μ-loop : tie.MeasureT-loop
-μ-loop page bit reverse places₀ x₀ places x = 132 - x
+μ-loop page bit reverse places₀ x₀ places x = width - x
 
 loop-holds : tie.Need-loop-holds Inv-loop μ-loop
 unfolding line
@@ -58,8 +59,8 @@ same-length c =
 
 returns : tie.Need-returns Inv-loop μ-loop
 returns c =
-    let e : c .before .loop .x ≡ 132 = omega arith in
-    c .before .loop .inv .1 ∙ rw e (line-done 132 _ (now (c .before .before .args .places)) (omega arith))
+    let e : c .before .loop .x ≡ width = omega arith in
+    c .before .loop .inv .1 ∙ rw e (line-done width _ (now (c .before .before .args .places)) (omega arith))
 
 pub straight-spec : {M : Type 1} → statement M
 straight-spec =

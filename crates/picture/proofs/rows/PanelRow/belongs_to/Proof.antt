@@ -4,7 +4,6 @@ use borrow.Author.Needs.{needs}
 use Rattle.picture.proofs.rows.PanelRow.belongs_to.Statement.{statement}
 use Rattle.picture.proofs.rows.PanelRow.belongs_to.Tie as tie
 use Rattle.picture.specs.Rows.{comOf}
-use mathlib.Core.Path.{refl}
 
 cast-sum : tie.Need-cast-sum
 cast-sum c = search needs
@@ -15,12 +14,12 @@ cast-sum-2 c = search needs
 add-sum : tie.Need-add-sum
 add-sum c = search needs
 
-cast-t6 : tie.Need-cast-t6
-cast-t6 c = search needs
+around-requires : tie.Need-around-requires
+around-requires c κs = search needs
 
 returns : tie.Need-returns
 unfolding comOf
-returns c = refl
+returns c = rw (c .around .ensures)
 
 pub belongs-to-spec : {M : Type 1} → statement M
-belongs-to-spec = tie.close (tie.spec cast-sum cast-sum-2 add-sum cast-t6 returns)
+belongs-to-spec = tie.close (tie.spec cast-sum cast-sum-2 add-sum around-requires returns)
