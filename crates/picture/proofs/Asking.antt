@@ -9,7 +9,6 @@ use Rattle.bus.specs.Numbers.{tooShort, outOfRange}
 use Rattle.bus.specs.Registers.{registersOf}
 use Rattle.bus.specs.Image.{short, legal, asked}
 use Rattle.bus.specs.declared.registers.Registers.{Registers}
-use Rattle.bus.specs.declared.image.Asked.{Asked}
 use Rattle.bus.specs.declared.image.Asked.the-variants.{Legal, Illegal}
 
 -- the two constructors are never equal

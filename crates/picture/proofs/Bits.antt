@@ -1,8 +1,8 @@
 -- A page lent on: its bytes are those of the memory, and its bits the RAM rows'.
 -- Assumes nothing.
-use mathlib.Core.Path.{_≡_, refl}
+use mathlib.Core.Path.{_≡_}
 use mathlib.Core.List.{List}
-use Prim.Native.Nat.{ℕ, _+_, _*_, _/_, _%_, _^_, _<_}
+use Prim.Native.Nat.{ℕ, _*_, _/_, _%_, _^_, _<_}
 use native.Mathlib.Nat.{add-mod-mod}
 use lib.ListN.{getD, take, drop}
 use lib.Seq.{getD-take, getD-drop}

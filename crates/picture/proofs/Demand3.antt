@@ -2,13 +2,13 @@
 -- Assumes nothing.
 use mathlib.Core.Path.{_≡_, refl, sym, _∙_, ap, subst₂}
 use mathlib.Core.Logic.{_≢_}
-use mathlib.Core.Bool.{Bool, true, false, cond}
+use mathlib.Core.Bool.{Bool, true, false, cond, false≢true}
 use mathlib.Core.List.{List}
-use Prim.Native.Nat.{ℕ, zero, suc, _+_, _*_, _-_, _/_, _%_, _^_, _≤_, _<_}
+use Prim.Native.Nat.{ℕ, zero, suc, _+_, _-_, _/_, _%_, _^_, _≤_, _<_}
 use native.Mathlib.Omega.{arith}
-use native.Mathlib.Nat.{mod-lt, le-of-eq, add-mod-mod, mod-add-mod, zero-div}
+use native.Mathlib.Nat.{mod-lt, le-of-eq, zero-div}
 use native.Mathlib.Decide.{ℕ-discrete, decLt}
-use lib.Dec.{ltb, eqb}
+use lib.Dec.{ltb, eqb, eqb·suc-zero}
 use borrow.Author.Tests.{lt-ltb, eq-eqb, ne-eqb}
 use lib.Bits.{bitXor, xor-zero-l}
 use lib.Pow.{pow-lt}
@@ -20,12 +20,13 @@ use Rattle.bus.specs.declared.registers.Registers.{Registers}
 use Rattle.picture.specs.Sizes.{height, frameRows}
 use Rattle.picture.specs.Rows.{ramRow}
 use Rattle.picture.specs.Frame.{bit, columnOf, turned, bits, line, frame, rowOf, placeOf}
-use Rattle.picture.specs.Demand3.{Full, flipped, ShowsAt, OnePlace, SomeBit, raised, Scrolls, Content, scroll, Agree, Demand3}
+use Rattle.picture.specs.Demand3.{flipped, ShowsAt, OnePlace, SomeBit, raised, Scrolls, Content, scroll, Agree, Demand3}
 use Rattle.picture.specs.declared.rows.RamRow.{RamRow}
 use Rattle.picture.proofs.Lines.{line-same, grid-same}
 use Rattle.picture.proofs.Flip.{flip-hit, flip-miss}
 use Rattle.picture.proofs.Places.{frame-row, bits-show}
-use Rattle.picture.proofs.Full.{Bounds, bounds, reversed, ramAt, ramOf, rowShowing, scroll-below, row-shows, place-shows, ram-below, row-below, ram-of-row, row-of-ram, column-below, column-twice}
+use Rattle.picture.proofs.Turns.{turnOf, up, down, decided}
+use Rattle.picture.proofs.Full.{Bounds, bounds, ramOf, rowShowing, scroll-below, row-shows, place-shows, ram-below, row-below, ram-of-row, row-of-ram, column-below, column-twice}
 
 -- a memory of zeros
 blank : List ℕ
@@ -110,7 +111,7 @@ raised-bounds n r b = record {
   columns = b .columns;
   rows = b .rows;
   reverse = b .reverse;
-  multiplex = b .multiplex;
+  allRows = b .allRows;
   on = b .on;
   entire = b .entire;
 }
@@ -120,29 +121,11 @@ moved : (n : ℕ) (r : Registers) → Bounds r → (memory : List ℕ) (y y′ :
 unfolding bits columnOf raised
 moved n r b memory y y′ l l′ e = row-bits (raised n r) (raised-bounds n r b) memory y l ∙ ap (λ row. line width (bits width r memory (ramRow row))) e ∙ sym (row-bits r b memory y′ l′)
 
-up-line : (start offset n p : ℕ) → (((start + n) % height + offset) % height + p) % height ≡ ((start + offset) % height + (p + n) % height) % height
-up-line start offset n p =
-    let e : (start + n) % height + offset + p ≡ (start + n) % height + (offset + p) = omega arith in
-    let f : start + n + (offset + p) ≡ start + offset + (p + n) = omega arith in
-    rw (mod-add-mod ((start + n) % height + offset) height p, e, mod-add-mod (start + n) height (offset + p), f, mod-add-mod (start + offset) height ((p + n) % height), add-mod-mod (start + offset) (p + n) height)
-
-unturned : (c m : ℕ) → c < height → m < height → ((c + m) % height + height - m) % height ≡ c
-unturned c m k l = omega arith
-
-down-line : (start offset n p : ℕ) → start < height → offset < height → p < height → (((start + n) % height + height - offset) % height + 63 - (p + n) % height) % height ≡ ((start + height - offset) % height + 63 - p) % height
-down-line start offset n p s o l =
-    let a : (start + n) % height + height - offset ≡ (start + n) % height + (height - offset) = omega arith in
-    let e : start + n + (height - offset) ≡ start + height - offset + n = omega arith in
-    let c = (start + height - offset) % height in
-    let there : ((start + n) % height + height - offset) % height ≡ (c + n % height) % height =
-    rw (a, mod-add-mod (start + n) height (height - offset), e, add-mod-mod c n height, mod-add-mod (start + height - offset) height n) in
-    rw (there, ← (add-mod-mod p n height)) (reversed ((c + n % height) % height) (n % height) p (mod-lt _ (omega arith)) (mod-lt _ (omega arith)) l ∙ rw (unturned c (n % height) (mod-lt _ (omega arith)) (mod-lt _ (omega arith))))
-
 scrolled : (r : Registers) → Bounds r → (n : ℕ) (memory : List ℕ) → Scrolls r n memory
 unfolding raised scroll
 scrolled r b n memory = record {
-  up = λ rows p l. moved n r b memory p ((p + n) % height) (omega arith) (omega arith) (rw (lt-ltb p height l, lt-ltb ((p + n) % height) height (mod-lt _ (omega arith)), eq-eqb (r .rows) 0 rows) (up-line (r .start) (r .offset) n p));
-  down = λ rows p l. moved n r b memory ((p + n) % height) p (omega arith) (omega arith) (rw (lt-ltb p height l, lt-ltb ((p + n) % height) height (mod-lt _ (omega arith)), ne-eqb (r .rows) 0 (omega arith)) (down-line (r .start) (r .offset) n p (b .start) (b .offset) l));
+  up = λ rows p l. moved n r b memory p ((p + n) % height) (omega arith) (omega arith) (rw (lt-ltb p height l, lt-ltb ((p + n) % height) height (mod-lt _ (omega arith)), eq-eqb (r .rows) 0 rows) (up height (r .start) (r .offset) n p));
+  down = λ rows p l. moved n r b memory ((p + n) % height) p (omega arith) (omega arith) (rw (lt-ltb p height l, lt-ltb ((p + n) % height) height (mod-lt _ (omega arith)), ne-eqb (r .rows) 0 (omega arith)) (down height (r .start) (r .offset) n p (b .start) (b .offset) l));
   icons = moved n r b memory height height (omega arith) (omega arith) refl;
 }
 
@@ -153,7 +136,7 @@ agreeing r s b d agree memory =
     grid-same width frameRows _ _ (λ y x l k.
     rw (row-shows r b y l, row-shows s d y l)
     (bits-show r memory (ramRow (ramOf r y)) x (b .on) (b .entire) ∙
-    (λ i. turned (agree .reverse i) (bit memory (ramRow (cond (ltb y height) (ramAt (eqb (agree .rows i) 0) (agree .line i) y) height)) (cond (eqb (agree .columns i) 0) x (width - 1 - x)))) ∙
+    (λ i. turned (agree .reverse i) (bit memory (ramRow (cond (ltb y height) (turnOf height (eqb (agree .rows i) 0) (agree .line i) y) height)) (cond (eqb (agree .columns i) 0) x (width - 1 - x)))) ∙
     sym (bits-show s memory (ramRow (ramOf s y)) x (d .on) (d .entire))))
 
 -- memories with no bit, and with one
@@ -187,40 +170,19 @@ lit-content row column l k = record {
     either i (yes e) = rw (e, getD-set-same blank (address (row / 8) column) byte 0 (inside blank row column l k blank-long), blank-at (address (row / 8) column), xor-zero-l) (pow-lt {j = 8} (mod-lt row (omega arith)))
     either i (no n) = rw (getD-set-other blank (address (row / 8) column) i byte 0 n) (omega (arith, blank-at i))
 
--- what segment 0 shows decides the column direction
-columns-decided : (a c : ℕ) → a < 2 → c < 2 → _≡_ {A = ℕ} (cond (eqb a 0) 0 131) (cond (eqb c 0) 0 131) → a ≡ c
-columns-decided zero zero l k e = refl
-columns-decided zero (suc zero) l k e = absurd (omega arith)
-columns-decided (suc zero) zero l k e = absurd (omega arith)
-columns-decided (suc zero) (suc zero) l k e = refl
-columns-decided zero (suc (suc c)) l k e = absurd (omega arith)
-columns-decided (suc zero) (suc (suc c)) l k e = absurd (omega arith)
-columns-decided (suc (suc a)) c l k e = absurd (omega arith)
+-- a direction, 0 or 1, is decided by whether it is 0
+direction : (a c : ℕ) → a < 2 → c < 2 → eqb a 0 ≡ eqb c 0 → a ≡ c
+direction zero zero l k e = refl
+direction zero (suc c) l k e = absurd (false≢true (sym (rw eqb·suc-zero at e)))
+direction (suc a) zero l k e = absurd (false≢true (rw eqb·suc-zero at e))
+direction (suc a) (suc c) l k e = omega arith
 
--- rows normal go on where rows reversed go back
-onward : (m n : ℕ) → m < height → suc (suc n) < height → (m + 0) % height ≡ suc n - 0 → (m + 1) % height ≡ suc n - 1 → ⊥
-onward m n l k e f = omega arith
-
-back : (n d : ℕ) → d < 2 → suc (suc n) < height → (suc (suc n) + 63 - d) % height ≡ suc n - d
-back n d l k = omega arith
-
-mixed : (m n : ℕ) → m < height → n < height → (m + 0) % height ≡ (n + 63 - 0) % height → (m + 1) % height ≡ (n + 63 - 1) % height → ⊥
-mixed m zero l k e f = omega arith
-mixed m (suc zero) l k e f = omega arith
-mixed m (suc (suc n)) l k e f = onward m n l k (e ∙ back n 0 (omega arith) k) (f ∙ back n 1 (omega arith) k)
-
-unreversed : (m n : ℕ) → m < height → n < height → (m + 63 - 0) % height ≡ (n + 63 - 0) % height → m ≡ n
-unreversed m n l k e = omega arith
-
--- what panel rows 0 and 1 show decides the row direction and the scroll
-rows-decided : (a c m n : ℕ) → a < 2 → c < 2 → m < height → n < height → ramAt (eqb a 0) m 0 ≡ ramAt (eqb c 0) n 0 → ramAt (eqb a 0) m 1 ≡ ramAt (eqb c 0) n 1 → (a ≡ c) × (m ≡ n)
-rows-decided zero zero m n l k p q e f = (refl, omega arith)
-rows-decided zero (suc zero) m n l k p q e f = absurd (mixed m n p q e f)
-rows-decided (suc zero) zero m n l k p q e f = absurd (mixed n m q p (sym e) (sym f))
-rows-decided (suc zero) (suc zero) m n l k p q e f = (refl, unreversed m n p q e)
-rows-decided zero (suc (suc c)) m n l k p q e f = absurd (omega arith)
-rows-decided (suc zero) (suc (suc c)) m n l k p q e f = absurd (omega arith)
-rows-decided (suc (suc a)) c m n l k p q e f = absurd (omega arith)
+-- segment 0 decides the column direction
+column-decided : (normal normal′ : Bool) → cond normal 0 (width - 1 - 0) ≡ cond normal′ 0 (width - 1 - 0) → normal ≡ normal′
+column-decided true true e = refl
+column-decided false false e = refl
+column-decided true false e = absurd (omega arith)
+column-decided false true e = absurd (omega arith)
 
 -- settings that draw the same, from every memory
 module _ (r s : Registers) (b : Bounds r) (d : Bounds s) (same : (memory : List ℕ) → Content memory → frame r memory ≡ frame s memory) where
@@ -264,12 +226,12 @@ module _ (r s : Registers) (b : Bounds r) (d : Bounds s) (same : (memory : List 
   agreed =
       let first = bit-agrees 0 0 (omega arith) (omega arith) in
       let second = bit-agrees 1 0 (omega arith) (omega arith) in
-      let lines = rows-decided (r .rows) (s .rows) (scroll r) (scroll s) (b .rows) (d .rows) (scroll-below r) (scroll-below s) (sym (first .0)) (sym (second .0)) in
+      let turns = decided height (eqb (r .rows) 0) (eqb (s .rows) 0) (scroll r) (scroll s) (omega arith) (scroll-below r) (scroll-below s) (sym (first .0)) (sym (second .0)) in
       record {
-        columns = columns-decided (r .columns) (s .columns) (b .columns) (d .columns) (sym (first .1));
-        rows = lines .0;
+        columns = direction (r .columns) (s .columns) (b .columns) (d .columns) (column-decided (eqb (r .columns) 0) (eqb (s .columns) 0) (sym (first .1)));
+        rows = direction (r .rows) (s .rows) (b .rows) (d .rows) (turns .0);
         reverse = reverse-agrees;
-        line = lines .1;
+        line = turns .1;
       }
 
 pub demand3 : Demand3

@@ -1,11 +1,11 @@
 -- With all rows in use, the panel on and not forced all-lit: which RAM row each row of the frame shows, and where a RAM row shows.
 -- Assumes nothing.
-use mathlib.Core.Path.{_≡_, refl, sym, _∙_, ap}
+use mathlib.Core.Path.{_≡_, refl, _∙_, ap}
 use mathlib.Core.Bool.{Bool, true, false, cond}
 use mathlib.Core.List.{List, map}
-use Prim.Native.Nat.{ℕ, _+_, _-_, _%_, _≤_, _<_}
+use Prim.Native.Nat.{ℕ, _+_, _-_, _%_, _<_}
 use native.Mathlib.Omega.{arith}
-use native.Mathlib.Nat.{mod-lt, add-mod-right, add-mod-mod, mod-add-mod}
+use native.Mathlib.Nat.{mod-lt}
 use native.Mathlib.Decide.{decLt}
 use lib.Dec.{ltb, eqb}
 use borrow.Author.Tests.{lt-ltb, le-ltb}
@@ -13,11 +13,12 @@ use Rattle.bus.specs.Sizes.{width}
 use Rattle.bus.specs.Registers.{imageOf, ranges}
 use Rattle.bus.specs.declared.registers.Registers.{Registers}
 use Rattle.picture.specs.Sizes.{height, frameRows}
-use Rattle.picture.specs.Rows.{panelRow, ramRow, comOf, used, ramRowOf, panelShows, rowShows}
+use Rattle.picture.specs.Rows.{panelRow, ramRow, rowsInUse, comOf, used, ramRowOf, panelShows, rowShows}
 use Rattle.picture.specs.Frame.{bit, columnOf, turned, bits, frame, placeOf}
 use Rattle.picture.specs.Demand3.{Full, scroll}
 use Rattle.picture.specs.declared.rows.Shown.the-variants.{Ram}
 use Rattle.picture.proofs.RowRule.{of-both}
+use Rattle.picture.proofs.Turns.{turnOf, backOf, turn-back, back-turn, rule}
 use Rattle.picture.proofs.Ranges.{within-at, legal-within}
 use Rattle.picture.proofs.Places.{frame-place, bits-show}
 
@@ -28,7 +29,7 @@ pub record Bounds (r : Registers) : Type 0 where
   pub columns : r .columns < 2
   pub rows : r .rows < 2
   pub reverse : r .reverse < 2
-  pub multiplex : r .multiplex ≡ 63
+  pub allRows : rowsInUse r ≡ height
   pub on : r .on ≡ 1
   pub entire : r .entire ≡ 0
 
@@ -42,60 +43,10 @@ bounds r full =
       columns = omega (arith, held 12 (omega arith));
       rows = omega (arith, held 13 (omega arith));
       reverse = omega (arith, held 15 (omega arith));
-      multiplex = omega arith;
+      allRows = full .allRows;
       on = full .on;
       entire = full .notLit;
     }
-
--- the RAM row that panel row p shows, by rows normal or not and the scroll; and the panel row that shows RAM row n
-abbrev pub ramAt : Bool → ℕ → ℕ → ℕ
-ramAt normal c p = cond normal ((c + p) % height) ((c + 63 - p) % height)
-
-abbrev pub panelAt : Bool → ℕ → ℕ → ℕ
-panelAt normal c n = cond normal ((n + height - c) % height) ((c + 63 - n) % height)
-
-ram-panel : (normal : Bool) (c n : ℕ) → c < height → n < height → ramAt normal c (panelAt normal c n) ≡ n
-ram-panel true c n k l = omega arith
-ram-panel false c n k l = omega arith
-
-panel-ram : (normal : Bool) (c p : ℕ) → c < height → p < height → panelAt normal c (ramAt normal c p) ≡ p
-panel-ram true c p k l = omega arith
-panel-ram false c p k l = omega arith
-
--- start line minus offset, by cases, and the rule where rows are reversed
-pub reversed : (start offset p : ℕ) → start < height → offset < height → p < height → (start + 63 - (p + offset) % height) % height ≡ ((start + height - offset) % height + 63 - p) % height
-reversed start offset p s o l = either (decLt (p + offset) height) (decLt start offset)
-  where
-    either : Dec (p + offset < height) → Dec (start < offset) → (start + 63 - (p + offset) % height) % height ≡ ((start + height - offset) % height + 63 - p) % height
-    either (yes k) (yes m) =
-        let q : (p + offset) % height ≡ p + offset = omega arith in
-        let t : (start + height - offset) % height ≡ start + height - offset = omega arith in
-        let e : start + height - offset + 63 - p ≡ start + 63 - (p + offset) + height = omega arith in
-        rw (q, t, e, add-mod-right)
-    either (yes k) (no m) =
-        let q : (p + offset) % height ≡ p + offset = omega arith in
-        let t : (start + height - offset) % height ≡ start - offset = omega arith in
-        let e : start - offset + 63 - p ≡ start + 63 - (p + offset) = omega arith in
-        rw (q, t, e)
-    either (no k) (yes m) =
-        let q : (p + offset) % height ≡ p + offset - height = omega arith in
-        let t : (start + height - offset) % height ≡ start + height - offset = omega arith in
-        let e : start + height - offset + 63 - p ≡ start + 63 - (p + offset - height) = omega arith in
-        rw (q, t, e)
-    either (no k) (no m) =
-        let q : (p + offset) % height ≡ p + offset - height = omega arith in
-        let t : (start + height - offset) % height ≡ start - offset = omega arith in
-        let e : start + 63 - (p + offset - height) ≡ start - offset + 63 - p + height = omega arith in
-        rw (q, t, e, add-mod-right)
-
--- the row rule says the same
-rule : (normal : Bool) (start offset multiplex p : ℕ) → start < height → offset < height → multiplex ≡ 63 → p < height → cond normal (ramRow ((start + (p + offset) % height) % height)) (ramRow ((start + (multiplex + 1) - 1 - (p + offset) % height) % height)) .0 ≡ ramAt normal (cond normal ((start + offset) % height) ((start + height - offset) % height)) p
-rule true start offset multiplex p s o m l =
-    let e : start + (p + offset) ≡ start + offset + p = omega arith in
-    rw (add-mod-mod start (p + offset) height, mod-add-mod (start + offset) height p, e)
-rule false start offset multiplex p s o m l =
-    let e : start + (multiplex + 1) - 1 - (p + offset) % height ≡ start + 63 - (p + offset) % height = omega arith in
-    rw e (reversed start offset p s o l)
 
 pub scroll-below : (r : Registers) → scroll r < height
 unfolding scroll
@@ -103,17 +54,21 @@ scroll-below r = of-both (λ c. c < height) (eqb (r .rows) 0) (mod-lt _ (omega a
 
 -- the RAM row that a row of the frame shows, and the row of the frame that shows a RAM row: the icons apart
 abbrev pub ramOf : Registers → ℕ → ℕ
-ramOf r y = cond (ltb y height) (ramAt (eqb (r .rows) 0) (scroll r) y) height
+ramOf r y = cond (ltb y height) (turnOf height (eqb (r .rows) 0) (scroll r) y) height
 
 abbrev pub rowShowing : Registers → ℕ → ℕ
-rowShowing r n = cond (ltb n height) (panelAt (eqb (r .rows) 0) (scroll r) n) height
+rowShowing r n = cond (ltb n height) (backOf height (eqb (r .rows) 0) (scroll r) n) height
+
+either-row : (normal : Bool) (n m : ℕ) → cond normal (ramRow n) (ramRow m) ≡ ramRow (cond normal n m)
+either-row true n m = refl
+either-row false n m = refl
 
 module _ (r : Registers) (b : Bounds r) where
-  panel-shows : (p : ℕ) → p < height → panelShows height r (panelRow p) ≡ Ram (ramRow (ramAt (eqb (r .rows) 0) (scroll r) p))
+  panel-shows : (p : ℕ) → p < height → panelShows height r (panelRow p) ≡ Ram (ramRow (turnOf height (eqb (r .rows) 0) (scroll r) p))
   unfolding panelShows used ramRowOf comOf scroll
   panel-shows p l =
-      rw (lt-ltb ((p + r .offset) % height) (r .multiplex + 1) (omega (arith, mod-lt (p + r .offset) {m = height} (omega arith), b .multiplex)))
-      (ap (λ n. Ram (ramRow n)) (rule (eqb (r .rows) 0) (r .start) (r .offset) (r .multiplex) p (b .start) (b .offset) (b .multiplex) l))
+      rw (lt-ltb ((p + r .offset) % height) (rowsInUse r) (omega (arith, mod-lt (p + r .offset) {m = height} (omega arith), b .allRows)), either-row (eqb (r .rows) 0))
+      (ap (λ n. Ram (ramRow n)) (rule height (eqb (r .rows) 0) (r .start) (r .offset) (rowsInUse r) p (b .start) (b .offset) (b .allRows) l))
 
   pub row-shows : (y : ℕ) → y < frameRows → rowShows height r (panelRow y) ≡ Ram (ramRow (ramOf r y))
   unfolding rowShows
@@ -150,10 +105,10 @@ turned-back f g below back n l = either (decLt n height)
     either (no m) = rw (le-ltb n height (omega arith)) (omega arith)
 
 pub ram-of-row : (r : Registers) (n : ℕ) → n < frameRows → ramOf r (rowShowing r n) ≡ n
-ram-of-row r n l = turned-back (ramAt (eqb (r .rows) 0) (scroll r)) (panelAt (eqb (r .rows) 0) (scroll r)) (λ n k. of-both (λ y. y < height) (eqb (r .rows) 0) (mod-lt _ (omega arith)) (mod-lt _ (omega arith))) (λ n k. ram-panel (eqb (r .rows) 0) (scroll r) n (scroll-below r) k) n l
+ram-of-row r n l = turned-back (turnOf height (eqb (r .rows) 0) (scroll r)) (backOf height (eqb (r .rows) 0) (scroll r)) (λ n k. of-both (λ y. y < height) (eqb (r .rows) 0) (mod-lt _ (omega arith)) (mod-lt _ (omega arith))) (λ n k. turn-back height (eqb (r .rows) 0) (scroll r) n (scroll-below r) k) n l
 
 pub row-of-ram : (r : Registers) (y : ℕ) → y < frameRows → rowShowing r (ramOf r y) ≡ y
-row-of-ram r y l = turned-back (panelAt (eqb (r .rows) 0) (scroll r)) (ramAt (eqb (r .rows) 0) (scroll r)) (λ n k. of-both (λ y. y < height) (eqb (r .rows) 0) (mod-lt _ (omega arith)) (mod-lt _ (omega arith))) (λ n k. panel-ram (eqb (r .rows) 0) (scroll r) n (scroll-below r) k) y l
+row-of-ram r y l = turned-back (backOf height (eqb (r .rows) 0) (scroll r)) (turnOf height (eqb (r .rows) 0) (scroll r)) (λ n k. of-both (λ y. y < height) (eqb (r .rows) 0) (mod-lt _ (omega arith)) (mod-lt _ (omega arith))) (λ n k. back-turn height (eqb (r .rows) 0) (scroll r) n (scroll-below r) k) y l
 
 -- columns
 pub column-below : (r : Registers) (x : ℕ) → x < width → columnOf width r x < width

@@ -6,5 +6,6 @@ pub mod Places
 pub mod Ranges
 pub mod RowRule
 pub mod Samples
+pub mod Turns
 pub mod Bits
 pub mod Demand3

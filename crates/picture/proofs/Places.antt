@@ -1,12 +1,10 @@
 -- Laws on the frame: its length, each of its rows and places, and what decides two frames.
 -- Assumes nothing.
-use mathlib.Core.Path.{_≡_, refl, sym, _∙_, ap}
-use mathlib.Core.Bool.{cond}
+use mathlib.Core.Path.{_≡_, sym, _∙_, ap}
 use mathlib.Core.List.{List}
-use Prim.Native.Nat.{ℕ, _+_, _*_, _%_, _<_}
+use Prim.Native.Nat.{ℕ, _*_, _<_}
 use native.Mathlib.Nat.{add-zero, mod-mod}
-use lib.Dec.{eqb}
-use lib.ListN.{length, getD, take, drop, replicate}
+use lib.ListN.{length, getD, drop, replicate}
 use lib.Seq.{getD-take, getD-drop}
 use Rattle.bus.specs.Sizes.{width}
 use Rattle.bus.specs.declared.registers.Registers.{Registers}
@@ -14,7 +12,7 @@ use Rattle.picture.specs.Sizes.{height, frameRows, frameSize}
 use Rattle.picture.specs.Rows.{panelRow, ramRow, rowShows}
 use Rattle.picture.specs.Frame.{bit, columnOf, turned, bits, lighted, segment, line, frame, rowOf, placeOf}
 use Rattle.picture.specs.declared.rows.RamRow.{RamRow}
-use Rattle.picture.specs.declared.rows.Shown.the-variants.{Dark, Ram}
+use Rattle.picture.specs.declared.rows.Shown.the-variants.{Ram}
 use Rattle.picture.proofs.Lines.{line-same, line-at, grid-length, grid-row, grid-same, grid-alike}
 
 pub frame-length : (r : Registers) (memory : List ℕ) → length (frame r memory) ≡ frameSize

@@ -4,7 +4,6 @@ use borrow.Author.Needs.{needs}
 use Rattle.picture.proofs.draw.draw.Statement.{statement}
 use Rattle.picture.proofs.draw.draw.Tie as tie
 use mathlib.Core.Path.{_∙_, sym}
-use native.Mathlib.Omega.{arith}
 use borrow.Author.Tests.{lt-ltb, le-ltb}
 use denote.Ref.{now}
 use Rattle.bus.proofs.Legal.{long}

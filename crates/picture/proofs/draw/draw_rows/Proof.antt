@@ -7,7 +7,7 @@ use mathlib.Core.List.{List, _++_}
 use Prim.Native.Nat.{ℕ, _+_, _*_, _-_, _≤_}
 use native.Mathlib.Omega.{arith}
 use denote.Ref.{now}
-use lib.ListN.{length, drop, length-take, length-drop}
+use lib.ListN.{drop, length-take, length-drop}
 use Rattle.bus.specs.Sizes.{width}
 use Rattle.bus.specs.declared.registers.Registers.{Registers}
 use Rattle.picture.proofs.Lines.{grid-kept, grid-turn}

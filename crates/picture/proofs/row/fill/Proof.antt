@@ -2,12 +2,12 @@
 -- Assumes nothing.
 use Rattle.picture.proofs.row.fill.Statement.{statement}
 use Rattle.picture.proofs.row.fill.Tie as tie
-use mathlib.Core.Path.{_≡_, refl, sym, _∙_}
+use mathlib.Core.Path.{_≡_, refl, _∙_}
 use mathlib.Core.List.{_++_}
 use Prim.Native.Nat.{_≤_, _-_}
 use native.Mathlib.Omega.{arith}
 use denote.Ref.{now}
-use lib.ListN.{length, drop}
+use lib.ListN.{drop}
 use Rattle.bus.specs.Sizes.{width}
 use Rattle.picture.specs.Frame.{line}
 use Rattle.picture.proofs.Lines.{line-turn, line-done, line-kept}

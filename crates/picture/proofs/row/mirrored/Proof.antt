@@ -5,10 +5,10 @@ use Rattle.picture.proofs.row.mirrored.Statement.{statement}
 use Rattle.picture.proofs.row.mirrored.Tie as tie
 use mathlib.Core.Path.{_≡_, refl, _∙_}
 use mathlib.Core.List.{List, _++_}
-use Prim.Native.Nat.{ℕ, _+_, _≤_, _-_, _/_, _%_, _^_}
+use Prim.Native.Nat.{ℕ, _≤_, _-_, _/_, _%_, _^_}
 use native.Mathlib.Omega.{arith}
 use denote.Ref.{now}
-use lib.ListN.{length, getD, drop}
+use lib.ListN.{getD, drop}
 use Rattle.bus.specs.Sizes.{width}
 use Rattle.picture.specs.Frame.{line, turned}
 use Rattle.picture.proofs.Lines.{line-turn, line-done, line-kept}
