@@ -1,5 +1,6 @@
 pub mod Asking
 pub mod Lines
+pub mod Outcome
 pub mod Flip
 pub mod Full
 pub mod Places
