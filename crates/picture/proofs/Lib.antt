@@ -1,0 +1,12 @@
+pub mod Asking
+pub mod Lines
+pub mod Outcome
+pub mod Flip
+pub mod Full
+pub mod Places
+pub mod Ranges
+pub mod RowRule
+pub mod Samples
+pub mod Turns
+pub mod Bits
+pub mod Demand3
