@@ -64,5 +64,5 @@ module _ (memory : List ℕ) (row column : ℕ) (inside : address (row / 8) colu
   flip-hit = byte-hit memory (address (row / 8) column) (row % 8) inside
 
   pub flip-miss : (row′ column′ : ℕ) → column < width → column′ < width → ((row′ ≡ row) × (column′ ≡ column) → ⊥) → bit (flipped (ramRow row) column memory) (ramRow row′) column′ ≡ bit memory (ramRow row′) column′
-  unfolding bit flipped address
+  unfolding bit flipped
   flip-miss row′ column′ l l′ n = byte-miss memory (row / 8 * width + column) (row % 8) (row′ / 8 * width + column′) (row′ % 8) inside (λ e. n (omega arith))

@@ -2,7 +2,7 @@
 -- Assumes nothing.
 use mathlib.Core.Path.{_≡_, refl, _∙_, ap}
 use mathlib.Core.Bool.{Bool, true, false, cond}
-use mathlib.Core.List.{List, map}
+use mathlib.Core.List.{List}
 use Prim.Native.Nat.{ℕ, _+_, _-_, _%_, _<_}
 use native.Mathlib.Omega.{arith}
 use native.Mathlib.Nat.{mod-lt}
@@ -10,7 +10,8 @@ use native.Mathlib.Decide.{decLt}
 use lib.Dec.{ltb, eqb}
 use borrow.Author.Tests.{lt-ltb, le-ltb}
 use Rattle.bus.specs.Sizes.{width}
-use Rattle.bus.specs.Registers.{imageOf, ranges}
+use Rattle.bus.specs.Registers.{largestValues}
+use Rattle.bus.proofs.Kept.{legal-facts, bound}
 use Rattle.bus.specs.declared.registers.Registers.{Registers}
 use Rattle.picture.specs.Sizes.{height, frameRows}
 use Rattle.picture.specs.Rows.{panelRow, ramRow, rowsInUse, comOf, used, ramRowOf, panelShows, rowShows}
@@ -19,7 +20,6 @@ use Rattle.picture.specs.Demand3.{Full, scroll}
 use Rattle.picture.specs.declared.rows.Shown.the-variants.{Ram}
 use Rattle.picture.proofs.RowRule.{of-both}
 use Rattle.picture.proofs.Turns.{turnOf, backOf, turn-back, back-turn, rule}
-use Rattle.picture.proofs.Ranges.{within-at, legal-within}
 use Rattle.picture.proofs.Places.{frame-place, bits-show}
 
 -- what such a setting holds, as bounds
@@ -34,9 +34,9 @@ pub record Bounds (r : Registers) : Type 0 where
   pub entire : r .entire ≡ 0
 
 pub bounds : (r : Registers) → Full r → Bounds r
-unfolding ranges
+unfolding largestValues
 bounds r full =
-    let held = within-at (map (λ range. range .largest) ranges) (imageOf r) (legal-within (imageOf r) (full .inRange)) in
+    let held = bound r (legal-facts r (full .inRange)) in
     record {
       start = omega (arith, held 2 (omega arith));
       offset = omega (arith, held 3 (omega arith));

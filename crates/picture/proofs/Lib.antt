@@ -4,7 +4,6 @@ pub mod Outcome
 pub mod Flip
 pub mod Full
 pub mod Places
-pub mod Ranges
 pub mod RowRule
 pub mod Samples
 pub mod Turns
