@@ -1,2 +1,3 @@
 pub mod Start
 pub mod Events
+pub mod List
