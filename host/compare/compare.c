@@ -91,7 +91,7 @@ static unsigned long compare_all(void)
   unsigned long cases = 0;
   struct body body;
   for (uint8_t tag; (tag = stream_next(&body)) != TAG_END; cases++) {
-    if (tag >= sizeof tags / sizeof tags[0]) {
+    if (tag >= sizeof tags / sizeof tags[0] || tags[tag].compare == NULL) {
       fprintf(stderr, "compare: a case of the unknown tag %u\n", tag);
       exit(2);
     }
