@@ -8,6 +8,7 @@
 # Counted by the emulator where there is one, else by perf where the machine
 # lets it count, else by valgrind.
 set -euo pipefail
+shopt -s inherit_errexit
 
 bench=$1
 emulator=("${@:2}")
@@ -46,10 +47,16 @@ count() {
   esac
 }
 
-# per_unit WORKLOAD MODEL UNITS
+# per_unit WORKLOAD MODEL UNITS: a hundred times the instructions of a unit.
 per_unit() {
-  local n=2
-  echo $((($(count "$1" "$2" $((2 * n))) - $(count "$1" "$2" $n)) * 100 / n / $3))
+  local n=2 once twice
+  once=$(count "$1" "$2" $n)
+  twice=$(count "$1" "$2" $((2 * n)))
+  if [ "$twice" -le "$once" ]; then
+    echo "instructions: $once for $n times and $twice for $((2 * n)) cannot be" >&2
+    exit 1
+  fi
+  echo $(((twice - once) * 100 / n / $3))
 }
 
 echo "executed instructions, counted by $by"

@@ -90,9 +90,14 @@ static size_t one(void)
 
 /* ---- the listing of a frame ---- */
 
+/* A frame full of the letter P. */
 static void drawn(void)
 {
+  static const uint8_t letter[] = { 0x7F, 0x09, 0x09, 0x09, 0x06, 0x00 };
   columns_normal();
+  for (size_t i = 0; i < sizeof memory; i++) {
+    memory[i] = letter[i % sizeof letter];
+  }
   plain_draw(state, sizeof state, memory, sizeof memory, frame, sizeof frame);
 }
 
@@ -266,7 +271,7 @@ const struct workload workloads[] = {
   { "command call", "event", idle, single_commands, singles },
   { "write call", "event", idle, single_writes, singles },
   { "read call", "event", idle, single_reads, singles },
-  { "listing of a full frame", "text", drawn, list, one },
+  { "listing of letters", "text", drawn, list, one },
 };
 
 const size_t workload_count = sizeof workloads / sizeof workloads[0];

@@ -95,7 +95,8 @@ extern "C" {
 #define SSD1815B_TAKEN          0
 #define SSD1815B_TOO_SHORT      1  /* something lent is shorter than needed */
 #define SSD1815B_OUT_OF_RANGE   2  /* the state image is out of its ranges */
-#define SSD1815B_OUTSIDE_TABLE  3  /* not a command byte, with none awaited */
+#define SSD1815B_OUTSIDE_TABLE  3  /* a byte that is no command, B9 to BF
+                                   ** apart, with no code awaited */
 #define SSD1815B_NO_PAGE        4  /* B9 to BF, with no code awaited */
 #define SSD1815B_NOT_ALLOWED    5  /* n of D3 or D4; the code stays awaited */
 #define SSD1815B_CODE_AWAITED   6  /* data access while a code is awaited */
@@ -137,7 +138,7 @@ extern "C" {
 #define SSD1815B_AWAITED_CODE      19  /* 00, 81, A8, A9, AD, D3 or D4 (hex);
                                        ** 00 if none is awaited */
 #define SSD1815B_READ_MODIFY_WRITE 20  /* flag */
-#define SSD1815B_SAVED_COLUMN      21  /* 0 to 255; 0 while the flag before is */
+#define SSD1815B_SAVED_COLUMN      21  /* 0 to 255; 0 while the flag is 0 */
 #define SSD1815B_FRESH             22  /* flag, at power-on 1: the next read is
                                        ** the dummy read */
 

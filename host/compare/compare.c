@@ -18,8 +18,8 @@ static const char usage[] =
   "Makes every call of the oracle's stream of cases (oracle/README.md) on the\n"
   "library, and compares all that it answers and leaves.\n"
   "\n"
-  "  --shown-by COMMAND         what shows a case of the stream, to be printed\n"
-  "                             with a difference\n"
+  "  --shown-by COMMAND         what shows a case of the stream, printed with\n"
+  "                             a difference\n"
   "  --at-least EVENTS FRAMES   fewer single events or drawn frames, or a\n"
   "                             number that no call gave, are a failure\n"
   "\n"
@@ -91,7 +91,7 @@ static unsigned long compare_all(void)
   unsigned long cases = 0;
   struct body body;
   for (uint8_t tag; (tag = stream_next(&body)) != TAG_END; cases++) {
-    if (tag >= sizeof tags / sizeof tags[0]) {
+    if (tag >= sizeof tags / sizeof tags[0] || tags[tag].compare == NULL) {
       fprintf(stderr, "compare: a case of the unknown tag %u\n", tag);
       exit(2);
     }

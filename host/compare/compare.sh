@@ -17,7 +17,7 @@ shift
 
 cases=("$oracle" cases --seed "$seed"
   --singles $((200000 * times)) --events $((1000000 * times))
-  --runs $((5000 * times)) --draws $((26000 * times))
+  --runs $((5000 * times)) --draws $((27000 * times))
   --listings $((500 * times)))
 
 "${cases[@]}" | "$@" --shown-by "${cases[*]} | $oracle show" \

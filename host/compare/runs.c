@@ -52,7 +52,8 @@ void compare_run(struct body *body)
   same_number(THE_OFFSET, offset, *(size_t *)offset_at);
   same_number(THE_COUNT, count, *(size_t *)count_at);
   same_bytes(THE_STATE, state_after.at, state_room.lent, state_after.length);
-  same_bytes(THE_MEMORY, memory_after.at, memory_room.lent, memory_after.length);
+  same_bytes(THE_MEMORY, memory_after.at, memory_room.lent,
+             memory_after.length);
   same_bytes(THE_TRACE, trace.at, trace_room.lent, trace.length);
   same_guards(THE_STATE, &state_room);
   same_guards(THE_MEMORY, &memory_room);

@@ -135,7 +135,7 @@ static void listing_contents(void)
   frame[1 * 132 + 0] = 1;
   frame[1 * 132 + 2] = 1;
   frame[1 * 132 + 3] = 1;
-  memset(frame + 63 * 132, 1, 132);
+  memset(&frame[63 * 132], 1, 132);
   frame[64 * 132 + 99] = 1;
   frame[64 * 132 + 100] = 1;
   CHECK(list(0, 77, frame, sizeof frame, SSD1815B_TEXT_SIZE, &length) == 0);

@@ -99,9 +99,9 @@ says 'the header says 513 bytes of payload; left: 1' 01 02 01 00 AF
 says 'refused 9 at 5: kind not 1 to 4' 01 00 01 00 AF 00 00 05 00
 says 'the header says kind 257, 0 bytes of payload' 00 00 01 01
 says 'refused 10 at 12: a compared read differs' 03 00 02 00 11 22 33 02 00 03 00 00 07
-says 'recorded is 07; the model reads 00, page 0 column 3' 03 00 02 00 11 22 33 02 00 03 00 00 07
-says 'record 1, data read, 2 bytes from 11; byte 1 of them, 07' 03 00 02 00 11 22 33 02 00 03 00 00 07
-says 'from byte 7: 02 00 03 00 00 [07]' 03 00 02 00 11 22 33 02 00 03 00 00 07
+says 'recorded is 07, the model reads 00 (hex), at page 0, column 3' 03 00 02 00 11 22 33 02 00 03 00 00 07
+says 'record 1, data read, 2 bytes from 11; byte 1 of them is 07 (hex)' 03 00 02 00 11 22 33 02 00 03 00 00 07
+says 'bytes from 7 (hex): 02 00 03 00 00 [07]' 03 00 02 00 11 22 33 02 00 03 00 00 07
 
 # ---- show ----
 

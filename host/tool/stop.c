@@ -77,7 +77,8 @@ static void print_particulars(FILE *out, const struct played *played,
   switch (played->number) {
   case SSD1815B_NOT_ALLOWED:
   case SSD1815B_CODE_AWAITED:
-    fprintf(out, "  awaited is the n of %02X\n", state[SSD1815B_AWAITED_CODE]);
+    fprintf(out, "  awaited is the n of %02X (hex)\n",
+            state[SSD1815B_AWAITED_CODE]);
     break;
   case SSD1815B_COLUMN_ABOVE:
     fprintf(out, "  the column is %u\n", state[SSD1815B_COLUMN]);
@@ -101,9 +102,9 @@ static void print_particulars(FILE *out, const struct played *played,
     memcpy(after, state, sizeof after);
     ssd1815b_read(after, sizeof after, played->memory, sizeof played->memory,
                   &byte, &dummy);
-    fprintf(out, "  recorded is %02X; the model reads %02X, page %u column %u\n",
-            played->trace[played->offset], byte, state[SSD1815B_PAGE],
-            state[SSD1815B_COLUMN]);
+    fprintf(out, "  recorded is %02X, the model reads %02X (hex), at page %u,"
+            " column %u\n", played->trace[played->offset], byte,
+            state[SSD1815B_PAGE], state[SSD1815B_COLUMN]);
     break;
   }
   default:
@@ -120,7 +121,7 @@ static void print_bytes(FILE *out, const struct played *played,
   size_t from = place - record.first > AROUND ? place - AROUND : record.first;
   size_t to = played->trace_len - place > AROUND ? place + AROUND
                                                  : played->trace_len;
-  fprintf(out, "  from byte %zu:", from);
+  fprintf(out, "  bytes from %zu (hex):", from);
   for (size_t i = from; i < to; i++) {
     fprintf(out, i == place ? " [%02X]" : " %02X", played->trace[i]);
   }
@@ -140,12 +141,12 @@ void stop_print(FILE *out, const struct played *played)
       || played->number == SSD1815B_KIND_UNKNOWN) {
     fprintf(out, "  record %zu, its header", played->count);
   } else {
-    fprintf(out, "  record %zu, %s, %zu bytes from %zu; byte %zu of them, %02X",
-            played->count, kind_name(record.kind), record.length,
+    fprintf(out, "  record %zu, %s, %zu bytes from %zu; byte %zu of them is"
+            " %02X (hex)", played->count, kind_name(record.kind), record.length,
             record.first + HEADER_SIZE,
             played->offset - record.first - HEADER_SIZE,
             played->trace[played->offset]);
   }
-  fprintf(out, " (records and bytes count from 0)\n");
+  fprintf(out, "; records and bytes count from 0\n");
   print_bytes(out, played, record);
 }
