@@ -533,14 +533,10 @@ static uint8_t *put_row(uint8_t *to, const uint8_t *row, size_t number)
   return to;
 }
 
-uint8_t plain_list(uint8_t number, size_t offset, const uint8_t *frame,
-                   size_t frame_len, uint8_t *text, size_t text_len,
-                   size_t *length)
+/* The listing into a text that is long enough for any; its length. */
+static size_t put_listing(uint8_t *text, uint8_t number, size_t offset,
+                          const uint8_t *frame)
 {
-  *length = 0;
-  if (frame_len < FRAME_SIZE || text_len < SSD1815B_TEXT_SIZE) {
-    return SSD1815B_TOO_SHORT;
-  }
   uint8_t *to = text;
   if (number != SSD1815B_TAKEN) {
     to = put_text(to, "refused ");
@@ -554,6 +550,27 @@ uint8_t plain_list(uint8_t number, size_t offset, const uint8_t *frame,
     to = put_row(to, frame + row * COLUMNS, row);
   }
   to = put_text(to, "end\n");
-  *length = (size_t)(to - text);
+  return (size_t)(to - text);
+}
+
+uint8_t plain_list(uint8_t number, size_t offset, const uint8_t *frame,
+                   size_t frame_len, uint8_t *text, size_t text_len,
+                   size_t *length)
+{
+  *length = 0;
+  if (frame_len < FRAME_SIZE) {
+    return SSD1815B_TOO_SHORT;
+  }
+  if (text_len >= SSD1815B_TEXT_SIZE) {
+    *length = put_listing(text, number, offset, frame);
+    return SSD1815B_TAKEN;
+  }
+  uint8_t room[SSD1815B_TEXT_SIZE];
+  size_t needed = put_listing(room, number, offset, frame);
+  if (text_len < needed) {
+    return SSD1815B_TOO_SHORT;
+  }
+  memcpy(text, room, needed);
+  *length = needed;
   return SSD1815B_TAKEN;
 }

@@ -80,7 +80,7 @@ extern "C" {
 #define SSD1815B_STATE_SIZE   23
 #define SSD1815B_MEMORY_SIZE  1188
 #define SSD1815B_FRAME_SIZE   8580
-#define SSD1815B_TEXT_SIZE    65536  /* holds every listing */
+#define SSD1815B_TEXT_SIZE    27408  /* holds every listing (proved) */
 
 /*
 ** Numbers given
@@ -297,8 +297,8 @@ uint8_t ssd1815b_draw(
 **
 ** Answers 0 with the text in the first *length bytes of text, the rest of
 ** text unchanged; no byte 0 ends it.  Answers 1 if frame is shorter than
-** 8,580 or text shorter than SSD1815B_TEXT_SIZE; then text is not written and
-** *length is 0.
+** 8,580 or text shorter than the listing, which a text of SSD1815B_TEXT_SIZE
+** bytes never is; then text is not written and *length is 0.
 */
 uint8_t ssd1815b_list(
   uint8_t number,

@@ -106,20 +106,22 @@ static void listing_lengths(void)
 {
   static const uint8_t dark[SSD1815B_FRAME_SIZE + 20];
   static const size_t frame_lengths[] = { 0, 1, 8579, 8580, 8600 };
+  static const char expected[] = "frame 132 65\nend\n";
   static const size_t text_lengths[] = {
-    0, 1, SSD1815B_TEXT_SIZE - 1, SSD1815B_TEXT_SIZE, LONGEST_TEXT
+    0, 1, sizeof expected - 2, sizeof expected - 1, SSD1815B_TEXT_SIZE,
+    LONGEST_TEXT
   };
   for (size_t i = 0; i < 5; i++) {
-    for (size_t j = 0; j < 5; j++) {
+    for (size_t j = 0; j < 6; j++) {
       size_t length;
       uint8_t answer = list(0, 0, dark, frame_lengths[i], text_lengths[j],
                             &length);
-      if (frame_lengths[i] < 8580 || text_lengths[j] < SSD1815B_TEXT_SIZE) {
+      if (frame_lengths[i] < 8580 || text_lengths[j] < sizeof expected - 1) {
         CHECK(answer == 1);
         CHECK(length == 0);
       } else {
         CHECK(answer == 0);
-        CHECK(text_is("frame 132 65\nend\n", length));
+        CHECK(text_is(expected, length));
       }
     }
   }
