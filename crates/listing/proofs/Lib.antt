@@ -1,7 +1,9 @@
 pub mod Pieces
 pub mod Decimals
+pub mod Digits
 pub mod Walk
 pub mod Exact
+pub mod Telling
 pub mod Lengths
 pub mod Longest
 pub mod Outcomes

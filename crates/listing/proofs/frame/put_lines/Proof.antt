@@ -5,14 +5,14 @@
 use Rattle.listing.proofs.frame.put_lines.Statement.{statement}
 use Rattle.listing.proofs.frame.put_lines.Tie as tie
 use Prim.Native.Nat.{ℕ, suc, _≤_, _<_, _+_, _-_, _*_}
-use mathlib.Core.Path.{_≡_, refl}
+use mathlib.Core.Path.{_≡_, subst⁻¹}
 use mathlib.Core.List.{List, _++_}
-use native.Mathlib.Nat.{sub-self}
 use native.Mathlib.Numerals.{add-one}
 use native.Mathlib.Omega.{arith}
 use denote.Ref.{now}
 use lib.ListN.{length, take, drop}
 use Rattle.listing.specs.Sizes.{width, rows}
+use Rattle.listing.specs.Put.{Countable}
 use Rattle.listing.specs.Text.{line, rowOf, lines}
 use Rattle.listing.proofs.Pieces.{Rest, begin, turn, done, room, room-left, rest-length}
 
@@ -58,7 +58,7 @@ put-line-requires c κs =
     let start = at .before .before .before in
     let frame = now (start .args .frame) in
     let p = at .loop .p in
-    rw (part frame p) (room (at .loop .next) (line p (rowOf width frame p)) _ (rw (lines-on width frame rows p (c .before .before .loop-test .taken)) at (room-left (at .loop .inv .1) (start .pre .1))))
+    subst⁻¹ (λ row. Countable (at .loop .next) (line p row)) (part frame p) (room (at .loop .next) (line p (rowOf width frame p)) _ (rw (lines-on width frame rows p (c .before .before .loop-test .taken)) at (room-left (at .loop .inv .1) (start .pre .1))))
 
 add-p : tie.Need-add-p Inv-loop μ-loop
 add-p c = omega arith
