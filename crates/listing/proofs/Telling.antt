@@ -90,10 +90,13 @@ module _ (w : ℕ) (narrow : w ≤ 2 ^ 64) where
     where
       row : List ℕ
       row = rowOf w frame q
+
       rest : List ℕ
       rest = lines w frame n (suc q) ++ ascii "end\n"
+
       text : decimal p ++ s ≡ line q row ++ rest
       text = rw append-assoc at e
+
       by : (t : Bool) → anyLit row ≡ t → (decimal p ++ s ≡ rest → ⊥) → ⊥
       by true d r =
           let same = number-first p q s (runsText (runs row) ++ 10 ∷ rest) (omega (arith, h, k)) (omega (arith, k)) c (runs-stop (runs row) rest) (rw (line-first q row rest d) at text) in
@@ -107,8 +110,10 @@ module _ (w : ℕ) (narrow : w ≤ 2 ^ 64) where
     where
       a : List ℕ
       a = rowOf w f p
+
       b : List ℕ
       b = rowOf w g p
+
       by : (x y : Bool) → anyLit a ≡ x → anyLit b ≡ y → (runs a ≡ runs b) × (s ≡ t)
       by true true c d =
           let same = number-first p p (runsText (runs a) ++ 10 ∷ s) (runsText (runs b) ++ 10 ∷ t) h h (runs-stop (runs a) s) (runs-stop (runs b) t) (rw (line-first p a s c, line-first p b t d) at e) in
@@ -124,8 +129,10 @@ module _ (w : ℕ) (narrow : w ≤ 2 ^ 64) where
     where
       s : List ℕ
       s = lines w f n (suc p) ++ ascii "end\n"
+
       t : List ℕ
       t = lines w g n (suc p) ++ ascii "end\n"
+
       here : (runs (rowOf w f p) ≡ runs (rowOf w g p)) × (s ≡ t)
       here = row-tells f g p s t (omega (arith, h)) (rw (append-assoc, append-assoc) at e)
           (λ q c. later-lines f n (suc p) p q (omega arith) (omega (arith, h)) c)
