@@ -9,12 +9,12 @@ use borrow.Author.Tests.{lt-ltb, le-ltb}
 use lib.Dec.{ltb}
 use lib.ListN.{length, drop}
 use lib.Seq.{drop-append-seam}
-use Rattle.listing.specs.Sizes.{frameSize, longest}
+use Rattle.listing.specs.Sizes.{frameSize, longestListing}
 use Rattle.listing.specs.Text.{listingOf}
 use Rattle.listing.specs.Listing.{Outcome, outcome, tooShort, written, listed}
 use Rattle.listing.specs.declared.Listed.{Listed}
 use Rattle.listing.specs.declared.Listed.the-variants.{Refused}
-use Rattle.listing.proofs.Longest.{at-most}
+use Rattle.listing.proofs.Bound.{at-most}
 
 module _ (number offset : ℕ) (frame text : List ℕ) where
   pub frame-short : length frame < frameSize → listed number offset frame text ≡ outcome (Refused tooShort) text
@@ -42,7 +42,7 @@ module _ (number offset : ℕ) (frame text : List ℕ) where
       by false = drop-append-seam whole (drop (length whole) text)
 
   -- a buffer of 27,408 bytes is enough for any frame, number and offset
-  pub always-enough : number < 256 → offset < 2 ^ 64 → frameSize ≤ length frame → longest ≤ length text → listed number offset frame text ≡ written (listingOf number offset frame) text
+  pub always-enough : number < 256 → offset < 2 ^ 64 → frameSize ≤ length frame → longestListing ≤ length text → listed number offset frame text ≡ written (listingOf number offset frame) text
   always-enough n o h k = both-long h (omega (arith, at-most number offset frame n o, k))
 
 -- Two results that satisfy the call's statement are equal.

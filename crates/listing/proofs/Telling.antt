@@ -2,7 +2,7 @@
 -- Assumes nothing.
 use Prim.Native.Nat.{ℕ, zero, suc, _+_, _*_, _^_, _≤_, _<_}
 use mathlib.Core.Path.{_≡_, refl, sym, _∙_, ap, ap₂}
-use mathlib.Core.Bool.{Bool, true, false, true≢false}
+use mathlib.Core.Bool.{Bool, true, false}
 use mathlib.Core.List.{List, [], _∷_, _++_, append-assoc}
 use mathlib.Core.Logic.{⊎-elim}
 use native.Mathlib.Nat.{eq-or-lt-of-le}
@@ -13,12 +13,12 @@ use lib.ListN.{length, length-take, getD, take, drop}
 use lib.Seq.{getD-take, getD-drop}
 use Rattle.listing.specs.Sizes.{width, rows}
 use Rattle.listing.specs.Ascii.{ascii}
-use Rattle.listing.specs.Decimal.{digits, decimal}
-use Rattle.listing.specs.Runs.{Run, lit, anyLit, leading, runsFrom, runs, covered}
+use Rattle.listing.specs.Decimal.{decimal}
+use Rattle.listing.specs.Runs.{Run, lit, anyLit, leading, runsFrom, runs}
 use Rattle.listing.specs.Text.{runText, runsText, line, rowOf, lines, frameText, refusedText, listingOf}
 use Rattle.listing.proofs.Digits.{Stop, number-first, digit-first}
 use Rattle.listing.proofs.Walk.{leading-length}
-use Rattle.listing.proofs.Exact.{runs-are}
+use Rattle.listing.proofs.LongestRuns.{runs-are, no-runs}
 
 cancel : (p s t : List ℕ) → p ++ s ≡ p ++ t → s ≡ t
 cancel [] s t e = e
@@ -70,12 +70,6 @@ line-none : (p : ℕ) (row s : List ℕ) → anyLit row ≡ false → line p row
 unfolding line
 line-none p row s e = rw e
 
-no-runs : (x : ℕ) (row : List ℕ) → anyLit row ≡ false → runsFrom x 0 row ≡ []
-unfolding runsFrom anyLit lit
-no-runs x [] e = refl
-no-runs x (zero ∷ row) e = no-runs (suc x) row e
-no-runs x (suc b ∷ row) e = absurd (true≢false e)
-
 -- Rows w wide, each with a number of the machine.
 module _ (w : ℕ) (narrow : w ≤ 2 ^ 64) where
   small-row : (frame : List ℕ) (p : ℕ) → Small (runs (rowOf w frame p))
@@ -120,7 +114,7 @@ module _ (w : ℕ) (narrow : w ≤ 2 ^ 64) where
           runs-tell (runs a) (runs b) s t (small-row f p) (small-row g p) (same .1)
       by true false c d = absurd (v (runsText (runs a) ++ 10 ∷ s) (runs-stop (runs a) s) (rw (line-first p a s c, line-none p b t d) at e))
       by false true c d = absurd (u (runsText (runs b) ++ 10 ∷ t) (runs-stop (runs b) t) (sym (rw (line-none p a s c, line-first p b t d) at e)))
-      by false false c d = (no-runs 0 a c ∙ sym (no-runs 0 b d), rw (line-none p a s c, line-none p b t d) at e)
+      by false false c d = (no-runs a c ∙ sym (no-runs b d), rw (line-none p a s c, line-none p b t d) at e)
 
   lines-tell : (f g : List ℕ) (n p : ℕ) → p + n ≤ 2 ^ 64 → lines w f n p ++ ascii "end\n" ≡ lines w g n p ++ ascii "end\n" → (q : ℕ) → p ≤ q → q < p + n → runs (rowOf w f q) ≡ runs (rowOf w g q)
   unfolding lines
