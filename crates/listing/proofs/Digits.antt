@@ -20,7 +20,7 @@ digits-and : (a b : List ℕ) → Digits a → Digits b → Digits (a ++ b)
 digits-and [] b p q = q
 digits-and (d ∷ a) b p q = (p .0, p .1, digits-and a b (p .2) q)
 
-pub all-digits : (f n : ℕ) → Digits (digits f n)
+all-digits : (f n : ℕ) → Digits (digits f n)
 unfolding digits
 all-digits zero n = tt
 all-digits (suc f) n = digits-and (cond (ltb n 10) [] (digits f (n / 10))) ((48 + n % 10) ∷ []) (by (ltb n 10) (all-digits f (n / 10))) (omega arith, omega arith, tt)
@@ -30,7 +30,7 @@ all-digits (suc f) n = digits-and (cond (ltb n 10) [] (digits f (n / 10))) ((48 
     by false r = r
 
 -- the number that digits say, after the number that the digits before them say
-abbrev value : ℕ → List ℕ → ℕ
+abbrev pub value : ℕ → List ℕ → ℕ
 value so [] = so
 value so (d ∷ more) = value (so * 10 + (d - 48)) more
 
@@ -39,7 +39,7 @@ value-and so [] b = refl
 value-and so (d ∷ a) b = value-and (so * 10 + (d - 48)) a b
 
 -- read back, a number's digits say it
-pub read-back : (f n : ℕ) → n < 10 ^ suc f → value 0 (digits (suc f) n) ≡ n
+read-back : (f n : ℕ) → n < 10 ^ suc f → value 0 (digits (suc f) n) ≡ n
 unfolding digits
 read-back zero n h = by (ltb n 10) refl
   where
@@ -52,7 +52,7 @@ read-back (suc f) n h = by (ltb n 10) refl (read-back f (n / 10) (omega (arith, 
     by true e r = omega (arith, ltb-true n 10 e)
     by false e r = value-and 0 (digits (suc f) (n / 10)) ((48 + n % 10) ∷ []) ∙ rw r (omega arith)
 
-pub decimal-alone : (m n : ℕ) → m < 2 ^ 64 → n < 2 ^ 64 → decimal m ≡ decimal n → m ≡ n
+decimal-alone : (m n : ℕ) → m < 2 ^ 64 → n < 2 ^ 64 → decimal m ≡ decimal n → m ≡ n
 unfolding decimal
 decimal-alone m n h k e = sym (read-back 19 m (omega (arith, h))) ∙ ap (value 0) e ∙ read-back 19 n (omega (arith, k))
 
@@ -61,7 +61,7 @@ unfolding digits
 some-digit f n = omega (arith, length-append (cond (ltb n 10) [] (digits f (n / 10))) ((48 + n % 10) ∷ []))
 
 -- no leading zero: only 0 begins with the digit 0
-pub no-leading-zero : (f n : ℕ) → n < 10 ^ suc f → getD (digits (suc f) n) 0 0 ≡ 48 → n ≡ 0
+no-leading-zero : (f n : ℕ) → n < 10 ^ suc f → getD (digits (suc f) n) 0 0 ≡ 48 → n ≡ 0
 unfolding digits
 no-leading-zero zero n h e = by (ltb n 10) e
   where
@@ -108,3 +108,8 @@ digit-first n s = rw (List·getD-append (digits 20 n) s 0 0 (some-digit 19 n)) (
     by : (l : List ℕ) → Digits l → getD l 0 0 ≤ 57
     by [] p = omega arith
     by (d ∷ more) p = p .1
+
+-- Plain decimal: digits alone, that say the number, with no leading zero.
+pub plain : (n : ℕ) → n < 2 ^ 64 → Digits (decimal n) × (value 0 (decimal n) ≡ n) × (getD (decimal n) 0 0 ≡ 48 → n ≡ 0)
+unfolding decimal
+plain n h = (all-digits 20 n, read-back 19 n (omega (arith, h)), no-leading-zero 19 n (omega (arith, h)))
