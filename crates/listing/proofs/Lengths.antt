@@ -3,9 +3,9 @@
 use Prim.Native.Nat.{ℕ, _+_}
 use mathlib.Core.Path.{_≡_}
 use mathlib.Core.Bool.{true}
-use mathlib.Core.List.{List}
+use mathlib.Core.List.{List, []}
 use native.Mathlib.Omega.{arith}
-use borrow.Author.Tests.{ne-eqb}
+use borrow.Author.Tests.{eq-eqb, ne-eqb}
 use lib.ListN.{length, length-append}
 use Rattle.listing.specs.Sizes.{width, rows}
 use Rattle.listing.specs.Ascii.{ascii}
@@ -22,6 +22,11 @@ run-length run = simp length-append (omega arith)
 pub line-length : (p : ℕ) (row : List ℕ) → anyLit row ≡ true → length (line p row) ≡ length (decimal p) + length (runsText (runs row)) + 1
 unfolding line ascii
 line-length p row e = rw e (simp length-append (omega arith))
+
+-- a run that was taken prints nothing
+pub taken-nothing : (number offset : ℕ) → number ≡ 0 → refusedText number offset ≡ []
+unfolding refusedText
+taken-nothing number offset e = rw (eq-eqb number 0 e)
 
 -- "refused ", " at " and a newline
 pub refused-length : (number offset : ℕ) → (number ≡ 0 → ⊥) → length (refusedText number offset) ≡ length (decimal number) + length (decimal offset) + 13

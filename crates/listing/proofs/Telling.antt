@@ -7,7 +7,7 @@ use mathlib.Core.List.{List, [], _∷_, _++_, append-assoc}
 use mathlib.Core.Logic.{⊎-elim}
 use native.Mathlib.Nat.{eq-or-lt-of-le}
 use native.Mathlib.Omega.{arith}
-use borrow.Author.Tests.{eqb-true, eqb-false, eq-eqb, ne-eqb}
+use borrow.Author.Tests.{eqb-true, eqb-false, ne-eqb}
 use lib.Dec.{eqb, lit<, lit≤}
 use lib.ListN.{length, length-take, getD, take, drop}
 use lib.Seq.{getD-take, getD-drop}
@@ -19,6 +19,7 @@ use Rattle.listing.specs.Text.{runText, runsText, line, rowOf, lines, fr
 use Rattle.listing.proofs.Digits.{Stop, number-first, digit-first}
 use Rattle.listing.proofs.Walk.{leading-length}
 use Rattle.listing.proofs.LongestRuns.{runs-are, no-runs}
+use Rattle.listing.proofs.Lengths.{taken-nothing}
 
 cancel : (p s t : List ℕ) → p ++ s ≡ p ++ t → s ≡ t
 cancel [] s t e = e
@@ -157,8 +158,7 @@ unfolding refusedText ascii
 refused-first number offset s n = rw (ne-eqb number 0 n) (simp append-assoc)
 
 refused-none : (number offset : ℕ) (s : List ℕ) → number ≡ 0 → refusedText number offset ++ s ≡ s
-unfolding refusedText
-refused-none number offset s e = rw (eq-eqb number 0 e)
+refused-none number offset s e = rw (taken-nothing number offset e)
 
 -- Two runs with what is printed of them, before texts that do not begin with "r".
 module _ (m n o u : ℕ) (s t : List ℕ) (a : m < 2 ^ 64) (b : n < 2 ^ 64) (c : o < 2 ^ 64) (d : u < 2 ^ 64) (f : getD s 0 0 < 114) (g : getD t 0 0 < 114) where
