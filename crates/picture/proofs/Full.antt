@@ -67,8 +67,8 @@ module _ (r : Registers) (b : Bounds r) where
   panel-shows : (p : ℕ) → p < height → panelShows height r (panelRow p) ≡ Ram (ramRow (turnOf height (eqb (r .rows) 0) (scroll r) p))
   unfolding panelShows used ramRowOf comOf scroll
   panel-shows p l =
-      rw (lt-ltb ((p + r .offset) % height) (rowsInUse r) (omega (arith, mod-lt (p + r .offset) {m = height} (omega arith), b .allRows)), either-row (eqb (r .rows) 0))
-      (ap (λ n. Ram (ramRow n)) (rule height (eqb (r .rows) 0) (r .start) (r .offset) (rowsInUse r) p (b .start) (b .offset) (b .allRows) l))
+      rw (b .allRows, lt-ltb ((p + r .offset) % height) height (mod-lt _ (omega arith)), either-row (eqb (r .rows) 0))
+      (ap (λ n. Ram (ramRow n)) (rule height (eqb (r .rows) 0) (r .start) (r .offset) p (b .start) (b .offset) l))
 
   pub row-shows : (y : ℕ) → y < frameRows → rowShows height r (panelRow y) ≡ Ram (ramRow (ramOf r y))
   unfolding rowShows

@@ -82,13 +82,13 @@ module _ (h : ℕ) where
   amount normal start offset = cond normal ((start + offset) % h) ((start + h - offset) % h)
 
   -- the row rule is a turn by it
-  pub rule : (normal : Bool) (start offset m p : ℕ) → start < h → offset < h → m ≡ h → p < h → cond normal ((start + (p + offset) % h) % h) ((start + m - 1 - (p + offset) % h) % h) ≡ turnOf h normal (amount normal start offset) p
-  rule true start offset m p s o e l =
+  pub rule : (normal : Bool) (start offset p : ℕ) → start < h → offset < h → p < h → cond normal ((start + (p + offset) % h) % h) ((start + h - 1 - (p + offset) % h) % h) ≡ turnOf h normal (amount normal start offset) p
+  rule true start offset p s o l =
       let sum : start + (p + offset) ≡ start + offset + p = omega arith in
       rw (add-mod-mod start (p + offset) h, mod-add-mod (start + offset) h p, sum)
-  rule false start offset m p s o e l =
+  rule false start offset p s o l =
       let below = mod-lt (p + offset) {m = h} (omega arith) in
-      let last : start + m - 1 - (p + offset) % h ≡ start + (h - 1) - (p + offset) % h = omega arith in
+      let last : start + h - 1 - (p + offset) % h ≡ start + (h - 1) - (p + offset) % h = omega arith in
       rw last (reversed start offset p s o l)
 
   -- the start line raised by n: rows normal show what was n rows below, rows reversed what was n rows above
