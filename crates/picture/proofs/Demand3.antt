@@ -3,7 +3,7 @@
 use mathlib.Core.Path.{_≡_, refl, sym, _∙_, ap, subst₂}
 use mathlib.Core.Logic.{_≢_}
 use mathlib.Core.Bool.{Bool, true, false, cond, false≢true}
-use mathlib.Core.List.{List}
+use mathlib.Core.List.{List, [], _∷_}
 use Prim.Native.Nat.{ℕ, zero, suc, _+_, _-_, _/_, _%_, _^_, _≤_, _<_}
 use native.Mathlib.Omega.{arith}
 use native.Mathlib.Nat.{mod-lt, le-of-eq, zero-div}
@@ -15,12 +15,18 @@ use lib.Pow.{pow-lt}
 use lib.ListN.{length, getD, set, replicate, length-set, length-replicate, getD-replicate, List·getD-eq-default}
 use lib.Seq.{getD-set-same, getD-set-other}
 use Rattle.bus.specs.Sizes.{width, memorySize}
+use Rattle.codes.specs.Table.{table, commandBy, commandOf}
+use Rattle.bus.specs.Registers.{ranges, powerOn}
 use Rattle.bus.specs.Memory.{address}
+use Rattle.bus.specs.Events.{obeyed, command}
+use Rattle.bus.specs.Machine.{commandByte, step, registersAfter, chipAfter}
+use Rattle.bus.specs.Image.{within, awaitedCodes, legal}
 use Rattle.bus.specs.declared.registers.Registers.{Registers}
 use Rattle.picture.specs.Sizes.{height, frameRows}
 use Rattle.picture.specs.Rows.{ramRow}
 use Rattle.picture.specs.Frame.{bit, columnOf, turned, bits, line, frame, rowOf, placeOf}
-use Rattle.picture.specs.Demand3.{flipped, ShowsAt, OnePlace, SomeBit, raised, Scrolls, Content, scroll, Agree, Demand3}
+use Rattle.picture.specs.Samples.{after, run}
+use Rattle.picture.specs.Demand3.{Full, flipped, ShowsAt, OnePlace, SomeBit, raised, Scrolls, Content, scroll, Agree, Demand3}
 use Rattle.picture.specs.declared.rows.RamRow.{RamRow}
 use Rattle.picture.proofs.Lines.{line-same, grid-same}
 use Rattle.picture.proofs.Flip.{flip-hit, flip-miss}
@@ -233,6 +239,11 @@ module _ (r s : Registers) (b : Bounds r) (d : Bounds s) (same : (memory : List 
         reverse = reverse-agrees;
         line = turns .1;
       }
+
+-- the demand is not empty: after AF from power-on the chip is set so
+pub full-once-on : Full (run (commandByte 0xAF ∷ []) .registers)
+unfolding ranges powerOn within awaitedCodes legal table commandBy commandOf obeyed command step registersAfter chipAfter after
+full-once-on = record { inRange = refl; allRows = refl; on = refl; notLit = refl }
 
 pub demand3 : Demand3
 demand3 = record {
