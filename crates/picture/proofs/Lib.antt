@@ -1,6 +1,6 @@
 pub mod Samples
 pub mod Demand3
-pub mod Outcome
+pub mod Yields
 pub mod Lines
 pub mod Places
 pub mod RowRule
