@@ -48,6 +48,15 @@ module _ (h : ℕ) where
   there-again c p u w k l k′ l′ (high d) (low e) = omega arith
   there-again c p u w k l k′ l′ (high d) (high e) = omega arith
 
+  -- they stay among the h rows
+  pub turn-below : (normal : Bool) (c p : ℕ) → 0 < h → turnOf h normal c p < h
+  turn-below true c p pos = mod-lt _ pos
+  turn-below false c p pos = mod-lt _ pos
+
+  pub back-below : (normal : Bool) (c n : ℕ) → 0 < h → backOf h normal c n < h
+  back-below true c n pos = mod-lt _ pos
+  back-below false c n pos = mod-lt _ pos
+
   -- the turn and the turn back undo each other
   pub turn-back : (normal : Bool) (c n : ℕ) → c < h → n < h → turnOf h normal c (backOf h normal c n) ≡ n
   turn-back true c n k l =
