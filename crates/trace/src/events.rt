@@ -87,8 +87,9 @@ pub fn reads(
         let Answer::Taken(after) = answer else {
             return stopped(answer, at, registers);
         };
+        let left = after.registers;
         if agrees(after, trace[at]) {
-            registers = after.registers;
+            registers = left;
             at += 1;
         } else {
             return Progress::Stopped(Halt {
@@ -117,10 +118,11 @@ pub fn reset_pin(registers: Registers, from: usize) -> Progress
 fn agrees(after: After, byte: u8) -> bool
     ensures { λ r. ⌜ r ≡ (after .dummy || eqb (after .byte) byte) ⌝ }
 {
+    let read = after.byte;
     if after.dummy {
         return true;
     }
-    after.byte == byte
+    read == byte
 }
 
 // An event that was refused: a refusal has the number of its answer.

@@ -64,15 +64,15 @@ loop-again c =
     let d = c .before .before .before .before .before .before .before in
     let loop = d .before .before .loop in
     let args = d .before .before .before .before .before .args in
-    (omega arith, omega arith, loop .inv .2 ∙ turn-given theChip readAs (now (args .trace)) (loop .at) (args .to) _ _ (omega arith) (omega arith) (read-agrees _ _ _ (d .read .ensures) (c .before .before .before .before .before .answer .given .1) (sym (c .before .before .agrees .ensures) ∙ c .before .if1 .taken)))
+    (omega arith, omega arith, loop .inv .2 ∙ turn-given theChip readAs (now (args .trace)) (loop .at) (args .to) _ _ (omega arith) (omega arith) (read-agrees _ _ _ (d .read .ensures) (c .before .before .before .before .before .answer .given .1) (sym (c .before .agrees .ensures) ∙ c .if1 .taken)))
 
 returns-2 : tie.Need-returns-2 Inv-loop μ-loop
 unfolding step endedOf
 returns-2 c =
-    let d = c .before .before .before .before .before .before in
+    let d = c .before .before .before .before .before .before .before in
     let loop = d .before .before .loop in
     let args = d .before .before .before .before .before .args in
-    sym (loop .inv .2 ∙ turn-refused theChip readAs (now (args .trace)) (loop .at) (args .to) _ _ (omega arith) (omega arith) (read-differs _ _ _ (d .read .ensures) (c .before .before .before .before .answer .given .1) (sym (c .before .agrees .ensures) ∙ c .if1 .left)))
+    sym (loop .inv .2 ∙ turn-refused theChip readAs (now (args .trace)) (loop .at) (args .to) _ _ (omega arith) (omega arith) (read-differs _ _ _ (d .read .ensures) (c .before .before .before .before .before .answer .given .1) (sym (c .before .agrees .ensures) ∙ c .if1 .left)))
 
 returns-3 : tie.Need-returns-3 Inv-loop μ-loop
 unfolding endedOf
