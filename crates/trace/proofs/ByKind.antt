@@ -12,7 +12,7 @@ use Rattle.bus.specs.Numbers.{kindUnknown}
 use Rattle.bus.specs.Machine.{Chip, resetPulse}
 use Rattle.trace.specs.Records.{Record, headerSize, recordAt}
 use Rattle.trace.specs.Front.{frontOf}
-use Rattle.trace.specs.Play.{Ended, stopped, playEvents, playRecord}
+use Rattle.trace.specs.Play.{Ending, stopped, playEvents, playRecord}
 use Rattle.trace.specs.Chip.{Recorded, event, command, write, readAs, eventsOf, theChip}
 use Rattle.trace.specs.declared.records.Header.{Header}
 use Rattle.trace.specs.declared.records.Front.the-variants.{Whole}

@@ -14,7 +14,7 @@ use Rattle.bus.specs.Numbers.{taken, headerCut}
 use Rattle.codes.proofs.Tests.{both}
 use Rattle.trace.specs.Records.{Record, Trace, ended, cut, _then_, headerSize, lengthOf, whole, recordAt, splitFrom}
 use Rattle.trace.specs.Front.{frontOf}
-use Rattle.trace.specs.Play.{Machine, Ended, stopped, done, Played, played, playRecord, playFrom}
+use Rattle.trace.specs.Play.{Machine, Ending, stopped, done, Played, played, playRecord, playFrom}
 use Rattle.trace.specs.declared.records.Header.{Header}
 use Rattle.trace.specs.declared.records.Front.{Front}
 use Rattle.trace.specs.declared.records.Front.the-variants.{Nothing, Cut, Whole}
