@@ -30,7 +30,8 @@ use Rattle.trace.specs.Run.{Ran, ran, stopOf, ranOf, run}
 use Rattle.trace.specs.declared.run.Stop.{Stop}
 use Rattle.trace.proofs.OneByOne.{one-by-one}
 use Rattle.trace.proofs.Kept.{All, Bytes, OfBytes, Gives, split-of-bytes}
-use Rattle.trace.proofs.Runs.{Brings, brings, step-length, run-found, fits}
+use Rattle.trace.proofs.Held.{Brings, brings, step-length}
+use Rattle.trace.proofs.Runs.{run-found, fits}
 use Rattle.trace.proofs.Sound.{honest, step-honest}
 use Rattle.trace.proofs.Stored.{sized, stored-long, stored-own, stored-again, asked-stored}
 
