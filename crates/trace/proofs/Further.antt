@@ -1,13 +1,13 @@
 -- A trace that begins at a later offset, with records before it, plays as it would from the start, offsets and count moved on. Over any machine.
 -- Assumes nothing.
-use mathlib.Core.Path.{_≡_, refl, sym, _∙_, ap, fun-ext}
+use mathlib.Core.Path.{_≡_, refl}
 use mathlib.Core.Bool.{Bool, true, false, cond}
 use mathlib.Core.List.{List, [], _∷_}
 use Prim.Native.Nat.{ℕ, zero, suc, _+_}
 use native.Mathlib.Omega.{arith}
 use Rattle.trace.specs.Records.{Record, Trace, ended, cut, _then_, headerSize, lengthOf, whole, recordAt, splitFrom}
 use Rattle.trace.proofs.Cases.{by-cases}
-use Rattle.trace.specs.Play.{Result, refuses, gives, onResult, Machine, Ending, stopped, done, onEnding, Played, played, playEvents, playRecord, playFrom}
+use Rattle.trace.specs.Play.{Machine, Ending, stopped, done, onEnding, Played, played, playEvents, playRecord, playFrom}
 
 -- a record, a split trace and what is played, moved on
 abbrev pub recordFurther : ℕ → Record → Record

@@ -1,18 +1,18 @@
 -- Whole records followed by more: playing `a ++ b` is playing `a`, then `b` from what it left, with offset and count added, whenever `a` is taken whole. Over any machine that refuses with no 0.
 -- Assumes nothing.
 use mathlib.Core.Path.{_≡_, refl, sym, _∙_, ap}
-use mathlib.Core.Bool.{Bool, true, false, cond, _&&_, false≢true}
+use mathlib.Core.Bool.{Bool, true, false, cond}
 use mathlib.Core.List.{List, [], _∷_, _++_}
-use Prim.Native.Nat.{ℕ, zero, suc, _+_, _*_, _≤_, _<_}
+use Prim.Native.Nat.{ℕ, zero, suc, _+_, _≤_, _<_}
 use native.Mathlib.Nat.{add-zero, zero-add}
 use native.Mathlib.Omega.{arith}
 use borrow.Author.Tests.{leb-true, le-leb}
 use lib.Dec.{leb}
-use lib.ListN.{length, getD, take, drop, length-append, length-drop, List·getD-append}
+use lib.ListN.{length, drop, length-append, length-drop, List·getD-append}
 use lib.Seq.{take-append-le, drop-append-le}
-use Rattle.bus.specs.Numbers.{taken, headerCut}
+use Rattle.bus.specs.Numbers.{taken}
 use Rattle.codes.proofs.Tests.{both}
-use Rattle.trace.specs.Records.{Record, Trace, ended, cut, _then_, number, headerSize, lengthOf, kindOf, payloadOf, whole, recordAt, splitFrom, split}
+use Rattle.trace.specs.Records.{Record, Trace, ended, cut, _then_, number, headerSize, lengthOf, payloadOf, whole, recordAt, splitFrom, split}
 use Rattle.trace.specs.Play.{Result, refuses, gives, onResult, Machine, Ending, stopped, done, onEnding, Played, played, playEvents, playRecord, playFrom, play}
 use Rattle.trace.proofs.Further.{traceFurther, further, split-further, play-further}
 

@@ -4,7 +4,6 @@ use mathlib.Core.List.{List}
 use Rattle.bus.specs.Machine.{Chip}
 use Rattle.trace.specs.Play.{Ending, stopped, done, Played, played}
 use Rattle.trace.specs.Chip.{chipOf}
-use Rattle.trace.specs.declared.events.Halt.{Halt}
 use Rattle.trace.specs.declared.events.Progress.{Progress}
 use Rattle.trace.specs.declared.events.Progress.the-variants.{Done, Stopped}
 use Rattle.trace.specs.declared.run.Finish.{Finish}
