@@ -5,3 +5,5 @@ pub mod ThereAndBack
 pub mod Kept
 pub mod Untouched
 pub mod Settled
+pub mod Ranges
+pub mod Exactly

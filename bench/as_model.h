@@ -1,0 +1,12 @@
+/*
+** Put before plain.c by the compiler's -include: plain C then answers under
+** the library's own names, and can be linked in its place (make MODEL=plain).
+*/
+#define plain_start ssd1815b_start
+#define plain_command ssd1815b_command
+#define plain_write ssd1815b_write
+#define plain_read ssd1815b_read
+#define plain_reset ssd1815b_reset
+#define plain_run ssd1815b_run
+#define plain_draw ssd1815b_draw
+#define plain_list ssd1815b_list

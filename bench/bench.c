@@ -1,0 +1,137 @@
+/*
+** bench: the library beside plain C.  See usage below.
+*/
+#define _POSIX_C_SOURCE 200809L /* clock_gettime */
+#include <stdbool.h>
+#include <stdio.h>
+#include <stdlib.h>
+#include <string.h>
+#include <time.h>
+
+#include "model.h"
+#include "plain.h"
+#include "workloads.h"
+
+static const char usage[] =
+  "usage: bench                           time, the library beside plain C\n"
+  "       bench names                     the workloads: units, unit, name\n"
+  "       bench repeat NUMBER MODEL TIMES\n"
+  "                                       does a workload, measures nothing;\n"
+  "                                       MODEL is library or plain\n";
+
+static const struct model models[] = {
+  { "library", ssd1815b_command, ssd1815b_write, ssd1815b_read, ssd1815b_run,
+    ssd1815b_draw, ssd1815b_list },
+  { "plain", plain_command, plain_write, plain_read, plain_run, plain_draw,
+    plain_list },
+};
+
+enum { LIBRARY, PLAIN, MODELS };
+enum { REPETITIONS = 25 };
+
+static double seconds_of(const struct workload *workload,
+                         const struct model *model, size_t times)
+{
+  struct timespec from;
+  struct timespec to;
+  clock_gettime(CLOCK_MONOTONIC, &from);
+  workload_do(workload, model, times);
+  clock_gettime(CLOCK_MONOTONIC, &to);
+  return (double)(to.tv_sec - from.tv_sec)
+         + (double)(to.tv_nsec - from.tv_nsec) / 1e9;
+}
+
+/* Both models must leave the same from the same. */
+static void same_result(const struct workload *workload)
+{
+  uint64_t left[MODELS];
+  for (int i = 0; i < MODELS; i++) {
+    workload->prepare();
+    workload_do(workload, &models[i], 2);
+    left[i] = workload_left();
+  }
+  if (left[LIBRARY] != left[PLAIN]) {
+    fprintf(stderr, "bench: %s: library and plain C differ\n", workload->name);
+    exit(1);
+  }
+}
+
+/* How often a workload is done for a measurement of some milliseconds. */
+static size_t times_for(const struct workload *workload)
+{
+  size_t times = 1;
+  while (seconds_of(workload, &models[PLAIN], times) < 0.004) {
+    times *= 2;
+  }
+  return times;
+}
+
+static void measure(const struct workload *workload)
+{
+  same_result(workload);
+  workload->prepare();
+  size_t times = times_for(workload);
+  double best[MODELS] = { 1e9, 1e9 };
+  for (int repetition = 0; repetition < REPETITIONS; repetition++) {
+    for (int i = 0; i < MODELS; i++) {
+      double seconds = seconds_of(workload, &models[i], times);
+      if (seconds < best[i]) {
+        best[i] = seconds;
+      }
+    }
+  }
+  double units = (double)times * (double)workload->units();
+  printf("%-26s %10.2f %10.2f  ns per %-6s %6.2f\n", workload->name,
+         best[LIBRARY] / units * 1e9, best[PLAIN] / units * 1e9,
+         workload->unit, best[LIBRARY] / best[PLAIN]);
+}
+
+static void measure_all(void)
+{
+  printf("best of %d, in turn\n", REPETITIONS);
+  printf("%-26s %10s %10s  %-13s %6s\n", "", "library", "plain C", "",
+         "ratio");
+  for (size_t i = 0; i < workload_count; i++) {
+    measure(&workloads[i]);
+  }
+}
+
+static void print_names(void)
+{
+  for (size_t i = 0; i < workload_count; i++) {
+    workloads[i].prepare();
+    printf("%zu %s %s\n", workloads[i].units(), workloads[i].unit,
+           workloads[i].name);
+  }
+}
+
+static bool repeat_one(const char *number, const char *model, const char *times)
+{
+  size_t chosen = (size_t)strtoul(number, NULL, 10);
+  if (chosen >= workload_count) {
+    return false;
+  }
+  for (int i = 0; i < MODELS; i++) {
+    if (strcmp(model, models[i].name) == 0) {
+      workloads[chosen].prepare();
+      workload_do(&workloads[chosen], &models[i],
+                  (size_t)strtoul(times, NULL, 10));
+      return true;
+    }
+  }
+  return false;
+}
+
+int main(int argc, char **argv)
+{
+  if (argc == 1) {
+    measure_all();
+  } else if (argc == 2 && strcmp(argv[1], "names") == 0) {
+    print_names();
+  } else if (argc != 5 || strcmp(argv[1], "repeat") != 0
+             || !repeat_one(argv[2], argv[3], argv[4])) {
+    fputs(usage, stderr);
+    return 2;
+  }
+  return 0;
+}

@@ -1,0 +1,23 @@
+/*
+** The calls of a model, so that two can be held side by side.
+*/
+#ifndef MODEL_H
+#define MODEL_H
+
+#include "ssd1815b.h"
+
+struct model {
+  const char *name;
+  uint8_t (*command)(uint8_t *, size_t, const uint8_t *, size_t, uint8_t);
+  uint8_t (*write)(uint8_t *, size_t, uint8_t *, size_t, uint8_t);
+  uint8_t (*read)(uint8_t *, size_t, const uint8_t *, size_t, uint8_t *,
+                  uint8_t *);
+  uint8_t (*run)(uint8_t *, size_t, uint8_t *, size_t, const uint8_t *, size_t,
+                 size_t *, size_t *);
+  uint8_t (*draw)(const uint8_t *, size_t, const uint8_t *, size_t, uint8_t *,
+                  size_t);
+  uint8_t (*list)(uint8_t, size_t, const uint8_t *, size_t, uint8_t *, size_t,
+                  size_t *);
+};
+
+#endif

@@ -1,0 +1,576 @@
+/*
+** The rules of document 01 in plain C, written by hand as firmware would be:
+** straightforward, one function to a rule, nothing proved.  The bench holds
+** the proved library beside it, and the C tests compare it with the oracle
+** like the library, so what is measured is right.
+**
+** Registers live in the state image itself, by their places.
+*/
+#include "plain.h"
+
+#include <stdbool.h>
+#include <string.h>
+
+enum {
+  PAGE = SSD1815B_PAGE,
+  COLUMN = SSD1815B_COLUMN,
+  START_LINE = SSD1815B_START_LINE,
+  OFFSET = SSD1815B_OFFSET,
+  MULTIPLEX = SSD1815B_MULTIPLEX,
+  CONTRAST = SSD1815B_CONTRAST,
+  RATIO = SSD1815B_RESISTOR_RATIO,
+  POWER = SSD1815B_POWER_CONTROL,
+  BIAS = SSD1815B_BIAS,
+  QUARTER_BIAS = SSD1815B_QUARTER_BIAS,
+  BYTE_OF_A9 = SSD1815B_BYTE_OF_A9,
+  PHASES = SSD1815B_FRAME_PHASES,
+  COLUMN_DIRECTION = SSD1815B_COLUMN_DIRECTION,
+  ROW_DIRECTION = SSD1815B_ROW_DIRECTION,
+  ENTIRE_ON = SSD1815B_ENTIRE_ON,
+  REVERSE = SSD1815B_REVERSE,
+  DISPLAY_ON = SSD1815B_DISPLAY_ON,
+  INDICATOR_ON = SSD1815B_INDICATOR_ON,
+  INDICATOR_MODE = SSD1815B_INDICATOR_MODE,
+  AWAITED = SSD1815B_AWAITED_CODE,
+  MODIFY = SSD1815B_READ_MODIFY_WRITE,
+  SAVED = SSD1815B_SAVED_COLUMN,
+  FRESH = SSD1815B_FRESH,
+
+  STATE_SIZE = SSD1815B_STATE_SIZE,
+  MEMORY_SIZE = SSD1815B_MEMORY_SIZE,
+  FRAME_SIZE = SSD1815B_FRAME_SIZE,
+  COLUMNS = SSD1815B_COLUMNS,
+  ROWS = SSD1815B_ROWS,
+  ICON_PAGE = SSD1815B_ICON_PAGE,
+  ICON_ROW = SSD1815B_ICON_ROW
+};
+
+/* ---- the image: power-on values and ranges ---- */
+
+static const uint8_t power_on[STATE_SIZE] = {
+  [MULTIPLEX] = 63, [CONTRAST] = 32, [RATIO] = 4, [FRESH] = 1
+};
+
+static const uint8_t largest[STATE_SIZE] = {
+  [PAGE] = 8,         [COLUMN] = 255,       [START_LINE] = 63,
+  [OFFSET] = 63,      [MULTIPLEX] = 63,     [CONTRAST] = 63,
+  [RATIO] = 7,        [POWER] = 7,          [BIAS] = 1,
+  [QUARTER_BIAS] = 1, [BYTE_OF_A9] = 255,   [PHASES] = 3,
+  [COLUMN_DIRECTION] = 1, [ROW_DIRECTION] = 1, [ENTIRE_ON] = 1,
+  [REVERSE] = 1,      [DISPLAY_ON] = 1,     [INDICATOR_ON] = 1,
+  [INDICATOR_MODE] = 3, [AWAITED] = 0xD4,   [MODIFY] = 1,
+  [SAVED] = 255,      [FRESH] = 1
+};
+
+static bool legal(const uint8_t *state)
+{
+  for (int i = 0; i < STATE_SIZE; i++) {
+    if (state[i] > largest[i]) {
+      return false;
+    }
+  }
+  switch (state[AWAITED]) {
+  case 0x00: case 0x81: case 0xA8: case 0xA9: case 0xAD: case 0xD3: case 0xD4:
+    break;
+  default:
+    return false;
+  }
+  return state[MODIFY] == 1 || state[SAVED] == 0;
+}
+
+static bool too_short(size_t state_len, size_t memory_len)
+{
+  return state_len < STATE_SIZE || memory_len < MEMORY_SIZE;
+}
+
+/* What is lent: 0, or 1 or 2. */
+static uint8_t asked(const uint8_t *state, size_t state_len, size_t memory_len)
+{
+  if (too_short(state_len, memory_len)) {
+    return SSD1815B_TOO_SHORT;
+  }
+  return legal(state) ? SSD1815B_TAKEN : SSD1815B_OUT_OF_RANGE;
+}
+
+/* ---- events on a legal image and a whole memory ---- */
+
+static void software_reset(uint8_t *state)
+{
+  state[PAGE] = 0;
+  state[COLUMN] = 0;
+  state[START_LINE] = 0;
+  state[ROW_DIRECTION] = 0;
+  state[RATIO] = power_on[RATIO];
+  state[CONTRAST] = power_on[CONTRAST];
+  state[INDICATOR_ON] = 0;
+  state[INDICATOR_MODE] = 0;
+  state[MODIFY] = 0;
+  state[SAVED] = 0;
+}
+
+/* A command byte while a code is awaited: the code's n. */
+static uint8_t take_n(uint8_t *state, uint8_t n)
+{
+  switch (state[AWAITED]) {
+  case 0x81:
+    state[CONTRAST] = n % 64;
+    break;
+  case 0xA8:
+    state[MULTIPLEX] = n % 64;
+    break;
+  case 0xA9:
+    state[BYTE_OF_A9] = n;
+    break;
+  case 0xAD:
+    state[INDICATOR_ON] = 1;
+    state[INDICATOR_MODE] = n % 4;
+    break;
+  case 0xD3:
+    if (n > 0x3F) {
+      return SSD1815B_NOT_ALLOWED;
+    }
+    state[OFFSET] = n;
+    break;
+  default: /* D4 */
+    if (n > 0x30 || n % 16 != 0) {
+      return SSD1815B_NOT_ALLOWED;
+    }
+    state[PHASES] = n / 16;
+    break;
+  }
+  state[AWAITED] = 0;
+  state[FRESH] = 1;
+  return SSD1815B_TAKEN;
+}
+
+static uint8_t command(uint8_t *state, uint8_t byte)
+{
+  if (state[AWAITED] != 0) {
+    return take_n(state, byte);
+  }
+  switch (byte >> 4) {
+  case 0x0:
+    state[COLUMN] = (uint8_t)((state[COLUMN] & 0xF0) | byte);
+    break;
+  case 0x1:
+    state[COLUMN] = (uint8_t)((state[COLUMN] & 0x0F) | (byte & 0x0F) << 4);
+    break;
+  case 0x2:
+    state[byte < 0x28 ? RATIO : POWER] = byte % 8;
+    break;
+  case 0x4: case 0x5: case 0x6: case 0x7:
+    state[START_LINE] = byte % 64;
+    break;
+  case 0xB:
+    if (byte > 0xB8) {
+      return SSD1815B_NO_PAGE;
+    }
+    state[PAGE] = byte % 16;
+    break;
+  case 0xC:
+    state[ROW_DIRECTION] = byte >= 0xC8;
+    break;
+  default:
+    switch (byte) {
+    case 0xA0: case 0xA1:
+      state[COLUMN_DIRECTION] = byte % 2;
+      break;
+    case 0xA2: case 0xA3:
+      state[BIAS] = byte % 2;
+      break;
+    case 0xA4: case 0xA5:
+      state[ENTIRE_ON] = byte % 2;
+      break;
+    case 0xA6: case 0xA7:
+      state[REVERSE] = byte % 2;
+      break;
+    case 0xAA: case 0xAB:
+      state[QUARTER_BIAS] = byte % 2;
+      break;
+    case 0xAC:
+      state[INDICATOR_ON] = 0;
+      state[INDICATOR_MODE] = 0;
+      break;
+    case 0xAE: case 0xAF:
+      state[DISPLAY_ON] = byte % 2;
+      break;
+    case 0x81: case 0xA8: case 0xA9: case 0xAD: case 0xD3: case 0xD4:
+      state[AWAITED] = byte;
+      break;
+    case 0xE0:
+      if (state[MODIFY] == 0) {
+        state[MODIFY] = 1;
+        state[SAVED] = state[COLUMN];
+      }
+      break;
+    case 0xE2:
+      software_reset(state);
+      break;
+    case 0xE3:
+      break;
+    case 0xEE:
+      if (state[MODIFY] == 1) {
+        state[MODIFY] = 0;
+        state[COLUMN] = state[SAVED];
+        state[SAVED] = 0;
+      }
+      break;
+    default:
+      return SSD1815B_OUTSIDE_TABLE;
+    }
+  }
+  state[FRESH] = 1;
+  return SSD1815B_TAKEN;
+}
+
+/* Whether data can be accessed now: 0, or 6 or 7. */
+static uint8_t access(const uint8_t *state)
+{
+  if (state[AWAITED] != 0) {
+    return SSD1815B_CODE_AWAITED;
+  }
+  return state[COLUMN] < COLUMNS ? SSD1815B_TAKEN : SSD1815B_COLUMN_ABOVE;
+}
+
+static size_t place(const uint8_t *state)
+{
+  return (size_t)state[PAGE] * COLUMNS + state[COLUMN];
+}
+
+static void move_on(uint8_t *state)
+{
+  state[COLUMN] = (uint8_t)(state[COLUMN] == COLUMNS - 1 ? 0
+                                                         : state[COLUMN] + 1);
+}
+
+static uint8_t write(uint8_t *state, uint8_t *memory, uint8_t byte)
+{
+  uint8_t number = access(state);
+  if (number != SSD1815B_TAKEN) {
+    return number;
+  }
+  memory[place(state)] = state[PAGE] == ICON_PAGE ? byte & 1 : byte;
+  state[FRESH] = 1;
+  move_on(state);
+  return SSD1815B_TAKEN;
+}
+
+/* What a read that is not the dummy read answers. */
+static uint8_t fetch(const uint8_t *state, const uint8_t *memory)
+{
+  uint8_t byte = memory[place(state)];
+  return state[PAGE] == ICON_PAGE ? byte & 1 : byte;
+}
+
+/* A read of which 6 and 7 are asked and, in a run, 10. */
+static void read(uint8_t *state)
+{
+  if (state[FRESH] == 1) {
+    state[FRESH] = 0;
+  } else if (state[MODIFY] == 0) {
+    move_on(state);
+  }
+}
+
+/* ---- starting and the four event calls ---- */
+
+uint8_t plain_start(uint8_t *state, size_t state_len, uint8_t *memory,
+                    size_t memory_len)
+{
+  if (too_short(state_len, memory_len)) {
+    return SSD1815B_TOO_SHORT;
+  }
+  memcpy(state, power_on, STATE_SIZE);
+  memset(memory, 0, MEMORY_SIZE);
+  return SSD1815B_TAKEN;
+}
+
+uint8_t plain_command(uint8_t *state, size_t state_len, const uint8_t *memory,
+                      size_t memory_len, uint8_t byte)
+{
+  (void)memory;
+  uint8_t number = asked(state, state_len, memory_len);
+  return number != SSD1815B_TAKEN ? number : command(state, byte);
+}
+
+uint8_t plain_write(uint8_t *state, size_t state_len, uint8_t *memory,
+                    size_t memory_len, uint8_t byte)
+{
+  uint8_t number = asked(state, state_len, memory_len);
+  return number != SSD1815B_TAKEN ? number : write(state, memory, byte);
+}
+
+uint8_t plain_read(uint8_t *state, size_t state_len, const uint8_t *memory,
+                   size_t memory_len, uint8_t *byte, uint8_t *dummy)
+{
+  *byte = 0;
+  *dummy = 0;
+  uint8_t number = asked(state, state_len, memory_len);
+  if (number == SSD1815B_TAKEN) {
+    number = access(state);
+  }
+  if (number != SSD1815B_TAKEN) {
+    return number;
+  }
+  *dummy = state[FRESH];
+  if (state[FRESH] == 0) {
+    *byte = fetch(state, memory);
+  }
+  read(state);
+  return SSD1815B_TAKEN;
+}
+
+uint8_t plain_reset(uint8_t *state, size_t state_len, const uint8_t *memory,
+                    size_t memory_len)
+{
+  (void)memory;
+  if (too_short(state_len, memory_len)) {
+    return SSD1815B_TOO_SHORT;
+  }
+  memcpy(state, power_on, STATE_SIZE);
+  return SSD1815B_TAKEN;
+}
+
+/* ---- the run ---- */
+
+enum { HEADER_SIZE = 4 };
+enum { COMMANDS = 1, WRITTEN = 2, READ = 3, RESET_PIN = 4 };
+
+static size_t two_bytes(const uint8_t *bytes)
+{
+  return (size_t)bytes[0] | (size_t)bytes[1] << 8;
+}
+
+/* A record's payload.  *done counts its events taken. */
+static uint8_t obey(uint8_t *state, uint8_t *memory, size_t kind,
+                    const uint8_t *payload, size_t length, size_t *done)
+{
+  uint8_t number = SSD1815B_TAKEN;
+  size_t i = 0;
+  switch (kind) {
+  case COMMANDS:
+    for (; i < length; i++) {
+      number = command(state, payload[i]);
+      if (number != SSD1815B_TAKEN) {
+        break;
+      }
+    }
+    break;
+  case WRITTEN:
+    for (; i < length; i++) {
+      number = write(state, memory, payload[i]);
+      if (number != SSD1815B_TAKEN) {
+        break;
+      }
+    }
+    break;
+  case READ:
+    for (; i < length; i++) {
+      number = access(state);
+      if (number != SSD1815B_TAKEN) {
+        break;
+      }
+      if (state[FRESH] == 0 && fetch(state, memory) != payload[i]) {
+        number = SSD1815B_READ_DIFFERS;
+        break;
+      }
+      read(state);
+    }
+    break;
+  default: /* the reset pin */
+    memcpy(state, power_on, STATE_SIZE);
+    break;
+  }
+  *done = i;
+  return number;
+}
+
+uint8_t plain_run(uint8_t *state, size_t state_len, uint8_t *memory,
+                  size_t memory_len, const uint8_t *trace, size_t trace_len,
+                  size_t *offset, size_t *count)
+{
+  *offset = 0;
+  *count = 0;
+  uint8_t number = asked(state, state_len, memory_len);
+  if (number != SSD1815B_TAKEN) {
+    return number;
+  }
+  size_t at = 0;
+  size_t records = 0;
+  while (at < trace_len) {
+    size_t left = trace_len - at;
+    if (left < HEADER_SIZE || left - HEADER_SIZE < two_bytes(trace + at)) {
+      number = SSD1815B_HEADER_CUT;
+      break;
+    }
+    size_t length = two_bytes(trace + at);
+    size_t kind = two_bytes(trace + at + 2);
+    if (kind < COMMANDS || kind > RESET_PIN
+        || (kind == RESET_PIN && length > 0)) {
+      number = SSD1815B_KIND_UNKNOWN;
+      break;
+    }
+    const uint8_t *payload = trace + at + HEADER_SIZE;
+    size_t done;
+    number = obey(state, memory, kind, payload, length, &done);
+    if (number != SSD1815B_TAKEN) {
+      at += HEADER_SIZE + done;
+      break;
+    }
+    at += HEADER_SIZE + length;
+    records++;
+  }
+  *offset = at;
+  *count = records;
+  return number;
+}
+
+/* ---- the frame ---- */
+
+/* A row of the frame that shows one bit of a page's bytes. */
+static void draw_row(uint8_t *restrict row, const uint8_t *restrict page,
+                     uint8_t mask, bool mirrored, bool reverse)
+{
+  if (mirrored) {
+    for (int x = 0; x < COLUMNS; x++) {
+      row[x] = ((page[COLUMNS - 1 - x] & mask) != 0) != reverse;
+    }
+  } else {
+    for (int x = 0; x < COLUMNS; x++) {
+      row[x] = ((page[x] & mask) != 0) != reverse;
+    }
+  }
+}
+
+static void draw_ram_row(uint8_t *row, const uint8_t *state,
+                         const uint8_t *memory, unsigned ram_row)
+{
+  if (state[ENTIRE_ON] == 1) {
+    memset(row, 1, COLUMNS);
+    return;
+  }
+  draw_row(row, memory + (size_t)(ram_row / 8) * COLUMNS,
+           (uint8_t)(1u << ram_row % 8), state[COLUMN_DIRECTION] == 1,
+           state[REVERSE] == 1);
+}
+
+uint8_t plain_draw(const uint8_t *state, size_t state_len,
+                   const uint8_t *memory, size_t memory_len, uint8_t *frame,
+                   size_t frame_len)
+{
+  if (frame_len < FRAME_SIZE) {
+    return SSD1815B_TOO_SHORT;
+  }
+  uint8_t number = asked(state, state_len, memory_len);
+  if (number != SSD1815B_TAKEN) {
+    return number;
+  }
+  if (state[DISPLAY_ON] == 0) {
+    memset(frame, 0, FRAME_SIZE);
+    return SSD1815B_TAKEN;
+  }
+  unsigned in_use = state[MULTIPLEX] + 1u;
+  for (unsigned p = 0; p < ROWS; p++) {
+    uint8_t *row = frame + (size_t)p * COLUMNS;
+    unsigned com = (p + state[OFFSET]) % ROWS;
+    if (com >= in_use) {
+      memset(row, 0, COLUMNS);
+    } else {
+      unsigned k = state[ROW_DIRECTION] == 1 ? in_use - 1 - com : com;
+      draw_ram_row(row, state, memory, (state[START_LINE] + k) % ROWS);
+    }
+  }
+  draw_ram_row(frame + (size_t)ICON_ROW * COLUMNS, state, memory, ICON_ROW);
+  return SSD1815B_TAKEN;
+}
+
+/* ---- the listing ---- */
+
+static uint8_t *put_text(uint8_t *to, const char *text)
+{
+  size_t length = strlen(text);
+  memcpy(to, text, length);
+  return to + length;
+}
+
+static uint8_t *put_number(uint8_t *to, size_t value)
+{
+  uint8_t digits[20];
+  size_t count = 0;
+  do {
+    digits[count++] = (uint8_t)('0' + value % 10);
+    value /= 10;
+  } while (value != 0);
+  while (count > 0) {
+    *to++ = digits[--count];
+  }
+  return to;
+}
+
+static uint8_t *put_row(uint8_t *to, const uint8_t *row, size_t number)
+{
+  bool begun = false;
+  for (size_t x = 0; x < COLUMNS; x++) {
+    if (row[x] == 0) {
+      continue;
+    }
+    size_t first = x;
+    while (x + 1 < COLUMNS && row[x + 1] != 0) {
+      x++;
+    }
+    if (!begun) {
+      to = put_number(to, number);
+      begun = true;
+    }
+    *to++ = ' ';
+    to = put_number(to, first);
+    *to++ = '-';
+    to = put_number(to, x);
+  }
+  if (begun) {
+    *to++ = '\n';
+  }
+  return to;
+}
+
+/* The listing into a text that is long enough for any; its length. */
+static size_t put_listing(uint8_t *text, uint8_t number, size_t offset,
+                          const uint8_t *frame)
+{
+  uint8_t *to = text;
+  if (number != SSD1815B_TAKEN) {
+    to = put_text(to, "refused ");
+    to = put_number(to, number);
+    to = put_text(to, " at ");
+    to = put_number(to, offset);
+    *to++ = '\n';
+  }
+  to = put_text(to, "frame 132 65\n");
+  for (size_t row = 0; row <= ICON_ROW; row++) {
+    to = put_row(to, frame + row * COLUMNS, row);
+  }
+  to = put_text(to, "end\n");
+  return (size_t)(to - text);
+}
+
+uint8_t plain_list(uint8_t number, size_t offset, const uint8_t *frame,
+                   size_t frame_len, uint8_t *text, size_t text_len,
+                   size_t *length)
+{
+  *length = 0;
+  if (frame_len < FRAME_SIZE) {
+    return SSD1815B_TOO_SHORT;
+  }
+  if (text_len >= SSD1815B_TEXT_SIZE) {
+    *length = put_listing(text, number, offset, frame);
+    return SSD1815B_TAKEN;
+  }
+  uint8_t room[SSD1815B_TEXT_SIZE];
+  size_t needed = put_listing(room, number, offset, frame);
+  if (text_len < needed) {
+    return SSD1815B_TOO_SHORT;
+  }
+  memcpy(text, room, needed);
+  *length = needed;
+  return SSD1815B_TAKEN;
+}

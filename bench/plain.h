@@ -1,0 +1,31 @@
+/*
+** The rules of document 01 in plain C, under names of their own, so that a
+** program can hold them beside the proved library.  What each call takes,
+** answers and leaves is said in host/ssd1815b.h under the same name there.
+*/
+#ifndef PLAIN_H
+#define PLAIN_H
+
+#include "ssd1815b.h"
+
+uint8_t plain_start(uint8_t *state, size_t state_len, uint8_t *memory,
+                    size_t memory_len);
+uint8_t plain_command(uint8_t *state, size_t state_len, const uint8_t *memory,
+                      size_t memory_len, uint8_t byte);
+uint8_t plain_write(uint8_t *state, size_t state_len, uint8_t *memory,
+                    size_t memory_len, uint8_t byte);
+uint8_t plain_read(uint8_t *state, size_t state_len, const uint8_t *memory,
+                   size_t memory_len, uint8_t *byte, uint8_t *dummy);
+uint8_t plain_reset(uint8_t *state, size_t state_len, const uint8_t *memory,
+                    size_t memory_len);
+uint8_t plain_run(uint8_t *state, size_t state_len, uint8_t *memory,
+                  size_t memory_len, const uint8_t *trace, size_t trace_len,
+                  size_t *offset, size_t *count);
+uint8_t plain_draw(const uint8_t *state, size_t state_len,
+                   const uint8_t *memory, size_t memory_len, uint8_t *frame,
+                   size_t frame_len);
+uint8_t plain_list(uint8_t number, size_t offset, const uint8_t *frame,
+                   size_t frame_len, uint8_t *text, size_t text_len,
+                   size_t *length);
+
+#endif

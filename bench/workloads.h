@@ -1,0 +1,27 @@
+/*
+** What is measured: frames in each drawing mode, and events.
+*/
+#ifndef WORKLOADS_H
+#define WORKLOADS_H
+
+#include "model.h"
+
+struct workload {
+  const char *name;
+  const char *unit;                         /* what is counted */
+  void (*prepare)(void);                    /* fills the buffers */
+  void (*once)(const struct model *model);  /* the measured calls */
+  size_t (*units)(void);                    /* how many units those are */
+};
+
+extern const struct workload workloads[];
+extern const size_t workload_count;
+
+/* Does a workload some times, from the prepared buffers. */
+void workload_do(const struct workload *workload, const struct model *model,
+                 size_t times);
+
+/* A sum over all that it has left, to see that two models left the same. */
+uint64_t workload_left(void);
+
+#endif

@@ -1,0 +1,195 @@
+-- Document 01, "Numbers given": a single event's call gives each number exactly when the table says so.
+-- Assumes nothing.
+use mathlib.Core.Path.{_≡_, refl, sym, _∙_}
+use mathlib.Core.Bool.{Bool, true, false, cond, not, _&&_}
+use mathlib.Core.List.{List}
+use Prim.Native.Nat.{ℕ, _≤_, _<_}
+use native.Mathlib.Omega.{arith}
+use lib.Dec.{leb, eqb, lit<}
+use lib.ListN.{length}
+use borrow.Author.Tests.{le-ltb, lt-ltb, eqb-true}
+use Rattle.codes.specs.Table.{commandOf, operandOf}
+use Rattle.codes.specs.declared.Command.{Command}
+use Rattle.codes.specs.declared.Command.the-variants.{
+  ColumnLow,
+  ColumnHigh,
+  ResistorRatio,
+  PowerControl,
+  StartLine,
+  ColumnDirection,
+  Bias,
+  EntireOn,
+  Reverse,
+  QuarterBias,
+  IndicatorOff,
+  DisplayOn,
+  Page,
+  NoPage,
+  RowDirection,
+  EnterReadModifyWrite,
+  SoftwareReset,
+  Nothing,
+  LeaveReadModifyWrite,
+  Await,
+  Outside,
+}
+use Rattle.codes.specs.declared.Operand.{Operand}
+use Rattle.codes.specs.declared.Operand.the-variants.{Contrast, Multiplex, HeldByte, IndicatorMode, Offset, FramePhases, NotAllowed, NotAwaited}
+use Rattle.bus.specs.Sizes.{lastColumn, pages, memorySize}
+use Rattle.bus.specs.Numbers.{taken, tooShort, outOfRange, outsideTable, noPage, notAllowed, codeAwaited, columnAbove}
+use Rattle.bus.specs.Registers.{largestValues, registersOf}
+use Rattle.bus.specs.Events.{numberOf, obeyed, supplied, command, access, write, dummyRead, byteRead, read, resetPin}
+use Rattle.bus.specs.Machine.{Event, commandByte, dataWritten, dataRead, resetPulse, step}
+use Rattle.bus.specs.Image.{short, legal, asked}
+use Rattle.bus.specs.Calls.{replyOf, concluded, refused, askedBefore, callOn, call}
+use Rattle.bus.specs.declared.registers.Registers.{Registers}
+use Rattle.bus.specs.declared.answer.Answer.{Answer}
+use Rattle.bus.specs.declared.answer.Answer.the-variants.{Taken, Refused}
+use Rattle.bus.specs.declared.image.Asked.{Asked}
+use Rattle.bus.specs.declared.image.Asked.the-variants.{Found}
+use Rattle.bus.proofs.Legal.{long}
+use Rattle.bus.proofs.Kept.{bound, state-facts}
+
+-- 3 for a byte outside the table, 4 for B9-BF
+abbrev pub numberOfCommand : Command → ℕ
+numberOfCommand (ColumnLow low) = taken
+numberOfCommand (ColumnHigh high) = taken
+numberOfCommand (ResistorRatio ratio) = taken
+numberOfCommand (PowerControl power) = taken
+numberOfCommand (StartLine line) = taken
+numberOfCommand (ColumnDirection direction) = taken
+numberOfCommand (Bias bias) = taken
+numberOfCommand (EntireOn entire) = taken
+numberOfCommand (Reverse reverse) = taken
+numberOfCommand (QuarterBias bias) = taken
+numberOfCommand IndicatorOff = taken
+numberOfCommand (DisplayOn on) = taken
+numberOfCommand (Page page) = taken
+numberOfCommand NoPage = noPage
+numberOfCommand (RowDirection direction) = taken
+numberOfCommand EnterReadModifyWrite = taken
+numberOfCommand SoftwareReset = taken
+numberOfCommand Nothing = taken
+numberOfCommand LeaveReadModifyWrite = taken
+numberOfCommand (Await code) = taken
+numberOfCommand Outside = outsideTable
+
+-- 5 for an n that is not allowed
+abbrev pub numberOfOperand : Operand → ℕ
+numberOfOperand (Contrast value) = taken
+numberOfOperand (Multiplex value) = taken
+numberOfOperand (HeldByte value) = taken
+numberOfOperand (IndicatorMode value) = taken
+numberOfOperand (Offset value) = taken
+numberOfOperand (FramePhases value) = taken
+numberOfOperand NotAllowed = notAllowed
+numberOfOperand NotAwaited = outOfRange
+
+-- what the registers of a legal state meet: 3, 4 or 5 of a command byte, 6 before 7 of a data event, nothing of the reset pin
+abbrev pub numberOfEvent : Event → Registers → ℕ
+numberOfEvent (commandByte b) r = cond (eqb (r .awaited) 0) (numberOfCommand (commandOf b)) (numberOfOperand (operandOf (r .awaited) b))
+numberOfEvent (dataWritten b) r = cond (eqb (r .awaited) 0) (cond (leb (r .column) lastColumn) taken columnAbove) codeAwaited
+numberOfEvent dataRead r = cond (eqb (r .awaited) 0) (cond (leb (r .column) lastColumn) taken columnAbove) codeAwaited
+numberOfEvent resetPulse r = taken
+
+-- 2 is not asked at a single reset-pin event
+abbrev pub asksRanges : Event → Bool
+asksRanges (commandByte b) = true
+asksRanges (dataWritten b) = true
+asksRanges dataRead = true
+asksRanges resetPulse = false
+
+-- the table, the lower of 1 and 2 first
+abbrev pub numberGiven : Event → List ℕ → List ℕ → ℕ
+numberGiven event state memory =
+    cond (short state memory) tooShort (cond (asksRanges event && not (legal state)) outOfRange (numberOfEvent event (registersOf state)))
+
+obeyed-number : (named : Command) (r : Registers) → numberOf (obeyed named r) ≡ numberOfCommand named
+unfolding obeyed numberOf
+obeyed-number (ColumnLow low) r = refl
+obeyed-number (ColumnHigh high) r = refl
+obeyed-number (ResistorRatio ratio) r = refl
+obeyed-number (PowerControl power) r = refl
+obeyed-number (StartLine line) r = refl
+obeyed-number (ColumnDirection direction) r = refl
+obeyed-number (Bias bias) r = refl
+obeyed-number (EntireOn entire) r = refl
+obeyed-number (Reverse reverse) r = refl
+obeyed-number (QuarterBias bias) r = refl
+obeyed-number IndicatorOff r = refl
+obeyed-number (DisplayOn on) r = refl
+obeyed-number (Page page) r = refl
+obeyed-number NoPage r = refl
+obeyed-number (RowDirection direction) r = refl
+obeyed-number EnterReadModifyWrite r = refl
+obeyed-number SoftwareReset r = refl
+obeyed-number Nothing r = refl
+obeyed-number LeaveReadModifyWrite r = refl
+obeyed-number (Await code) r = refl
+obeyed-number Outside r = refl
+
+supplied-number : (operand : Operand) (r : Registers) → numberOf (supplied operand r) ≡ numberOfOperand operand
+unfolding supplied numberOf
+supplied-number (Contrast value) r = refl
+supplied-number (Multiplex value) r = refl
+supplied-number (HeldByte value) r = refl
+supplied-number (IndicatorMode value) r = refl
+supplied-number (Offset value) r = refl
+supplied-number (FramePhases value) r = refl
+supplied-number NotAllowed r = refl
+supplied-number NotAwaited r = refl
+
+-- of two answers that a test chooses between, the number is chosen by the test
+chosen : (t : Bool) (x y : Answer) (m n : ℕ) → numberOf x ≡ m → numberOf y ≡ n → numberOf (cond t x y) ≡ cond t m n
+chosen true x y m n p q = p
+chosen false x y m n p q = q
+
+-- an event that is taken where a number is 0 and else refused with it has that number
+guarded : (number : ℕ) (x : Answer) → numberOf x ≡ taken → numberOf (cond (eqb number taken) x (Refused number)) ≡ number
+unfolding numberOf
+guarded number x p = by (eqb number taken) refl
+  where
+    by : (t : Bool) → eqb number taken ≡ t → numberOf (cond t x (Refused number)) ≡ number
+    by true e = p ∙ sym (eqb-true number taken e)
+    by false e = refl
+
+-- where the memory is long enough and the page is one, a data event meets 6 or 7 or is taken
+access-number : (r : Registers) (size : ℕ) → memorySize ≤ size → r .page < pages → access r size ≡ cond (eqb (r .awaited) 0) (cond (leb (r .column) lastColumn) taken columnAbove) codeAwaited
+unfolding access
+access-number r size h p = rw (le-ltb size memorySize h, lt-ltb (r .page) pages p)
+
+event-number : (event : Event) (r : Registers) (memory : List ℕ) → memorySize ≤ length memory → r .page < pages → numberOf (step event r memory .answer) ≡ numberOfEvent event r
+unfolding step command write read resetPin numberOf
+event-number (commandByte b) r memory h p = chosen (eqb (r .awaited) 0) _ _ _ _ (obeyed-number (commandOf b) r) (supplied-number (operandOf (r .awaited) b) r)
+event-number (dataWritten b) r memory h p = guarded (access r (length memory)) _ refl ∙ access-number r (length memory) h p
+event-number dataRead r memory h p = guarded (access r (length memory)) _ (by (eqb (r .fresh) 1)) ∙ access-number r (length memory) h p
+  where
+    by : (t : Bool) → numberOf (cond t (dummyRead r) (byteRead r memory)) ≡ taken
+    by true = refl
+    by false = refl
+event-number resetPulse r memory h p = refl
+
+-- the calls that are asked for the ranges
+ranged : (event : Event) (state memory : List ℕ) → callOn (asked state memory) event state memory .reply .number ≡ cond (short state memory) tooShort (cond (not (legal state)) outOfRange (numberOfEvent event (registersOf state)))
+unfolding asked callOn concluded refused replyOf numberOf largestValues
+ranged event state memory = by (short state memory) (legal state) refl refl
+  where
+    by : (s t : Bool) → short state memory ≡ s → legal state ≡ t → callOn (cond s (Asked.Refused tooShort) (cond t (Found (registersOf state)) (Asked.Refused outOfRange))) event state memory .reply .number ≡ cond s tooShort (cond (not t) outOfRange (numberOfEvent event (registersOf state)))
+    by true t p q = refl
+    by false true p q =
+        let lengths = long state memory p in
+        let r = registersOf state in
+        event-number event r memory (lengths .1) (omega (arith, bound r (state-facts state (lengths .0) q) 0 (lit< tt)))
+    by false false p q = refl
+
+-- the number that a call replies is the number that the table gives
+pub number-given : (event : Event) (state memory : List ℕ) → call event state memory .reply .number ≡ numberGiven event state memory
+unfolding call askedBefore callOn concluded refused replyOf numberOf step resetPin
+number-given (commandByte b) state memory = ranged (commandByte b) state memory
+number-given (dataWritten b) state memory = ranged (dataWritten b) state memory
+number-given dataRead state memory = ranged dataRead state memory
+number-given resetPulse state memory = by (short state memory)
+  where
+    by : (s : Bool) → callOn (cond s (Asked.Refused tooShort) (Found (registersOf state))) resetPulse state memory .reply .number ≡ cond s tooShort taken
+    by true = refl
+    by false = refl

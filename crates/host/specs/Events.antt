@@ -1,0 +1,46 @@
+-- The four events as C sees them: of a call's outcome, what can differ at that event.
+use Prim.Native.Nat.{ℕ}
+use mathlib.Core.Bool.{Bool, true, false}
+use mathlib.Core.List.{List}
+use Rattle.bus.specs.Calls.{Called}
+
+-- "dummy" as a number.
+unfoldable pub flag : Bool → ℕ
+flag true = 1
+flag false = 0
+
+-- The number and the state.
+pub record HeldState : Type 0 where
+  pub number : ℕ
+  pub state : List ℕ
+
+abbrev pub heldState : ℕ → List ℕ → HeldState
+heldState answer later = record { number = answer; state = later }
+
+abbrev pub ofState : Called → HeldState
+ofState outcome = heldState (outcome .reply .number) (outcome .state)
+
+-- The number, the state and the memory.
+pub record HeldBoth : Type 0 where
+  pub number : ℕ
+  pub state : List ℕ
+  pub memory : List ℕ
+
+abbrev pub heldBoth : ℕ → List ℕ → List ℕ → HeldBoth
+heldBoth answer later left = record { number = answer; state = later; memory = left }
+
+abbrev pub ofBoth : Called → HeldBoth
+ofBoth outcome = heldBoth (outcome .reply .number) (outcome .state) (outcome .memory)
+
+-- The number, the byte, the dummy mark and the state.
+pub record HeldRead : Type 0 where
+  pub number : ℕ
+  pub byte : ℕ
+  pub dummy : ℕ
+  pub state : List ℕ
+
+abbrev pub heldRead : ℕ → ℕ → ℕ → List ℕ → HeldRead
+heldRead answer read mark later = record { number = answer; byte = read; dummy = mark; state = later }
+
+abbrev pub ofRead : Called → HeldRead
+ofRead outcome = heldRead (outcome .reply .number) (outcome .reply .byte) (flag (outcome .reply .dummy)) (outcome .state)

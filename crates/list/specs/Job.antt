@@ -1,0 +1,22 @@
+-- The listing program's job: the listing of what a trace leaves on the glass, from power-on with zero memory.
+use Prim.Native.Nat.{ℕ}
+use mathlib.Core.List.{List}
+use lib.ListN.{replicate}
+use Rattle.bus.specs.Sizes.{memorySize}
+use Rattle.bus.specs.Registers.{powerOn, imageOf}
+use Rattle.trace.specs.Run.{Ran, run}
+use Rattle.picture.specs.Sizes.{frameSize}
+use Rattle.picture.specs.Draw.{draw}
+use Rattle.listing.specs.Text.{listingOf}
+
+-- The trace run from power-on with zero memory.
+unfoldable pub ranFromPowerOn : List ℕ → Ran
+ranFromPowerOn trace = run (imageOf powerOn) (replicate memorySize 0) trace
+
+-- The frame after a run, drawn over a dark one.
+unfoldable pub frameAfter : Ran → List ℕ
+frameAfter ran = draw (ran .state) (ran .memory) (replicate frameSize 0) .frame
+
+-- The listing of a trace.
+unfoldable pub listingOfTrace : List ℕ → List ℕ
+listingOfTrace trace = let ran = ranFromPowerOn trace in listingOf (ran .stop .number) (ran .stop .offset) (frameAfter ran)

@@ -1,0 +1,7 @@
+pub mod Sizes
+pub mod Ascii
+pub mod Decimal
+pub mod Runs
+pub mod Text
+pub mod Put
+pub mod Listing

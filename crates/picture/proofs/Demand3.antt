@@ -1,0 +1,242 @@
+-- Demand 3 holds.
+-- Assumes nothing.
+use mathlib.Core.Path.{_≡_, refl, sym, _∙_, ap, subst₂}
+use mathlib.Core.Logic.{_≢_}
+use mathlib.Core.Bool.{Bool, true, false, cond, false≢true}
+use mathlib.Core.List.{List}
+use Prim.Native.Nat.{ℕ, zero, suc, _+_, _-_, _/_, _%_, _^_, _≤_, _<_}
+use native.Mathlib.Omega.{arith}
+use native.Mathlib.Nat.{mod-lt, le-of-eq, zero-div}
+use native.Mathlib.Decide.{ℕ-discrete, decLt}
+use lib.Dec.{ltb, eqb, eqb·suc-zero}
+use borrow.Author.Tests.{lt-ltb, eq-eqb, ne-eqb}
+use lib.Bits.{bitXor, xor-zero-l}
+use lib.Pow.{pow-lt}
+use lib.ListN.{length, getD, set, replicate, length-set, length-replicate, getD-replicate, List·getD-eq-default}
+use lib.Seq.{getD-set-same, getD-set-other}
+use Rattle.bus.specs.Sizes.{width, memorySize}
+use Rattle.bus.specs.Memory.{address}
+use Rattle.bus.specs.declared.registers.Registers.{Registers}
+use Rattle.picture.specs.Sizes.{height, frameRows}
+use Rattle.picture.specs.Rows.{ramRow}
+use Rattle.picture.specs.Frame.{bit, columnOf, turned, bits, line, frame, rowOf, placeOf}
+use Rattle.picture.specs.Demand3.{flipped, ShowsAt, OnePlace, SomeBit, raised, Scrolls, Content, scroll, Agree, Demand3}
+use Rattle.picture.specs.declared.rows.RamRow.{RamRow}
+use Rattle.picture.proofs.Lines.{line-same, grid-same}
+use Rattle.picture.proofs.Flip.{flip-hit, flip-miss}
+use Rattle.picture.proofs.Places.{frame-row, bits-show}
+use Rattle.picture.proofs.Turns.{turnOf, up, down, decided}
+use Rattle.picture.proofs.Full.{Bounds, bounds, ramOf, rowShowing, scroll-below, row-shows, place-shows, ram-below, row-below, ram-of-row, row-of-ram, column-below, column-twice}
+
+-- a memory of zeros
+blank : List ℕ
+blank = replicate memorySize 0
+
+blank-long : memorySize ≤ length blank
+unfolding blank
+blank-long = le-of-eq (sym (length-replicate {A = ℕ} memorySize 0))
+
+bit-below : (memory : List ℕ) (row : RamRow) (column : ℕ) → bit memory row column < 2
+unfolding bit
+bit-below memory row column = mod-lt _ (omega arith)
+
+inside : (memory : List ℕ) (row column : ℕ) → row < frameRows → column < width → memorySize ≤ length memory → address (row / 8) column < length memory
+inside memory row column l k long = omega arith
+
+-- a bit turned round shows otherwise
+differs : (reverse v : ℕ) → v < 2 → turned reverse (1 - v) ≢ turned reverse v
+unfolding turned
+differs reverse v l e = omega arith
+
+module _ (r : Registers) (b : Bounds r) where
+  -- each place shows the bit that the row rule and the column direction name
+  shows-at : (y x : ℕ) → y < frameRows → x < width → ShowsAt r (ramOf r y) (columnOf width r x) y x
+  shows-at y x l k = record {
+    changes = λ memory long e.
+        differs (r .reverse) (bit memory (ramRow (ramOf r y)) (columnOf width r x)) (bit-below memory _ _)
+        (ap (turned (r .reverse)) (sym (flip-hit memory (ramOf r y) (columnOf width r x) (inside memory _ _ (ram-below r y l) (column-below r x k) long))) ∙
+        sym (place-shows r b (flipped (ramRow (ramOf r y)) (columnOf width r x) memory) y x l k) ∙
+        e ∙
+        place-shows r b memory y x l k);
+    noOther = λ memory long y′ x′ l′ k′ n.
+        place-shows r b (flipped (ramRow (ramOf r y)) (columnOf width r x) memory) y′ x′ l′ k′ ∙
+        ap (turned (r .reverse)) (flip-miss memory (ramOf r y) (columnOf width r x) (inside memory _ _ (ram-below r y l) (column-below r x k) long) (ramOf r y′) (columnOf width r x′) (column-below r x k) (column-below r x′ k′)
+        (λ e. n (sym (row-of-ram r y′ l′) ∙ ap (rowShowing r) (e .0) ∙ row-of-ram r y l, sym (column-twice r x′ k′) ∙ ap (columnOf width r) (e .1) ∙ column-twice r x k))) ∙
+        sym (place-shows r b memory y′ x′ l′ k′);
+  }
+
+  some-bit : (y x : ℕ) → y < frameRows → x < width → SomeBit r y x
+  some-bit y x l k = record {
+    row = ramOf r y;
+    column = columnOf width r x;
+    rowIn = ram-below r y l;
+    columnIn = column-below r x k;
+    shows = shows-at y x l k;
+  }
+
+  -- a bit that shows at a place shows at no other
+  no-second : (row column y x y′ x′ : ℕ) → y′ < frameRows → x′ < width → ShowsAt r row column y x → ShowsAt r row column y′ x′ → (y′ ≡ y) × (x′ ≡ x)
+  no-second row column y x y′ x′ l′ k′ here there = either (ℕ-discrete y′ y) (ℕ-discrete x′ x)
+    where
+      refused : ((y′ ≡ y) × (x′ ≡ x) → ⊥) → ⊥
+      refused n = there .changes blank blank-long (here .noOther blank blank-long y′ x′ l′ k′ n)
+
+      either : Dec (y′ ≡ y) → Dec (x′ ≡ x) → (y′ ≡ y) × (x′ ≡ x)
+      either (yes p) (yes q) = (p, q)
+      either (yes p) (no n) = absurd (refused (λ e. n (e .1)))
+      either (no n) q = absurd (refused (λ e. n (e .0)))
+
+  one-place : (row column : ℕ) → row < frameRows → column < width → OnePlace r row column
+  one-place row column l k =
+      let here = subst₂ (λ a c. ShowsAt r a c (rowShowing r row) (columnOf width r column)) (ram-of-row r row l) (column-twice r column k) (shows-at (rowShowing r row) (columnOf width r column) (row-below r row l) (column-below r column k)) in
+      record {
+        y = rowShowing r row;
+        x = columnOf width r column;
+        yIn = row-below r row l;
+        xIn = column-below r column k;
+        shows = here;
+        only = λ y′ x′ l′ k′ there. no-second row column (rowShowing r row) (columnOf width r column) y′ x′ l′ k′ here there;
+      }
+
+-- a row of the frame is the bits of its RAM row
+row-bits : (r : Registers) → Bounds r → (memory : List ℕ) (y : ℕ) → y < frameRows → rowOf y (frame r memory) ≡ line width (bits width r memory (ramRow (ramOf r y)))
+row-bits r b memory y l = frame-row r memory y l ∙ rw (row-shows r b y l) (line-same width _ _ (λ x k. bits-show r memory (ramRow (ramOf r y)) x (b .on) (b .entire)))
+
+raised-bounds : (n : ℕ) (r : Registers) → Bounds r → Bounds (raised n r)
+unfolding raised
+raised-bounds n r b = record {
+  start = mod-lt _ (omega arith);
+  offset = b .offset;
+  columns = b .columns;
+  rows = b .rows;
+  reverse = b .reverse;
+  allRows = b .allRows;
+  on = b .on;
+  entire = b .entire;
+}
+
+-- rows that show the same RAM row before and after
+moved : (n : ℕ) (r : Registers) → Bounds r → (memory : List ℕ) (y y′ : ℕ) → y < frameRows → y′ < frameRows → ramOf (raised n r) y ≡ ramOf r y′ → rowOf y (frame (raised n r) memory) ≡ rowOf y′ (frame r memory)
+unfolding bits columnOf raised
+moved n r b memory y y′ l l′ e = row-bits (raised n r) (raised-bounds n r b) memory y l ∙ ap (λ row. line width (bits width r memory (ramRow row))) e ∙ sym (row-bits r b memory y′ l′)
+
+scrolled : (r : Registers) → Bounds r → (n : ℕ) (memory : List ℕ) → Scrolls r n memory
+unfolding raised scroll
+scrolled r b n memory = record {
+  up = λ rows p l. moved n r b memory p ((p + n) % height) (omega arith) (omega arith) (rw (lt-ltb p height l, lt-ltb ((p + n) % height) height (mod-lt _ (omega arith)), eq-eqb (r .rows) 0 rows) (up height (r .start) (r .offset) n p));
+  down = λ rows p l. moved n r b memory ((p + n) % height) p (omega arith) (omega arith) (rw (lt-ltb p height l, lt-ltb ((p + n) % height) height (mod-lt _ (omega arith)), ne-eqb (r .rows) 0 (omega arith)) (down height (r .start) (r .offset) n p (b .start) (b .offset) l));
+  icons = moved n r b memory height height (omega arith) (omega arith) refl;
+}
+
+-- settings that agree draw the same, from any memory
+agreeing : (r s : Registers) → Bounds r → Bounds s → Agree r s → (memory : List ℕ) → frame r memory ≡ frame s memory
+unfolding frame bits columnOf
+agreeing r s b d agree memory =
+    grid-same width frameRows _ _ (λ y x l k.
+    rw (row-shows r b y l, row-shows s d y l)
+    (bits-show r memory (ramRow (ramOf r y)) x (b .on) (b .entire) ∙
+    (λ i. turned (agree .reverse i) (bit memory (ramRow (cond (ltb y height) (turnOf height (eqb (agree .rows i) 0) (agree .line i) y) height)) (cond (eqb (agree .columns i) 0) x (width - 1 - x)))) ∙
+    sym (bits-show s memory (ramRow (ramOf s y)) x (d .on) (d .entire))))
+
+-- memories with no bit, and with one
+blank-at : (i : ℕ) → getD blank i 0 ≡ 0
+unfolding blank
+blank-at i = either (decLt i memorySize)
+  where
+    either : Dec (i < memorySize) → getD blank i 0 ≡ 0
+    either (yes l) = getD-replicate {A = ℕ} memorySize i 0 0 l
+    either (no n) = List·getD-eq-default blank 0 {n = i} (rw (length-replicate {A = ℕ} memorySize 0) (omega arith))
+
+blank-content : Content blank
+unfolding blank
+blank-content = record { size = length-replicate {A = ℕ} memorySize 0; bytes = λ i. omega (arith, blank-at i) }
+
+blank-bit : (row : RamRow) (column : ℕ) → bit blank row column ≡ 0
+unfolding bit
+blank-bit row column = rw (blank-at (address (row .0 / 8) column), zero-div)
+
+lit-content : (row column : ℕ) → row < frameRows → column < width → Content (flipped (ramRow row) column blank)
+unfolding flipped
+lit-content row column l k = record {
+  size = length-set blank (address (row / 8) column) _ ∙ blank-content .size;
+  bytes = λ i. either i (ℕ-discrete i (address (row / 8) column));
+}
+  where
+    byte : ℕ
+    byte = bitXor (getD blank (address (row / 8) column) 0) (2 ^ (row % 8))
+
+    either : (i : ℕ) → Dec (i ≡ address (row / 8) column) → getD (set blank (address (row / 8) column) byte) i 0 < 256
+    either i (yes e) = rw (e, getD-set-same blank (address (row / 8) column) byte 0 (inside blank row column l k blank-long), blank-at (address (row / 8) column), xor-zero-l) (pow-lt {j = 8} (mod-lt row (omega arith)))
+    either i (no n) = rw (getD-set-other blank (address (row / 8) column) i byte 0 n) (omega (arith, blank-at i))
+
+-- a direction, 0 or 1, is decided by whether it is 0
+direction : (a c : ℕ) → a < 2 → c < 2 → eqb a 0 ≡ eqb c 0 → a ≡ c
+direction zero zero l k e = refl
+direction zero (suc c) l k e = absurd (false≢true (sym (rw eqb·suc-zero at e)))
+direction (suc a) zero l k e = absurd (false≢true (rw eqb·suc-zero at e))
+direction (suc a) (suc c) l k e = omega arith
+
+-- segment 0 decides the column direction
+column-decided : (normal normal′ : Bool) → cond normal 0 (width - 1 - 0) ≡ cond normal′ 0 (width - 1 - 0) → normal ≡ normal′
+column-decided true true e = refl
+column-decided false false e = refl
+column-decided true false e = absurd (omega arith)
+column-decided false true e = absurd (omega arith)
+
+-- settings that draw the same, from every memory
+module _ (r s : Registers) (b : Bounds r) (d : Bounds s) (same : (memory : List ℕ) → Content memory → frame r memory ≡ frame s memory) where
+  places-agree : (memory : List ℕ) → Content memory → (y x : ℕ) → y < frameRows → x < width → turned (r .reverse) (bit memory (ramRow (ramOf r y)) (columnOf width r x)) ≡ turned (s .reverse) (bit memory (ramRow (ramOf s y)) (columnOf width s x))
+  places-agree memory content y x l k = sym (place-shows r b memory y x l k) ∙ ap (placeOf y x) (same memory content) ∙ place-shows s d memory y x l k
+
+  reverse-agrees : r .reverse ≡ s .reverse
+  unfolding turned
+  reverse-agrees =
+      let e : (0 + r .reverse) % 2 ≡ (0 + s .reverse) % 2 = rw (blank-bit _ _, blank-bit _ _) at (places-agree blank blank-content 0 0 (omega arith) (omega arith)) in
+      omega (arith, b .reverse, d .reverse)
+
+  -- they show the same bit at each place
+  bit-agrees : (y x : ℕ) → y < frameRows → x < width → (ramOf s y ≡ ramOf r y) × (columnOf width s x ≡ columnOf width r x)
+  unfolding turned
+  bit-agrees y x l k = either (ℕ-discrete (ramOf s y) (ramOf r y)) (ℕ-discrete (columnOf width s x) (columnOf width r x))
+    where
+      row : ℕ
+      row = ramOf r y
+
+      column : ℕ
+      column = columnOf width r x
+
+      room : address (row / 8) column < length blank
+      room = inside blank row column (ram-below r y l) (column-below r x k) blank-long
+
+      refused : ((ramOf s y ≡ row) × (columnOf width s x ≡ column) → ⊥) → ⊥
+      refused n =
+          let lit : bit (flipped (ramRow row) column blank) (ramRow row) column ≡ 1 = flip-hit blank row column room ∙ rw (blank-bit (ramRow row) column) in
+          let dark : bit (flipped (ramRow row) column blank) (ramRow (ramOf s y)) (columnOf width s x) ≡ 0 = flip-miss blank row column room (ramOf s y) (columnOf width s x) (column-below r x k) (column-below s x k) n ∙ blank-bit (ramRow (ramOf s y)) (columnOf width s x) in
+          let e : (1 + r .reverse) % 2 ≡ (0 + s .reverse) % 2 = rw (lit, dark) at (places-agree (flipped (ramRow row) column blank) (lit-content row column (ram-below r y l) (column-below r x k)) y x l k) in
+          omega (arith, reverse-agrees)
+
+      either : Dec (ramOf s y ≡ row) → Dec (columnOf width s x ≡ column) → (ramOf s y ≡ row) × (columnOf width s x ≡ column)
+      either (yes p) (yes q) = (p, q)
+      either (yes p) (no n) = absurd (refused (λ e. n (e .1)))
+      either (no n) q = absurd (refused (λ e. n (e .0)))
+
+  agreed : Agree r s
+  unfolding columnOf
+  agreed =
+      let first = bit-agrees 0 0 (omega arith) (omega arith) in
+      let second = bit-agrees 1 0 (omega arith) (omega arith) in
+      let turns = decided height (eqb (r .rows) 0) (eqb (s .rows) 0) (scroll r) (scroll s) (omega arith) (scroll-below r) (scroll-below s) (sym (first .0)) (sym (second .0)) in
+      record {
+        columns = direction (r .mirrored) (s .mirrored) (b .columns) (d .columns) (column-decided (eqb (r .mirrored) 0) (eqb (s .mirrored) 0) (sym (first .1)));
+        rows = direction (r .rows) (s .rows) (b .rows) (d .rows) (turns .0);
+        reverse = reverse-agrees;
+        line = turns .1;
+      }
+
+pub demand3 : Demand3
+demand3 = record {
+  eachBit = λ r full row column l k. one-place r (bounds r full) row column l k;
+  eachPlace = λ r full y x l k. some-bit r (bounds r full) y x l k;
+  scrolls = λ r full n memory. scrolled r (bounds r full) n memory;
+  same = λ r s full held. (λ frames. agreed r s (bounds r full) (bounds s held) frames, λ agree memory content. agreeing r s (bounds r full) (bounds s held) agree memory);
+}

@@ -1,0 +1,124 @@
+-- With all rows in use, the panel on and not forced all-lit: which RAM row each row of the frame shows, and where a RAM row shows.
+-- Assumes nothing.
+use mathlib.Core.Path.{_≡_, refl, _∙_, ap}
+use mathlib.Core.Bool.{Bool, true, false, cond}
+use mathlib.Core.List.{List}
+use Prim.Native.Nat.{ℕ, _+_, _-_, _%_, _<_}
+use native.Mathlib.Omega.{arith}
+use native.Mathlib.Nat.{mod-lt}
+use native.Mathlib.Decide.{decLt}
+use lib.Dec.{ltb, eqb}
+use borrow.Author.Tests.{lt-ltb, le-ltb}
+use Rattle.bus.specs.Sizes.{width}
+use Rattle.bus.specs.Registers.{largestValues}
+use Rattle.bus.proofs.Kept.{legal-facts, bound}
+use Rattle.bus.specs.declared.registers.Registers.{Registers}
+use Rattle.picture.specs.Sizes.{height, frameRows}
+use Rattle.picture.specs.Rows.{panelRow, ramRow, rowsInUse, comOf, used, ramRowOf, panelShows, rowShows}
+use Rattle.picture.specs.Frame.{bit, columnOf, turned, bits, frame, placeOf}
+use Rattle.picture.specs.Demand3.{Full, scroll}
+use Rattle.picture.specs.declared.rows.Shown.the-variants.{Ram}
+use Rattle.picture.proofs.RowRule.{of-both}
+use Rattle.picture.proofs.Turns.{turnOf, backOf, turn-back, back-turn, rule}
+use Rattle.picture.proofs.Places.{frame-place, bits-show}
+
+-- what such a setting holds, as bounds
+pub record Bounds (r : Registers) : Type 0 where
+  pub start : r .start < height
+  pub offset : r .offset < height
+  pub columns : r .mirrored < 2
+  pub rows : r .rows < 2
+  pub reverse : r .reverse < 2
+  pub allRows : rowsInUse r ≡ height
+  pub on : r .on ≡ 1
+  pub entire : r .entire ≡ 0
+
+pub bounds : (r : Registers) → Full r → Bounds r
+unfolding largestValues
+bounds r full =
+    let held = bound r (legal-facts r (full .inRange)) in
+    record {
+      start = omega (arith, held 2 (omega arith));
+      offset = omega (arith, held 3 (omega arith));
+      columns = omega (arith, held 12 (omega arith));
+      rows = omega (arith, held 13 (omega arith));
+      reverse = omega (arith, held 15 (omega arith));
+      allRows = full .allRows;
+      on = full .on;
+      entire = full .notLit;
+    }
+
+pub scroll-below : (r : Registers) → scroll r < height
+unfolding scroll
+scroll-below r = of-both (λ c. c < height) (eqb (r .rows) 0) (mod-lt _ (omega arith)) (mod-lt _ (omega arith))
+
+-- the RAM row that a row of the frame shows, and the row of the frame that shows a RAM row: the icons apart
+abbrev pub ramOf : Registers → ℕ → ℕ
+ramOf r y = cond (ltb y height) (turnOf height (eqb (r .rows) 0) (scroll r) y) height
+
+abbrev pub rowShowing : Registers → ℕ → ℕ
+rowShowing r n = cond (ltb n height) (backOf height (eqb (r .rows) 0) (scroll r) n) height
+
+either-row : (normal : Bool) (n m : ℕ) → cond normal (ramRow n) (ramRow m) ≡ ramRow (cond normal n m)
+either-row true n m = refl
+either-row false n m = refl
+
+module _ (r : Registers) (b : Bounds r) where
+  panel-shows : (p : ℕ) → p < height → panelShows height r (panelRow p) ≡ Ram (ramRow (turnOf height (eqb (r .rows) 0) (scroll r) p))
+  unfolding panelShows used ramRowOf comOf scroll
+  panel-shows p l =
+      rw (lt-ltb ((p + r .offset) % height) (rowsInUse r) (omega (arith, mod-lt (p + r .offset) {m = height} (omega arith), b .allRows)), either-row (eqb (r .rows) 0))
+      (ap (λ n. Ram (ramRow n)) (rule height (eqb (r .rows) 0) (r .start) (r .offset) (rowsInUse r) p (b .start) (b .offset) (b .allRows) l))
+
+  pub row-shows : (y : ℕ) → y < frameRows → rowShows height r (panelRow y) ≡ Ram (ramRow (ramOf r y))
+  unfolding rowShows
+  row-shows y l = either (decLt y height)
+    where
+      either : Dec (y < height) → cond (ltb y height) (panelShows height r (panelRow y)) (Ram (ramRow height)) ≡ Ram (ramRow (ramOf r y))
+      either (yes k) = rw (lt-ltb y height k) (panel-shows y k)
+      either (no n) = rw (le-ltb y height (omega arith))
+
+  -- what stands at a place
+  pub place-shows : (memory : List ℕ) (y x : ℕ) → y < frameRows → x < width → placeOf y x (frame r memory) ≡ turned (r .reverse) (bit memory (ramRow (ramOf r y)) (columnOf width r x))
+  unfolding bits
+  place-shows memory y x l k = frame-place r memory y x l k ∙ rw (row-shows y l) (bits-show r memory (ramRow (ramOf r y)) x (b .on) (b .entire))
+
+-- there and back
+pub ram-below : (r : Registers) (y : ℕ) → y < frameRows → ramOf r y < frameRows
+ram-below r y l = of-both (λ n. n < frameRows) (ltb y height) (of-both (λ n. n < frameRows) (eqb (r .rows) 0) (below _) (below _)) (omega arith)
+  where
+    below : (n : ℕ) → n % height < frameRows
+    below n = omega arith
+
+pub row-below : (r : Registers) (n : ℕ) → n < frameRows → rowShowing r n < frameRows
+row-below r n l = of-both (λ y. y < frameRows) (ltb n height) (of-both (λ y. y < frameRows) (eqb (r .rows) 0) (below _) (below _)) (omega arith)
+  where
+    below : (y : ℕ) → y % height < frameRows
+    below y = omega arith
+
+-- a turn of the rows 0 to 63 that leaves the icons, and the turn back
+turned-back : (f g : ℕ → ℕ) → ((n : ℕ) → n < height → g n < height) → ((n : ℕ) → n < height → f (g n) ≡ n) → (n : ℕ) → n < frameRows → cond (ltb (cond (ltb n height) (g n) height) height) (f (cond (ltb n height) (g n) height)) height ≡ n
+turned-back f g below back n l = either (decLt n height)
+  where
+    either : Dec (n < height) → cond (ltb (cond (ltb n height) (g n) height) height) (f (cond (ltb n height) (g n) height)) height ≡ n
+    either (yes k) = rw (lt-ltb n height k, lt-ltb (g n) height (below n k)) (back n k)
+    either (no m) = rw (le-ltb n height (omega arith)) (omega arith)
+
+pub ram-of-row : (r : Registers) (n : ℕ) → n < frameRows → ramOf r (rowShowing r n) ≡ n
+ram-of-row r n l = turned-back (turnOf height (eqb (r .rows) 0) (scroll r)) (backOf height (eqb (r .rows) 0) (scroll r)) (λ n k. of-both (λ y. y < height) (eqb (r .rows) 0) (mod-lt _ (omega arith)) (mod-lt _ (omega arith))) (λ n k. turn-back height (eqb (r .rows) 0) (scroll r) n (scroll-below r) k) n l
+
+pub row-of-ram : (r : Registers) (y : ℕ) → y < frameRows → rowShowing r (ramOf r y) ≡ y
+row-of-ram r y l = turned-back (backOf height (eqb (r .rows) 0) (scroll r)) (turnOf height (eqb (r .rows) 0) (scroll r)) (λ n k. of-both (λ y. y < height) (eqb (r .rows) 0) (mod-lt _ (omega arith)) (mod-lt _ (omega arith))) (λ n k. back-turn height (eqb (r .rows) 0) (scroll r) n (scroll-below r) k) y l
+
+-- columns
+pub column-below : (r : Registers) (x : ℕ) → x < width → columnOf width r x < width
+unfolding columnOf
+column-below r x l = of-both (λ c. c < width) (eqb (r .mirrored) 0) l (omega arith)
+
+pub column-twice : (r : Registers) (x : ℕ) → x < width → columnOf width r (columnOf width r x) ≡ x
+unfolding columnOf
+column-twice r x l = twice (eqb (r .mirrored) 0)
+  where
+    twice : (normal : Bool) → cond normal (cond normal x (width - 1 - x)) (width - 1 - cond normal x (width - 1 - x)) ≡ x
+    twice true = refl
+    twice false = omega arith

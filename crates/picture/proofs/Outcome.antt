@@ -1,0 +1,54 @@
+-- What draw's one equation comes to: one outcome for each input, its number, and what a refusal and a drawing leave of the lent frame.
+-- Assumes nothing.
+use mathlib.Core.Path.{_≡_, refl, sym, _∙_, ap}
+use mathlib.Core.Logic.{_≢_}
+use mathlib.Core.Bool.{Bool, true, false, cond, _||_}
+use mathlib.Core.List.{List, _++_}
+use Prim.Native.Nat.{ℕ}
+use lib.Dec.{ltb}
+use lib.ListN.{length, drop}
+use lib.Seq.{drop-at}
+use Rattle.bus.specs.Numbers.{taken, tooShort, outOfRange}
+use Rattle.bus.specs.Registers.{registersOf}
+use Rattle.bus.specs.Image.{short, legal, asked}
+use Rattle.bus.specs.declared.image.Asked.{Asked}
+use Rattle.bus.specs.declared.image.Asked.the-variants.{Found, Refused}
+use Rattle.picture.specs.Sizes.{frameSize}
+use Rattle.picture.specs.Frame.{frame}
+use Rattle.picture.specs.Draw.{drawn, drawOn, draw}
+use Rattle.picture.proofs.Places.{frame-length}
+
+-- two outcomes that satisfy the statement are equal
+pub once : (state memory was : List ℕ) {n m : ℕ} {left later : List ℕ} → drawn n left ≡ draw state memory was → drawn m later ≡ draw state memory was → (n ≡ m) × (left ≡ later)
+once state memory was p q = (ap (λ d. d .number) (p ∙ sym q), ap (λ d. d .frame) (p ∙ sym q))
+
+-- 1 exactly where a lent state, memory or frame is too short, else 2 exactly where the image is out of its ranges
+pub number : (state memory was : List ℕ) → draw state memory was .number ≡ cond (ltb (length was) frameSize || short state memory) tooShort (cond (legal state) taken outOfRange)
+unfolding draw drawOn asked
+number state memory was = by-cases (ltb (length was) frameSize) (short state memory) (legal state)
+  where
+    by-cases : (f s l : Bool) → cond f (drawn tooShort was) (drawOn (cond s (Refused tooShort) (cond l (Found (registersOf state)) (Refused outOfRange))) memory was) .number ≡ cond (f || s) tooShort (cond l taken outOfRange)
+    by-cases true s l = refl
+    by-cases false true l = refl
+    by-cases false false true = refl
+    by-cases false false false = refl
+
+-- a refusal writes nothing
+pub refusal : (state memory was : List ℕ) → draw state memory was .number ≢ taken → draw state memory was .frame ≡ was
+unfolding draw drawOn
+refusal state memory was n = by-cases (ltb (length was) frameSize) (asked state memory) n
+  where
+    by-cases : (f : Bool) (asking : Asked) → cond f (drawn tooShort was) (drawOn asking memory was) .number ≢ taken → cond f (drawn tooShort was) (drawOn asking memory was) .frame ≡ was
+    by-cases true asking n = refl
+    by-cases false (Found r) n = absurd (n refl)
+    by-cases false (Refused number) n = refl
+
+-- bytes past the needed length never change
+pub past : (state memory was : List ℕ) → drop frameSize (draw state memory was .frame) ≡ drop frameSize was
+unfolding draw drawOn
+past state memory was = by-cases (ltb (length was) frameSize) (asked state memory)
+  where
+    by-cases : (f : Bool) (asking : Asked) → drop frameSize (cond f (drawn tooShort was) (drawOn asking memory was) .frame) ≡ drop frameSize was
+    by-cases true asking = refl
+    by-cases false (Found r) = drop-at (frame r memory) (drop frameSize was) frameSize (frame-length r memory)
+    by-cases false (Refused number) = refl

@@ -1,0 +1,84 @@
+-- `picture::row::draw_bits` meets its contract: the page that is lent on has the row's bits.
+-- Assumes nothing.
+use borrow.Author.Needs.{needs}
+use Rattle.picture.proofs.row.draw_bits.Statement.{statement}
+use Rattle.picture.proofs.row.draw_bits.Tie as tie
+use mathlib.Core.Path.{_∙_}
+use Prim.Native.Nat.{_+_, _-_, _*_, _/_}
+use native.Mathlib.Omega.{arith}
+use borrow.Author.Tests.{eq-eqb, ne-eqb}
+use denote.Ref.{now}
+use Rattle.picture.specs.Frame.{bits, columnOf}
+use Rattle.picture.proofs.Lines.{line-same}
+use Rattle.picture.proofs.Bits.{page-bit}
+
+cast-number : tie.Need-cast-number
+cast-number c = search needs
+
+mul-start : tie.Need-mul-start
+mul-start c = search needs
+
+add-end : tie.Need-add-end
+add-end c = search needs
+
+sub-straight : tie.Need-sub-straight
+sub-straight c = search needs
+
+part-straight-start : tie.Need-part-straight-start
+part-straight-start c = search needs
+
+part-straight-end : tie.Need-part-straight-end
+part-straight-end c = search needs
+
+straight-requires : tie.Need-straight-requires
+straight-requires c κs = search needs
+
+sub-mirrored : tie.Need-sub-mirrored
+sub-mirrored c = search needs
+
+part-mirrored-start : tie.Need-part-mirrored-start
+part-mirrored-start c = search needs
+
+part-mirrored-end : tie.Need-part-mirrored-end
+part-mirrored-end c = search needs
+
+mirrored-requires : tie.Need-mirrored-requires
+mirrored-requires c κs = search needs
+
+same-length : tie.Need-same-length
+same-length c = search needs
+
+returns : tie.Need-returns
+unfolding bits columnOf
+returns c =
+    let a = c .before .before .before .before .before .before .before .before .before .before .before .before .args in
+    c .before .before .straight .ensures ∙ line-same 132 _ _ (λ x h. rw (eq-eqb _ _ (c .before .before .before .before .before .if1 .taken)) (page-bit (now (a .memory)) (a .row) (a .row .0 / 8 * 132 + 132 - a .row .0 / 8 * 132) x (a .registers .reverse) (omega arith)))
+
+same-length-2 : tie.Need-same-length-2
+same-length-2 c = search needs
+
+returns-2 : tie.Need-returns-2
+unfolding bits columnOf
+returns-2 c =
+    let a = c .before .before .before .before .before .before .before .before .before .before .before .before .args in
+    c .before .before .mirrored .ensures ∙ line-same 132 _ _ (λ x h. rw (ne-eqb _ _ (c .before .before .before .before .before .if1 .left)) (page-bit (now (a .memory)) (a .row) (a .row .0 / 8 * 132 + 132 - a .row .0 / 8 * 132) (131 - x) (a .registers .reverse) (omega arith)))
+
+pub draw-bits-spec : {M : Type 1} → statement M
+draw-bits-spec =
+    tie.close
+    (tie.spec
+    cast-number
+    mul-start
+    add-end
+    sub-straight
+    part-straight-start
+    part-straight-end
+    straight-requires
+    sub-mirrored
+    part-mirrored-start
+    part-mirrored-end
+    mirrored-requires
+    same-length
+    returns
+    same-length-2
+    returns-2)

@@ -1,0 +1,61 @@
+-- Document 01, "The frame": what each place shows, and the frame as one definition of registers and memory.
+use Prim.Native.Nat.{ℕ, zero, suc, _+_, _*_, _-_, _/_, _%_, _^_}
+use mathlib.Core.Bool.{cond}
+use mathlib.Core.List.{List, [], _∷_, _++_}
+use lib.Dec.{eqb}
+use lib.ListN.{getD, take, drop}
+use Rattle.bus.specs.Sizes.{width}
+use Rattle.bus.specs.Memory.{address}
+use Rattle.bus.specs.declared.registers.Registers.{Registers}
+use Rattle.picture.specs.Sizes.{height, frameRows}
+use Rattle.picture.specs.Rows.{panelRow, rowShows}
+use Rattle.picture.specs.declared.rows.RamRow.{RamRow}
+use Rattle.picture.specs.declared.rows.Shown.{Shown}
+use Rattle.picture.specs.declared.rows.Shown.the-variants.{Dark, Ram}
+
+-- Bit b of page p is RAM row 8p + b, bit 0 the least: the bit of a RAM row in a column.
+unfoldable pub bit : List ℕ → RamRow → ℕ → ℕ
+bit memory row column = getD memory (address (row .0 / 8) column) 0 / 2 ^ (row .0 % 8) % 2
+
+-- Columns normal: segment x shows RAM column x. Otherwise, of w columns, RAM column w - 1 - x.
+unfoldable pub columnOf : ℕ → Registers → ℕ → ℕ
+columnOf w r x = cond (eqb (r .mirrored) 0) x (w - 1 - x)
+
+-- Reverse, 0 or 1, turns a bit round.
+unfoldable pub turned : ℕ → ℕ → ℕ
+turned reverse b = (b + reverse) % 2
+
+-- Segment x of a RAM row as it is shown.
+unfoldable pub bits : ℕ → Registers → List ℕ → RamRow → ℕ → ℕ
+bits w r memory row x = turned (r .reverse) (bit memory row (columnOf w r x))
+
+-- Segment x of a row in use, or of the icons: entire on lights it, reverse or no. A dark row is not turned round.
+unfoldable pub lighted : ℕ → Registers → List ℕ → Shown → ℕ → ℕ
+lighted w r memory Dark x = 0
+lighted w r memory (Ram row) x = cond (eqb (r .entire) 1) 1 (bits w r memory row x)
+
+-- Segment x of a row: 0 dark, 1 lit. Display off makes all dark, before any other rule.
+unfoldable pub segment : ℕ → Registers → List ℕ → Shown → ℕ → ℕ
+segment w r memory shown x = cond (eqb (r .on) 0) 0 (lighted w r memory shown x)
+
+-- A row of w places.
+unfoldable pub line : ℕ → (ℕ → ℕ) → List ℕ
+line zero f = []
+line (suc w) f = line w f ++ f w ∷ []
+
+-- Rows 0 to h - 1 of w places each, one after the other.
+unfoldable pub grid : ℕ → ℕ → (ℕ → ℕ → ℕ) → List ℕ
+grid w zero f = []
+grid w (suc h) f = grid w h f ++ line w (f h)
+
+-- The frame: panel rows 0 to 63, then the icon line, each 132 wide.
+unfoldable pub frame : Registers → List ℕ → List ℕ
+frame r memory = grid width frameRows (λ y. segment width r memory (rowShows height r (panelRow y)))
+
+-- Row y of a frame.
+unfoldable pub rowOf : ℕ → List ℕ → List ℕ
+rowOf y places = take width (drop (y * width) places)
+
+-- What stands in row y at segment x.
+unfoldable pub placeOf : ℕ → ℕ → List ℕ → ℕ
+placeOf y x places = getD places (y * width + x) 0

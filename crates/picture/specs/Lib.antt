@@ -1,0 +1,6 @@
+pub mod Sizes
+pub mod Rows
+pub mod Frame
+pub mod Draw
+pub mod Samples
+pub mod Demand3

@@ -1,0 +1,52 @@
+// The call that draws, lent state image, memory and frame.
+ghost use mathlib.Core.Path.{_≡_};
+ghost use mathlib.Core.List.{_++_};
+ghost use Prim.Native.Nat.{_≤_};
+ghost use lib.ListN.{length, drop};
+ghost use Rattle.bus.specs.Sizes.{memorySize};
+ghost use Rattle.picture.specs.Sizes.{frameSize};
+ghost use Rattle.picture.specs.Frame.{frame};
+ghost use Rattle.picture.specs.Draw.{drawn, draw};
+use crate::row::draw_row;
+use crate::rows::PanelRow;
+use crate::sizes::FRAME_ROWS;
+use crate::sizes::FRAME_SIZE;
+use crate::sizes::WIDTH;
+use bus::image::Asked;
+use bus::image::ask;
+use bus::refusal::TAKEN;
+use bus::refusal::TOO_SHORT;
+use bus::registers::Registers;
+
+// Draws the frame, or refuses and writes nothing.
+pub fn draw(state: &[u8], memory: &[u8], frame: &mut [u8]) -> u8
+    ensures { λ r. ⌜ drawn r (now (frame .exit)) ≡ draw (now (state .entry)) (now (memory .entry)) (now (frame .entry)) ⌝ }
+{
+    if frame.len() < FRAME_SIZE {
+        return TOO_SHORT;
+    }
+    match ask(state, memory) {
+        Asked::Found(registers) => {
+            draw_rows(registers, memory, frame);
+            TAKEN
+        }
+        Asked::Refused(number) => number,
+    }
+}
+
+// Draws each row into its own part of the frame.
+fn draw_rows(registers: Registers, memory: &[u8], places: &mut [u8])
+    requires { ⌜ (memorySize ≤ length (now memory)) × (frameSize ≤ length (now places)) ⌝ }
+    ensures { λ _. ⌜ now (places .exit) ≡ frame registers (now (memory .entry)) ++ drop frameSize (now (places .entry)) ⌝ }
+{
+    for y in 0..FRAME_ROWS {
+        let start = y * WIDTH;
+        let end = start + WIDTH;
+        draw_row(
+            registers,
+            memory,
+            PanelRow(y as u8),
+            &mut places[start..end],
+        );
+    }
+}

@@ -1,0 +1,5 @@
+// Layer 3, the picture: three countings of rows, one row drawn, and the frame.
+pub mod draw;
+mod row;
+pub mod rows;
+mod sizes;

@@ -1,0 +1,22 @@
+/*
+** One case of the stream: the library is called as the case says, and all
+** that it answers and leaves is compared with what the oracle says of it.
+*/
+#ifndef CASES_H
+#define CASES_H
+
+#include "stream.h"
+
+/* Opens the rooms that the library is lent from. */
+void events_open(void);
+void runs_open(void);
+void draws_open(void);
+void listings_open(void);
+
+void compare_single(struct body *body);
+void compare_sequence(struct body *body);
+void compare_run(struct body *body);
+void compare_draw(struct body *body);
+void compare_listing(struct body *body);
+
+#endif

@@ -1,0 +1,151 @@
+/*
+** compare: the library beside the oracle.  See usage below.
+*/
+#include <stdbool.h>
+#include <stdio.h>
+#include <stdlib.h>
+#include <string.h>
+
+#include "cases.h"
+#include "report.h"
+#include "ssd1815b.h"
+#include "stream.h"
+#include "tally.h"
+
+static const char usage[] =
+  "usage: compare [--shown-by COMMAND] [--at-least EVENTS FRAMES] < STREAM\n"
+  "\n"
+  "Makes every call of the oracle's stream of cases (oracle/README.md) on the\n"
+  "library, and compares all that it answers and leaves.\n"
+  "\n"
+  "  --shown-by COMMAND         what shows a case of the stream, printed with\n"
+  "                             a difference\n"
+  "  --at-least EVENTS FRAMES   fewer single events or drawn frames, or a\n"
+  "                             number that no call gave, are a failure\n"
+  "\n"
+  "Status 0: all is the same.  1: something differs.  2: not a stream, or a\n"
+  "wrong command line.\n";
+
+struct options {
+  const char *shown_by;
+  bool at_least;
+  unsigned long events;
+  unsigned long frames;
+};
+
+static _Noreturn void wrong_command_line(void)
+{
+  fputs(usage, stderr);
+  exit(2);
+}
+
+static unsigned long number_of(const char *text)
+{
+  char *end;
+  unsigned long number = strtoul(text, &end, 10);
+  if (*text == '\0' || *end != '\0') {
+    wrong_command_line();
+  }
+  return number;
+}
+
+static struct options options_of(int argc, char **argv)
+{
+  struct options options = { "oracle show < STREAM", false, 0, 0 };
+  for (int i = 1; i < argc; i++) {
+    if (strcmp(argv[i], "--help") == 0) {
+      fputs(usage, stdout);
+      exit(0);
+    } else if (strcmp(argv[i], "--shown-by") == 0 && i + 1 < argc) {
+      options.shown_by = argv[++i];
+    } else if (strcmp(argv[i], "--at-least") == 0 && i + 2 < argc) {
+      options.at_least = true;
+      options.events = number_of(argv[++i]);
+      options.frames = number_of(argv[++i]);
+    } else {
+      wrong_command_line();
+    }
+  }
+  return options;
+}
+
+static unsigned long events_compared(void)
+{
+  return tally_all(CALL_COMMAND) + tally_all(CALL_WRITE)
+         + tally_all(CALL_READ) + tally_all(CALL_RESET);
+}
+
+/* Compares cases until the end, or until enough differ; how many. */
+static unsigned long compare_all(void)
+{
+  static const struct {
+    const char *what;
+    void (*compare)(struct body *);
+  } tags[] = {
+    [TAG_SINGLE] = { "a single event", compare_single },
+    [TAG_SEQUENCE] = { "a sequence of events", compare_sequence },
+    [TAG_RUN] = { "a run", compare_run },
+    [TAG_DRAW] = { "a drawing", compare_draw },
+    [TAG_LISTING] = { "a listing", compare_listing },
+  };
+  unsigned long cases = 0;
+  struct body body;
+  for (uint8_t tag; (tag = stream_next(&body)) != TAG_END; cases++) {
+    if (tag >= sizeof tags / sizeof tags[0] || tags[tag].compare == NULL) {
+      fprintf(stderr, "compare: a case of the unknown tag %u\n", tag);
+      exit(2);
+    }
+    report_case(tags[tag].what);
+    tags[tag].compare(&body);
+    if (report_enough()) {
+      fprintf(stderr, "compare: stopped; more may differ\n");
+      exit(1);
+    }
+  }
+  uint64_t cases_told = take_u64(&body);
+  uint64_t events_told = take_u64(&body);
+  take_nothing_more(&body);
+  if (report_differences() == 0
+      && (cases_told != cases || events_told != events_compared())) {
+    fprintf(stderr, "compare: not as many cases and events as the stream"
+            " says\n");
+    exit(2);
+  }
+  return cases;
+}
+
+int main(int argc, char **argv)
+{
+  struct options options = options_of(argc, argv);
+  report_begin(options.shown_by);
+  events_open();
+  runs_open();
+  draws_open();
+  listings_open();
+
+  unsigned long long seed = stream_begin();
+  unsigned long cases = compare_all();
+  unsigned long events = events_compared();
+  unsigned long frames = tally_of(CALL_DRAW, SSD1815B_TAKEN);
+
+  tally_print();
+  printf("seed %llu: %lu cases, %lu single events, %lu runs, %lu drawings"
+         " (%lu frames), %lu listings compared: %u cases differ\n",
+         seed, cases, events, tally_all(CALL_RUN), tally_all(CALL_DRAW),
+         frames, tally_all(CALL_LIST), report_differences());
+
+  if (report_differences() > 0) {
+    return 1;
+  }
+  if (options.at_least) {
+    if (events < options.events || frames < options.frames) {
+      fprintf(stderr, "compare: that is fewer than %lu events and %lu frames\n",
+              options.events, options.frames);
+      return 1;
+    }
+    if (!tally_complete()) {
+      return 1;
+    }
+  }
+  return 0;
+}

@@ -1,0 +1,76 @@
+#include "tally.h"
+
+#include <stdio.h>
+
+enum { NUMBERS = 11 };
+
+static const struct {
+  const char *name;
+  const char *can_give; /* '+' for each number that the call can give */
+} calls[CALLS] = {
+  [CALL_COMMAND] = { "command", "++++++     " },
+  [CALL_WRITE]   = { "write",   "+++   ++   " },
+  [CALL_READ]    = { "read",    "+++   ++   " },
+  [CALL_RESET]   = { "reset",   "++         " },
+  [CALL_RUN]     = { "run",     "+++++++++++" },
+  [CALL_DRAW]    = { "draw",    "+++        " },
+  [CALL_LIST]    = { "list",    "+          " },
+};
+
+static unsigned long given[CALLS][NUMBERS];
+
+void tally_add(enum call call, uint8_t number)
+{
+  if (number < NUMBERS) {
+    given[call][number]++;
+  }
+}
+
+unsigned long tally_of(enum call call, uint8_t number)
+{
+  return given[call][number];
+}
+
+unsigned long tally_all(enum call call)
+{
+  unsigned long all = 0;
+  for (int number = 0; number < NUMBERS; number++) {
+    all += given[call][number];
+  }
+  return all;
+}
+
+void tally_print(void)
+{
+  printf("answer ");
+  for (int number = 0; number < NUMBERS; number++) {
+    printf(" %8d", number);
+  }
+  printf("\n");
+  for (int call = 0; call < CALLS; call++) {
+    printf("%-7s", calls[call].name);
+    for (int number = 0; number < NUMBERS; number++) {
+      if (calls[call].can_give[number] == '+') {
+        printf(" %8lu", given[call][number]);
+      } else {
+        printf(" %8s", "-");
+      }
+    }
+    printf("\n");
+  }
+}
+
+bool tally_complete(void)
+{
+  bool complete = true;
+  for (int call = 0; call < CALLS; call++) {
+    for (int number = 0; number < NUMBERS; number++) {
+      if (calls[call].can_give[number] == '+' && given[call][number] == 0) {
+        fprintf(stderr, "compare: no case in which %s answers %d\n",
+                calls[call].name, number);
+        complete = false;
+      }
+    }
+  }
+  return complete;
+}

@@ -1,0 +1,26 @@
+/*
+** How often each call gave each number.
+*/
+#ifndef TALLY_H
+#define TALLY_H
+
+#include <stdbool.h>
+#include <stdint.h>
+
+enum call { CALL_COMMAND, CALL_WRITE, CALL_READ, CALL_RESET, CALL_RUN,
+            CALL_DRAW, CALL_LIST, CALLS };
+
+void tally_add(enum call call, uint8_t number);
+
+unsigned long tally_of(enum call call, uint8_t number);
+
+/* All answers of a call. */
+unsigned long tally_all(enum call call);
+
+/* Prints a line for each call. */
+void tally_print(void);
+
+/* Whether each call gave every number that it can give; says which not. */
+bool tally_complete(void);
+
+#endif

@@ -1,0 +1,315 @@
+/*
+** A model of the SSD1815B display driver: what a C host calls.
+**
+** The model goes from bus events to registers, display memory and the frame
+** on the glass, by the rules of document 01.  It is proved: for every input,
+** refused ones too, each call below answers and leaves what is said here.
+**
+** The caller owns all memory.  The library allocates nothing, keeps nothing
+** between calls, and reads and writes only what it is lent:
+**
+**   state    the registers as an image of 23 bytes, SSD1815B_PAGE and so on
+**   memory   the display memory, 1,188 bytes: page p, column c at 132p + c
+**   frame    the picture, 8,580 bytes, 0 dark and 1 lit: panel rows 0 to 63
+**            and then the icon line, each 132 wide
+**   trace    recorded bus traffic, any number of bytes
+**
+** A typical host:
+**
+**     uint8_t state[SSD1815B_STATE_SIZE];
+**     uint8_t memory[SSD1815B_MEMORY_SIZE];
+**     uint8_t frame[SSD1815B_FRAME_SIZE];
+**
+**     ssd1815b_start(state, sizeof state, memory, sizeof memory);
+**     ssd1815b_command(state, sizeof state, memory, sizeof memory, 0xAF);
+**     ssd1815b_write(state, sizeof state, memory, sizeof memory, 0x03);
+**     ssd1815b_draw(state, sizeof state, memory, sizeof memory,
+**                   frame, sizeof frame);
+**
+** now panel rows 0 and 1 are lit at their first place.
+**
+**
+** LENGTHS
+**
+** A length may be anything.  One that is too small is answered by
+** SSD1815B_TOO_SHORT; one that is larger than needed is taken, and the bytes
+** past the needed ones are neither used nor changed.  Contents may be
+** anything too: an image that no chip can have is answered by
+** SSD1815B_OUT_OF_RANGE.  There is no byte sequence that a call does not
+** answer.
+**
+**
+** WHAT THE CALLER MUST SEE TO
+**
+** No proof can know what a pointer points to.  So, at every call:
+**
+**   *  A pointer points to as many bytes as the length that follows it says,
+**      to be read, and to be written too where it is not to const.  An out
+**      parameter points to one object of its type.  No pointer is null, not
+**      even where the length is 0.
+**   *  No two things lent to one call overlap, out parameters included.
+**   *  Nothing else reads or writes what is lent for writing, or writes what
+**      is lent for reading, before the call returns: no other thread, no
+**      signal handler, no device.
+**
+** Calls that are lent different things may run at the same time.
+*/
+#ifndef SSD1815B_H
+#define SSD1815B_H
+
+#include <stddef.h>
+#include <stdint.h>
+
+#ifdef __cplusplus
+extern "C" {
+#endif
+
+/*
+** Sizes
+**
+** The panel has SSD1815B_ROWS panel rows and, as one row more of the frame,
+** the icon line; SSD1815B_COLUMNS places each.  The four buffer sizes are
+** what the calls need; a buffer may be longer.
+*/
+#define SSD1815B_COLUMNS     132
+#define SSD1815B_ROWS         64
+#define SSD1815B_PAGES         9
+#define SSD1815B_ICON_PAGE     8  /* bit 0 of its bytes is the icon line */
+#define SSD1815B_ICON_ROW     64  /* the icon line's row of the frame */
+
+#define SSD1815B_STATE_SIZE   23
+#define SSD1815B_MEMORY_SIZE  1188
+#define SSD1815B_FRAME_SIZE   8580
+#define SSD1815B_TEXT_SIZE    27408  /* holds every listing (proved) */
+
+/*
+** Numbers given
+**
+** SSD1815B_TAKEN, or why not.  The event calls answer 0 to 7 (a command byte
+** 0 to 5, a data byte 0 to 2, 6 and 7, the reset pin 0 and 1), the run any
+** of them, drawing 0 to 2, starting and listing 0 and 1.
+**
+** Where several reasons hold, the lower of 1 and 2 goes first; then 8 before
+** 9; then 6 before 7 before 10.
+*/
+#define SSD1815B_TAKEN          0
+#define SSD1815B_TOO_SHORT      1  /* something lent is shorter than needed */
+#define SSD1815B_OUT_OF_RANGE   2  /* the state image is out of its ranges */
+#define SSD1815B_OUTSIDE_TABLE  3  /* a byte that is no command, B9 to BF
+                                   ** apart, with no code awaited */
+#define SSD1815B_NO_PAGE        4  /* B9 to BF, with no code awaited */
+#define SSD1815B_NOT_ALLOWED    5  /* n of D3 or D4; the code stays awaited */
+#define SSD1815B_CODE_AWAITED   6  /* data access while a code is awaited */
+#define SSD1815B_COLUMN_ABOVE   7  /* data access with column above 131 */
+#define SSD1815B_HEADER_CUT     8  /* 1 to 3 bytes for a header, or payload
+                                   ** past the end of the trace */
+#define SSD1815B_KIND_UNKNOWN   9  /* kind not 1 to 4, or 4 with a payload */
+#define SSD1815B_READ_DIFFERS  10  /* the byte read is not the recorded one */
+
+/*
+** The state image
+**
+** The place of each register in the 23 bytes, with its range and its value
+** at power-on (0 unless given).  A flag is 0 or 1.
+**
+** Display off with entire on is power save: sleep with the indicator off,
+** standby with it on.
+*/
+#define SSD1815B_PAGE               0  /* 0 to 8 */
+#define SSD1815B_COLUMN             1  /* 0 to 255; data access needs <= 131 */
+#define SSD1815B_START_LINE         2  /* 0 to 63 */
+#define SSD1815B_OFFSET             3  /* 0 to 63 */
+#define SSD1815B_MULTIPLEX          4  /* 0 to 63, at power-on 63; dot rows in
+                                       ** use are one more */
+#define SSD1815B_CONTRAST           5  /* 0 to 63, at power-on 32 */
+#define SSD1815B_RESISTOR_RATIO     6  /* 0 to 7, at power-on 4 */
+#define SSD1815B_POWER_CONTROL      7  /* 0 to 7 */
+#define SSD1815B_BIAS               8  /* flag */
+#define SSD1815B_QUARTER_BIAS       9  /* flag */
+#define SSD1815B_BYTE_OF_A9        10  /* any */
+#define SSD1815B_FRAME_PHASES      11  /* 0 to 3 */
+#define SSD1815B_COLUMN_DIRECTION  12  /* flag: 1 is mirrored */
+#define SSD1815B_ROW_DIRECTION     13  /* flag: 1 is reversed */
+#define SSD1815B_ENTIRE_ON         14  /* flag */
+#define SSD1815B_REVERSE           15  /* flag */
+#define SSD1815B_DISPLAY_ON        16  /* flag */
+#define SSD1815B_INDICATOR_ON      17  /* flag */
+#define SSD1815B_INDICATOR_MODE    18  /* 0 to 3 */
+#define SSD1815B_AWAITED_CODE      19  /* 00, 81, A8, A9, AD, D3 or D4 (hex);
+                                       ** 00 if none is awaited */
+#define SSD1815B_READ_MODIFY_WRITE 20  /* flag */
+#define SSD1815B_SAVED_COLUMN      21  /* 0 to 255; 0 while the flag is 0 */
+#define SSD1815B_FRESH             22  /* flag, at power-on 1: the next read is
+                                       ** the dummy read */
+
+/*
+** Power on
+**
+** Puts the power-on image into the first 23 bytes of state and zeros into
+** the first 1,188 of memory.
+**
+** Answers 0; or 1 if state is shorter than 23 or memory shorter than 1,188,
+** and then nothing is written.
+**
+** (The reset pin, ssd1815b_reset(), gives the same image and leaves memory
+** as it is.)
+*/
+uint8_t ssd1815b_start(
+  uint8_t *state, size_t state_len,    /* written */
+  uint8_t *memory, size_t memory_len   /* written */
+);
+
+/*
+** A command byte
+**
+** The chip is given one command byte.  If a code is awaited, the byte is its
+** n, even if it looks like a command.
+**
+** Answers 0 with the new image in the first 23 bytes of state; or 1 to 5,
+** and then nothing is written.  After 5 the code is still awaited.
+**
+** memory is not used and not changed, but its length is asked.
+*/
+uint8_t ssd1815b_command(
+  uint8_t *state, size_t state_len,          /* read, and written if 0 */
+  const uint8_t *memory, size_t memory_len,
+  uint8_t byte
+);
+
+/*
+** A data byte written
+**
+** The byte is stored at the page and column of the image (on page 8 its bit
+** 0, and zeros above), fresh becomes 1, and the column moves on; after 131
+** comes 0 of the same page.  No other byte of memory changes.
+**
+** Answers 0 with the new image in state and the byte in memory; or 1, 2, 6
+** or 7, and then nothing is written.
+*/
+uint8_t ssd1815b_write(
+  uint8_t *state, size_t state_len,    /* read, and written if 0 */
+  uint8_t *memory, size_t memory_len,  /* one byte written if 0 */
+  uint8_t byte
+);
+
+/*
+** A data byte read
+**
+** With fresh 1 this is the dummy read: *dummy is 1, *byte is 0, fresh
+** becomes 0 and the column stays.  With fresh 0, *dummy is 0 and *byte is
+** the byte at the page and column (on page 8 its bit 0 alone); the column
+** moves on, except in read-modify-write.
+**
+** Answers 0 with the new image in state; or 1, 2, 6 or 7, and then state is
+** not written.  *byte and *dummy are always written, both 0 on a refusal.
+**
+** memory is not changed.
+*/
+uint8_t ssd1815b_read(
+  uint8_t *state, size_t state_len,          /* read, and written if 0 */
+  const uint8_t *memory, size_t memory_len,
+  uint8_t *byte,                             /* OUT: the byte read */
+  uint8_t *dummy                             /* OUT: 1 for the dummy read */
+);
+
+/*
+** A pulse on the reset pin
+**
+** Puts the power-on image into the first 23 bytes of state, whatever was
+** there: this one event call does not ask for the image's ranges.
+**
+** Answers 0; or 1 if state or memory is too short, and then nothing is
+** written.  memory is not changed.
+*/
+uint8_t ssd1815b_reset(
+  uint8_t *state, size_t state_len,          /* written if 0 */
+  const uint8_t *memory, size_t memory_len
+);
+
+/*
+** Recorded bus traffic
+**
+** Runs a trace: records, one after the other, each of a payload length (two
+** bytes), a kind (two bytes) and the payload; numbers are little-endian.
+**
+**   kind 1   command bytes
+**   kind 2   data bytes written
+**   kind 3   bytes that the firmware read: one read event each, compared
+**            with what the model reads; a dummy read is not compared
+**   kind 4   the reset pin, length 0
+**
+** Kinds 1 to 3 may have length 0.  The run stops at the first event or
+** header that is refused; what came before it stands, events of the same
+** record too.  A header is judged before any of its payload acts.
+**
+** Answers the number, and always writes *offset and *count:
+**
+**   0         all was taken; *offset is trace_len
+**   1, 2      state and memory, asked before the first header (and also for
+**             an empty trace); nothing is written, *offset and *count are 0
+**   3 to 7    the event's refusal; *offset is that of the refused byte
+**   8, 9      the header's; *offset is that of the record's first byte
+**   10        a read differs, and has not happened; *offset is that of the
+**             recorded byte
+**
+** *count is the number of whole records done.
+*/
+uint8_t ssd1815b_run(
+  uint8_t *state, size_t state_len,       /* read and written */
+  uint8_t *memory, size_t memory_len,     /* read and written */
+  const uint8_t *trace, size_t trace_len,
+  size_t *offset,                         /* OUT: where the run stopped */
+  size_t *count                           /* OUT: whole records done */
+);
+
+/*
+** The frame on the glass
+**
+** Draws what the panel shows into the first 8,580 bytes of frame: row r,
+** place x at 132r + x, 0 dark and 1 lit, the icon line as row 64.
+**
+** Answers 0; or 1 if state, memory or frame is too short, or 2 if the image
+** is out of its ranges, and then nothing is written.  state and memory are
+** not changed.
+*/
+uint8_t ssd1815b_draw(
+  const uint8_t *state, size_t state_len,
+  const uint8_t *memory, size_t memory_len,
+  uint8_t *frame, size_t frame_len           /* written if 0 */
+);
+
+/*
+** A frame as text
+**
+** Writes the listing of a frame.  For a frame with panel row 0 lit at places
+** 0 and 1 and the icon line lit at its last place:
+**
+**     frame 132 65
+**     0 0-1
+**     64 131-131
+**     end
+**
+** with a line for each row that has lit places, its runs left to right; each
+** line ends in one newline byte.  If number is not 0, the line
+** `refused NUMBER at OFFSET` comes first.  number and offset are those that
+** a run answered; any others are printed just so.  In frame 0 is dark and
+** any other byte lit.
+**
+** Answers 0 with the text in the first *length bytes of text, the rest of
+** text unchanged; no byte 0 ends it.  Answers 1 if frame is shorter than
+** 8,580 or text shorter than the listing, which a text of SSD1815B_TEXT_SIZE
+** bytes never is; then text is not written and *length is 0.
+*/
+uint8_t ssd1815b_list(
+  uint8_t number,
+  size_t offset,
+  const uint8_t *frame, size_t frame_len,
+  uint8_t *text, size_t text_len,          /* written if 0 */
+  size_t *length                           /* OUT: bytes of text */
+);
+
+#ifdef __cplusplus
+}
+#endif
+
+#endif /* SSD1815B_H */

@@ -1,0 +1,38 @@
+// The header as a C++ program takes it: document 01's listing.
+#include "ssd1815b.h"
+
+#include <cstddef>
+#include <cstdint>
+#include <cstdio>
+#include <cstring>
+#include <vector>
+
+int main()
+{
+  const std::uint8_t trace[] = { 0x01, 0x00, 0x01, 0x00, 0xAF, 0x02,
+                                 0x00, 0x02, 0x00, 0x03, 0x01 };
+  const char listing[] = "frame 132 65\n0 0-1\n1 0-0\nend\n";
+
+  std::vector<std::uint8_t> state(SSD1815B_STATE_SIZE);
+  std::vector<std::uint8_t> memory(SSD1815B_MEMORY_SIZE);
+  std::vector<std::uint8_t> frame(SSD1815B_FRAME_SIZE);
+  std::vector<std::uint8_t> text(SSD1815B_TEXT_SIZE);
+  std::size_t offset = 0;
+  std::size_t count = 0;
+  std::size_t length = 0;
+
+  ssd1815b_start(state.data(), state.size(), memory.data(), memory.size());
+  const std::uint8_t number =
+      ssd1815b_run(state.data(), state.size(), memory.data(), memory.size(),
+                   trace, sizeof trace, &offset, &count);
+  ssd1815b_draw(state.data(), state.size(), memory.data(), memory.size(),
+                frame.data(), frame.size());
+  ssd1815b_list(number, offset, frame.data(), frame.size(), text.data(),
+                text.size(), &length);
+
+  const bool right = number == SSD1815B_TAKEN && offset == sizeof trace
+                     && count == 2 && length == sizeof listing - 1
+                     && std::memcmp(text.data(), listing, length) == 0;
+  std::printf("header: the listing from C++ is %s\n", right ? "right" : "wrong");
+  return right ? 0 : 1;
+}
