@@ -98,7 +98,7 @@ loop-again c =
     let d = c .before .before .before .before .before .before .before .before in
     let loop = d .before .before .before .before .loop in
     let obeyed = c .before .before .before .before .before .before .obey in (
-      fits d,
+      omega (arith, fits d),
       omega (arith, fits d),
       obeyed .kept .1 .1 .0 ∙ loop .inv .2,
       loop .inv .3 ∙ plays-on (now (d .before .before .before .before .before .before .before .args .trace)) (loop .at) theChip (loop .count) _ _ (standing d) _ (sym (obeyed .ensures) ∙ ap (λ progress. endingOf progress (obeyed .last .1 .1 .0)) (c .before .before .left .given .1)),
