@@ -1,38 +1,37 @@
 -- The run is what the event calls give one by one: it answers and leaves what calling them in order on the lent state and memory gives, up to the first refused one.
 -- Assumes nothing.
-use mathlib.Core.Path.{_≡_, refl, sym, _∙_, ap}
-use mathlib.Core.Bool.{Bool, true, false, cond, not, _&&_, _||_}
+use mathlib.Core.Path.{_≡_, refl, _∙_, ap}
+use mathlib.Core.Bool.{Bool, true, false, cond, not, _||_}
 use mathlib.Core.List.{List, [], _∷_, _++_}
 use Prim.Native.Nat.{ℕ, _+_, _≤_}
 use native.Mathlib.Omega.{arith}
 use borrow.Author.Tests.{not-true, le-ltb}
-use lib.Dec.{eqb, ltb}
+use lib.Dec.{eqb}
 use lib.ListN.{length, drop}
 use Rattle.bus.specs.Sizes.{imageSize, memorySize}
 use Rattle.bus.specs.Numbers.{taken, readDiffers}
-use Rattle.bus.specs.Registers.{imageOf, registersOf}
+use Rattle.bus.specs.Registers.{imageOf}
 use Rattle.bus.specs.Events.{numberOf, byteOf, dummyOf}
-use Rattle.bus.specs.Machine.{Chip, Event, commandByte, dataWritten, dataRead, resetPulse, Outcome, step}
+use Rattle.bus.specs.Machine.{Event, commandByte, dataWritten, dataRead, resetPulse, step}
 use Rattle.bus.specs.Image.{short, asked, stored}
-use Rattle.bus.specs.Calls.{Called, replyOf, stateAfter, concluded, askedBefore, callOn, call}
+use Rattle.bus.specs.Calls.{replyOf, stateAfter, concluded, askedBefore, callOn, call}
 use Rattle.bus.specs.declared.registers.Registers.{Registers}
 use Rattle.bus.specs.declared.answer.Answer.{Answer}
 use Rattle.bus.specs.declared.answer.Answer.the-variants.{Taken, Refused}
-use Rattle.bus.specs.declared.image.Asked.{Asked}
 use Rattle.bus.specs.declared.image.Asked.the-variants.{Found}
 use Rattle.bus.proofs.Kept.{LegalRegisters, Keeps, step-keeps, asked-legal}
 use Rattle.trace.specs.Records.{Trace, ended, cut, _then_, headerSize, split}
-use Rattle.trace.specs.Play.{Result, refuses, gives, onResult, Played, played, play}
+use Rattle.trace.specs.Play.{Result, refuses, gives, onResult, played}
 use Rattle.trace.specs.Chip.{Recorded, event, readAs, chipOf, happened, compared, replay, theChip}
-use Rattle.trace.specs.OneByOne.{Placed, placed, Script, script, scriptFrom, applied, oneByOne}
+use Rattle.trace.specs.OneByOne.{Placed, placed, Script, script, scriptFrom, applied}
 use Rattle.trace.specs.ByCalls.{calledBy, meets, byCalls, runByCalls}
-use Rattle.trace.specs.Run.{Ran, ran, stopOf, ranOf, run}
-use Rattle.trace.specs.declared.run.Stop.{Stop}
+use Rattle.trace.specs.Run.{ran, stopOf, ranOf, run}
 use Rattle.trace.proofs.OneByOne.{one-by-one}
 use Rattle.trace.proofs.Kept.{All, Bytes, OfBytes, Gives, split-of-bytes}
-use Rattle.trace.proofs.Runs.{Brings, brings, step-length, run-found, fits}
+use Rattle.trace.proofs.Held.{Brings, brings, step-length}
+use Rattle.trace.proofs.Runs.{run-found, fits}
 use Rattle.trace.proofs.Sound.{honest, step-honest}
-use Rattle.trace.proofs.Stored.{sized, stored-long, stored-own, stored-again, asked-stored}
+use Rattle.trace.proofs.Stored.{stored-long, stored-own, stored-again, asked-stored}
 
 module _ (state : List ℕ) (h : imageSize ≤ length state) where
   -- what is asked before a call on a state that legal registers were stored in

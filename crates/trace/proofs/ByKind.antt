@@ -1,19 +1,18 @@
 -- The record that stands at an offset of a trace, played on the chip by its kind.
 -- Assumes nothing.
-use mathlib.Core.Path.{_≡_, refl, _∙_, ap}
+use mathlib.Core.Path.{_≡_, _∙_, ap}
 use mathlib.Core.List.{List, [], _∷_, map}
 use Prim.Native.Nat.{ℕ, _+_}
 use native.Mathlib.Omega.{arith}
-use borrow.Author.Tests.{eq-eqb, ne-eqb}
-use lib.Dec.{eqb}
+use borrow.Author.Tests.{ne-eqb}
 use lib.ListN.{length, drop}
 use lib.Seq.{slice, length-slice}
 use Rattle.bus.specs.Numbers.{kindUnknown}
 use Rattle.bus.specs.Machine.{Chip, resetPulse}
 use Rattle.trace.specs.Records.{Record, headerSize, recordAt}
 use Rattle.trace.specs.Front.{frontOf}
-use Rattle.trace.specs.Play.{Ended, stopped, playEvents, playRecord}
-use Rattle.trace.specs.Chip.{Recorded, event, command, write, readAs, eventsOf, theChip}
+use Rattle.trace.specs.Play.{stopped, playEvents, playRecord}
+use Rattle.trace.specs.Chip.{event, command, write, readAs, eventsOf, theChip}
 use Rattle.trace.specs.declared.records.Header.{Header}
 use Rattle.trace.specs.declared.records.Front.the-variants.{Whole}
 use Rattle.trace.proofs.Standing.{within-trace, the-record}

@@ -1,18 +1,17 @@
 -- What stands at an offset of a trace, by the tests that tell it.
 -- Assumes nothing.
-use mathlib.Core.Path.{_≡_, refl, sym, _∙_, ap}
+use mathlib.Core.Path.{_≡_, _∙_}
 use mathlib.Core.Bool.{false}
 use mathlib.Core.List.{List}
 use Prim.Native.Nat.{ℕ, _+_, _-_, _≤_, _<_}
 use native.Mathlib.Nat.{add-zero}
 use native.Mathlib.Omega.{arith}
 use borrow.Author.Tests.{eq-eqb, ne-eqb, le-leb, lt-leb}
-use lib.Dec.{eqb, leb}
+use lib.Dec.{eqb}
 use lib.ListN.{length, drop, length-drop}
 use lib.Seq.{getD-drop}
-use Rattle.trace.specs.Records.{number, headerSize, lengthOf, kindOf, whole}
+use Rattle.trace.specs.Records.{number, headerSize, lengthOf, kindOf}
 use Rattle.trace.specs.Front.{frontOf}
-use Rattle.trace.specs.declared.records.Front.{Front}
 use Rattle.trace.specs.declared.records.Front.the-variants.{Nothing, Cut, Whole}
 
 module _ (trace : List ℕ) (at : ℕ) where

@@ -1,13 +1,13 @@
 -- A trace that begins at a later offset, with records before it, plays as it would from the start, offsets and count moved on. Over any machine.
 -- Assumes nothing.
-use mathlib.Core.Path.{_≡_, refl, sym, _∙_, ap, fun-ext}
+use mathlib.Core.Path.{_≡_, refl}
 use mathlib.Core.Bool.{Bool, true, false, cond}
 use mathlib.Core.List.{List, [], _∷_}
 use Prim.Native.Nat.{ℕ, zero, suc, _+_}
 use native.Mathlib.Omega.{arith}
 use Rattle.trace.specs.Records.{Record, Trace, ended, cut, _then_, headerSize, lengthOf, whole, recordAt, splitFrom}
 use Rattle.trace.proofs.Cases.{by-cases}
-use Rattle.trace.specs.Play.{Result, refuses, gives, onResult, Machine, Ended, stopped, done, onEnded, Played, played, playEvents, playRecord, playFrom}
+use Rattle.trace.specs.Play.{Machine, Ending, stopped, done, onEnding, Played, played, playEvents, playRecord, playFrom}
 
 -- a record, a split trace and what is played, moved on
 abbrev pub recordFurther : ℕ → Record → Record
@@ -18,9 +18,9 @@ traceFurther k (ended offset) = ended (k + offset)
 traceFurther k (cut offset) = cut (k + offset)
 traceFurther k (r then rest) = recordFurther k r then traceFurther k rest
 
-abbrev endedFurther : {S : Type 0} → ℕ → Ended S → Ended S
-endedFurther k (stopped number offset s) = stopped number (k + offset) s
-endedFurther k (done s) = done s
+abbrev endingFurther : {S : Type 0} → ℕ → Ending S → Ending S
+endingFurther k (stopped number offset s) = stopped number (k + offset) s
+endingFurther k (done s) = done s
 
 abbrev pub further : {S : Type 0} → ℕ → ℕ → Played S → Played S
 further k c p = played (p .number) (k + p .offset) (c + p .count) (p .state)
@@ -41,21 +41,21 @@ split-further k zero offset (byte ∷ bytes) =
     split-choice k (whole all) (recordAt offset all) (splitFrom (3 + lengthOf all) (offset + 1) bytes) (splitFrom (3 + lengthOf all) (k + offset + 1) bytes) offset (rw e (split-further k (3 + lengthOf all) (offset + 1) bytes))
 
 module _ {S E : Type 0} (machine : Machine S E) (k : ℕ) where
-  events-further : (events : List E) (offset : ℕ) (s : S) → playEvents machine events (k + offset) s ≡ endedFurther k (playEvents machine events offset s)
+  events-further : (events : List E) (offset : ℕ) (s : S) → playEvents machine events (k + offset) s ≡ endingFurther k (playEvents machine events offset s)
   unfolding playEvents
   events-further [] offset s = refl
   events-further (e ∷ rest) offset s =
       let on : k + offset + 1 ≡ k + (offset + 1) = omega arith in
-      by-cases (endedFurther k) (machine .step e s) (λ number. refl) (λ t. rw on (events-further rest (offset + 1) t))
+      by-cases (endingFurther k) (machine .step e s) (λ number. refl) (λ t. rw on (events-further rest (offset + 1) t))
 
-  record-further : (r : Record) (s : S) → playRecord machine (recordFurther k r) s ≡ endedFurther k (playRecord machine r s)
+  record-further : (r : Record) (s : S) → playRecord machine (recordFurther k r) s ≡ endingFurther k (playRecord machine r s)
   unfolding playRecord
   record-further r s =
       let on : k + r .place + headerSize ≡ k + (r .place + headerSize) = omega arith in
-      by-cases (endedFurther k) (machine .events (r .kind) (r .payload)) (λ number. refl) (λ events. rw on (events-further events (r .place + headerSize) s))
+      by-cases (endingFurther k) (machine .events (r .kind) (r .payload)) (λ number. refl) (λ events. rw on (events-further events (r .place + headerSize) s))
 
-  ended-further : (c count : ℕ) (ending : Ended S) (go go′ : S → Played S) → ((t : S) → go t ≡ further k c (go′ t))
-      → onEnded (endedFurther k ending) (λ n o t. played n o (c + count) t) go ≡ further k c (onEnded ending (λ n o t. played n o count t) go′)
+  ended-further : (c count : ℕ) (ending : Ending S) (go go′ : S → Played S) → ((t : S) → go t ≡ further k c (go′ t))
+      → onEnding (endingFurther k ending) (λ n o t. played n o (c + count) t) go ≡ further k c (onEnding ending (λ n o t. played n o count t) go′)
   ended-further c count (stopped number offset s) go go′ same = refl
   ended-further c count (done s) go go′ same = same s
 

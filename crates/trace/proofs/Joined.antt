@@ -1,19 +1,19 @@
 -- Whole records followed by more: playing `a ++ b` is playing `a`, then `b` from what it left, with offset and count added, whenever `a` is taken whole. Over any machine that refuses with no 0.
 -- Assumes nothing.
 use mathlib.Core.Path.{_≡_, refl, sym, _∙_, ap}
-use mathlib.Core.Bool.{Bool, true, false, cond, _&&_, false≢true}
+use mathlib.Core.Bool.{Bool, true, false, cond}
 use mathlib.Core.List.{List, [], _∷_, _++_}
-use Prim.Native.Nat.{ℕ, zero, suc, _+_, _*_, _≤_, _<_}
+use Prim.Native.Nat.{ℕ, zero, suc, _+_, _≤_, _<_}
 use native.Mathlib.Nat.{add-zero, zero-add}
 use native.Mathlib.Omega.{arith}
 use borrow.Author.Tests.{leb-true, le-leb}
 use lib.Dec.{leb}
-use lib.ListN.{length, getD, take, drop, length-append, length-drop, List·getD-append}
+use lib.ListN.{length, drop, length-append, length-drop, List·getD-append}
 use lib.Seq.{take-append-le, drop-append-le}
-use Rattle.bus.specs.Numbers.{taken, headerCut}
+use Rattle.bus.specs.Numbers.{taken}
 use Rattle.codes.proofs.Tests.{both}
-use Rattle.trace.specs.Records.{Record, Trace, ended, cut, _then_, number, headerSize, lengthOf, kindOf, payloadOf, whole, recordAt, splitFrom, split}
-use Rattle.trace.specs.Play.{Result, refuses, gives, onResult, Machine, Ended, stopped, done, onEnded, Played, played, playEvents, playRecord, playFrom, play}
+use Rattle.trace.specs.Records.{Record, Trace, ended, cut, _then_, number, headerSize, lengthOf, payloadOf, whole, recordAt, splitFrom, split}
+use Rattle.trace.specs.Play.{Result, refuses, gives, onResult, Machine, Ending, stopped, done, onEnding, Played, played, playEvents, playRecord, playFrom, play}
 use Rattle.trace.proofs.Further.{traceFurther, further, split-further, play-further}
 
 -- whole records have nothing cut behind them
@@ -103,11 +103,11 @@ pub record Sound {S E : Type 0} (machine : Machine S E) : Type 0 where
 
 module _ {S E : Type 0} (machine : Machine S E) (sound : Sound machine) where
   -- what a record stops with is no 0
-  abbrev Stops : Ended S → Type 0
+  abbrev Stops : Ending S → Type 0
   Stops (stopped number offset s) = number ≡ taken → ⊥
   Stops (done s) = Unit {0}
 
-  stops : {A : Type 0} (result : Result A) (go : A → Ended S) (offset : ℕ) (s : S) → ((number : ℕ) → result ≡ refuses number → number ≡ taken → ⊥) → ((a : A) → Stops (go a)) → Stops (onResult result (λ number. stopped number offset s) go)
+  stops : {A : Type 0} (result : Result A) (go : A → Ending S) (offset : ℕ) (s : S) → ((number : ℕ) → result ≡ refuses number → number ≡ taken → ⊥) → ((a : A) → Stops (go a)) → Stops (onResult result (λ number. stopped number offset s) go)
   stops (refuses number) go offset s p q = p number refl
   stops (gives a) go offset s p q = q a
 
@@ -126,9 +126,9 @@ module _ {S E : Type 0} (machine : Machine S E) (sound : Sound machine) where
     offset : p .offset ≡ endOf trace
     more : (others : Trace) → joined others ≡ playFrom machine others (p .count) (p .state)
 
-  then-whole : (ending : Ended S) → Stops ending → (r : Record) (rest : Trace) (count : ℕ) → onEnded ending (λ n o t. played n o count t) (λ t. playFrom machine rest (count + 1) t) .number ≡ taken
+  then-whole : (ending : Ending S) → Stops ending → (r : Record) (rest : Trace) (count : ℕ) → onEnding ending (λ n o t. played n o count t) (λ t. playFrom machine rest (count + 1) t) .number ≡ taken
       → ((t : S) → playFrom machine rest (count + 1) t .number ≡ taken → TakenWhole rest (playFrom machine rest (count + 1) t) (λ others. playFrom machine (onto rest others) (count + 1) t))
-      → TakenWhole (r then rest) (onEnded ending (λ n o t. played n o count t) (λ t. playFrom machine rest (count + 1) t)) (λ others. onEnded ending (λ n o t. played n o count t) (λ t. playFrom machine (onto rest others) (count + 1) t))
+      → TakenWhole (r then rest) (onEnding ending (λ n o t. played n o count t) (λ t. playFrom machine rest (count + 1) t)) (λ others. onEnding ending (λ n o t. played n o count t) (λ t. playFrom machine (onto rest others) (count + 1) t))
   then-whole (stopped number offset t) stop r rest count h later = absurd (stop h)
   then-whole (done t) stop r rest count h later =
       let w = later t h in

@@ -4,8 +4,8 @@ use mathlib.Core.Bool.{Bool, true, false, cond}
 use mathlib.Core.List.{List, [], _∷_}
 use Prim.Native.Nat.{ℕ, zero, suc, _+_, _<_}
 use lib.ListN.{take, drop}
-use Rattle.trace.specs.Records.{Record, Trace, ended, cut, _then_, headerSize, lengthOf, payloadOf, whole, recordAt, splitFrom}
-use Rattle.trace.specs.Play.{Result, refuses, gives, onResult, Machine, Ended, stopped, done, onEnded, Played, played, playEvents, playRecord, playFrom}
+use Rattle.trace.specs.Records.{Record, Trace, ended, cut, _then_, headerSize, lengthOf, whole, recordAt, splitFrom}
+use Rattle.trace.specs.Play.{Result, refuses, gives, onResult, Machine, Ending, stopped, done, onEnding, Played, played, playEvents, playRecord, playFrom}
 
 abbrev pub All : {A : Type 0} → (A → Type 0) → List A → Type 0
 All P [] = Unit {0}
@@ -48,12 +48,12 @@ abbrev pub Gives : {A : Type 0} → (A → Type 0) → Result A → Type 0
 Gives P (refuses number) = Unit {0}
 Gives P (gives a) = P a
 
-abbrev Leaves : {S : Type 0} → (S → Type 0) → Ended S → Type 0
+abbrev Leaves : {S : Type 0} → (S → Type 0) → Ending S → Type 0
 Leaves P (stopped number offset s) = P s
 Leaves P (done s) = P s
 
 module _ {S E : Type 0} (machine : Machine S E) (P : S → Type 0) (Q : E → Type 0) (brings : (kind : ℕ) (payload : List ℕ) → Bytes payload → Gives (All Q) (machine .events kind payload)) (keeps : (e : E) (s : S) → Q e → P s → Gives P (machine .step e s)) where
-  on-step : (result : Result S) (offset : ℕ) (s : S) (go : S → Ended S) → Gives P result → P s → ((t : S) → P t → Leaves P (go t)) → Leaves P (onResult result (λ number. stopped number offset s) go)
+  on-step : (result : Result S) (offset : ℕ) (s : S) (go : S → Ending S) → Gives P result → P s → ((t : S) → P t → Leaves P (go t)) → Leaves P (onResult result (λ number. stopped number offset s) go)
   on-step (refuses number) offset s go g h later = h
   on-step (gives t) offset s go g h later = later t g
 
@@ -62,7 +62,7 @@ module _ {S E : Type 0} (machine : Machine S E) (P : S → Type 0) (Q : E → Ty
   events-keep [] offset s q h = h
   events-keep (e ∷ rest) offset s q h = on-step (machine .step e s) offset s _ (keeps e s (q .0) h) h (λ t. events-keep rest (offset + 1) t (q .1))
 
-  on-header : (result : Result (List E)) (offset : ℕ) (s : S) (go : List E → Ended S) → Gives (All Q) result → P s → ((events : List E) → All Q events → Leaves P (go events)) → Leaves P (onResult result (λ number. stopped number offset s) go)
+  on-header : (result : Result (List E)) (offset : ℕ) (s : S) (go : List E → Ending S) → Gives (All Q) result → P s → ((events : List E) → All Q events → Leaves P (go events)) → Leaves P (onResult result (λ number. stopped number offset s) go)
   on-header (refuses number) offset s go g h later = h
   on-header (gives events) offset s go g h later = later events g
 
@@ -70,7 +70,7 @@ module _ {S E : Type 0} (machine : Machine S E) (P : S → Type 0) (Q : E → Ty
   unfolding playRecord
   record-keeps r s b h = on-header (machine .events (r .kind) (r .payload)) (r .place) s _ (brings (r .kind) (r .payload) b) h (λ events q. events-keep events (r .place + headerSize) s q h)
 
-  on-record : (ending : Ended S) (count : ℕ) (go : S → Played S) → Leaves P ending → ((t : S) → P t → P (go t .state)) → P (onEnded ending (λ n o t. played n o count t) go .state)
+  on-record : (ending : Ending S) (count : ℕ) (go : S → Played S) → Leaves P ending → ((t : S) → P t → P (go t .state)) → P (onEnding ending (λ n o t. played n o count t) go .state)
   on-record (stopped number offset t) count go h later = h
   on-record (done t) count go h later = later t h
 

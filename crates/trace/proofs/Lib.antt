@@ -13,5 +13,6 @@ pub mod Joined
 pub mod Sound
 pub mod Kept
 pub mod Stored
+pub mod Held
 pub mod Runs
 pub mod ByCalls

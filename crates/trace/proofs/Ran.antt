@@ -3,13 +3,12 @@
 use mathlib.Core.Path.{_≡_, sym, _∙_, ap}
 use mathlib.Core.List.{List}
 use Prim.Native.Nat.{ℕ}
-use Rattle.bus.specs.Machine.{Chip}
 use Rattle.bus.specs.Image.{asked, stored}
 use Rattle.bus.specs.declared.registers.Registers.{Registers}
 use Rattle.bus.specs.declared.image.Asked.{Asked}
 use Rattle.bus.specs.declared.image.Asked.the-variants.{Found, Refused}
 use Rattle.trace.specs.Records.{split}
-use Rattle.trace.specs.Play.{Played, play}
+use Rattle.trace.specs.Play.{play}
 use Rattle.trace.specs.Chip.{chipOf, theChip}
 use Rattle.trace.specs.Code.{playedOf}
 use Rattle.trace.specs.Run.{ran, stopOf, ranOf, runOn, run}

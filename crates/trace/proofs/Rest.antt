@@ -1,9 +1,9 @@
 -- The rest of a trace from an offset on, split and played, by what stands there.
 -- Assumes nothing.
-use mathlib.Core.Path.{_≡_, refl, sym, _∙_, ap}
-use mathlib.Core.Bool.{Bool, true, false, cond, _&&_, false≢true}
+use mathlib.Core.Path.{_≡_, refl, _∙_}
+use mathlib.Core.Bool.{Bool, true, false, cond, false≢true}
 use mathlib.Core.List.{List, [], _∷_}
-use Prim.Native.Nat.{ℕ, zero, suc, _+_, _≤_, _<_}
+use Prim.Native.Nat.{ℕ, zero, suc, _+_, _≤_}
 use native.Mathlib.Nat.{add-zero}
 use native.Mathlib.Omega.{arith}
 use borrow.Author.Tests.{eqb-true, eqb-false, leb-true}
@@ -12,11 +12,10 @@ use lib.ListN.{length, drop}
 use lib.Seq.{drop-drop}
 use Rattle.bus.specs.Numbers.{taken, headerCut}
 use Rattle.codes.proofs.Tests.{both}
-use Rattle.trace.specs.Records.{Record, Trace, ended, cut, _then_, headerSize, lengthOf, whole, recordAt, splitFrom}
+use Rattle.trace.specs.Records.{Trace, ended, cut, _then_, headerSize, lengthOf, whole, recordAt, splitFrom}
 use Rattle.trace.specs.Front.{frontOf}
-use Rattle.trace.specs.Play.{Machine, Ended, stopped, done, Played, played, playRecord, playFrom}
+use Rattle.trace.specs.Play.{Machine, stopped, done, played, playRecord, playFrom}
 use Rattle.trace.specs.declared.records.Header.{Header}
-use Rattle.trace.specs.declared.records.Front.{Front}
 use Rattle.trace.specs.declared.records.Front.the-variants.{Nothing, Cut, Whole}
 use Rattle.trace.proofs.Standing.{is-whole, its-length}
 

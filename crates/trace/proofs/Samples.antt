@@ -16,7 +16,6 @@ use Rattle.trace.specs.Records.{splitFrom, split}
 use Rattle.trace.specs.Play.{playEvents, playRecord, playFrom}
 use Rattle.trace.specs.Chip.{eventsOf, happened, compared, replay}
 use Rattle.trace.specs.Run.{Ran, ran, stopOf, ranOf, runOn, run}
-use Rattle.trace.specs.declared.run.Stop.{Stop}
 
 abbrev zeros : List ℕ
 zeros = replicate memorySize 0

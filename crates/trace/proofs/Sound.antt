@@ -37,11 +37,10 @@ use Rattle.bus.specs.Numbers.{taken}
 use Rattle.bus.specs.Events.{command, obeyed, supplied, access, write, read, resetPin}
 use Rattle.bus.specs.Machine.{Chip, Event, commandByte, dataWritten, dataRead, resetPulse, step}
 use Rattle.bus.specs.declared.registers.Registers.{Registers}
-use Rattle.bus.specs.declared.answer.After.{After}
 use Rattle.bus.specs.declared.answer.Answer.{Answer}
 use Rattle.bus.specs.declared.answer.Answer.the-variants.{Taken, Refused}
 use Rattle.trace.specs.Play.{Result, refuses, gives}
-use Rattle.trace.specs.Chip.{Recorded, event, readAs, chipOf, happened, compared, replay, eventsOf, theChip}
+use Rattle.trace.specs.Chip.{Recorded, event, readAs, happened, compared, replay, eventsOf, theChip}
 use Rattle.trace.proofs.Joined.{Sound}
 
 -- an answer is no refusal with 0

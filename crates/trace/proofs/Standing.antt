@@ -1,19 +1,18 @@
 -- What it says of a trace that a whole record with a header stands at an offset of it.
 -- Assumes nothing.
-use mathlib.Core.Path.{_≡_, refl, sym, _∙_, ap}
+use mathlib.Core.Path.{_≡_, refl, sym, ap}
 use mathlib.Core.Bool.{Bool, true, false, cond}
 use mathlib.Core.List.{List}
-use Prim.Native.Nat.{ℕ, _+_, _-_, _≤_, _<_}
+use Prim.Native.Nat.{ℕ, _+_, _≤_}
 use native.Mathlib.Omega.{arith}
 use borrow.Author.Tests.{leb-true}
 use lib.Dec.{eqb, leb}
 use lib.ListN.{length, take, drop, length-drop}
 use lib.Seq.{slice, drop-drop, drop-at, take-add, length-take-le}
 use Rattle.codes.proofs.Tests.{both}
-use Rattle.trace.specs.Records.{Record, number, headerSize, lengthOf, kindOf, payloadOf, whole, recordAt}
+use Rattle.trace.specs.Records.{headerSize, lengthOf, kindOf, payloadOf, whole, recordAt}
 use Rattle.trace.specs.Front.{frontOf}
 use Rattle.trace.specs.declared.records.Header.{Header}
-use Rattle.trace.specs.declared.records.Front.{Front}
 use Rattle.trace.specs.declared.records.Front.the-variants.{Nothing, Cut, Whole}
 
 chosen : (empty there : Bool) (found header : Header) → cond empty Nothing (cond there (Whole found) Cut) ≡ Whole header → (there ≡ true) × (found ≡ header)

@@ -1,19 +1,17 @@
 -- A lent state that legal registers were stored in: what it is asked, and what is stored in it again.
 -- Assumes nothing.
-use mathlib.Core.Path.{_≡_, refl, sym, _∙_, ap}
-use mathlib.Core.Bool.{Bool, true, false, cond, _||_, false≢true}
+use mathlib.Core.Path.{_≡_, refl, _∙_}
+use mathlib.Core.Bool.{Bool, true, false, cond}
 use mathlib.Core.List.{List, _++_}
 use Prim.Native.Nat.{ℕ, _≤_}
 use native.Mathlib.Omega.{arith}
 use borrow.Author.Tests.{le-ltb}
-use lib.Dec.{ltb, eqb}
 use lib.ListN.{length, drop}
 use Rattle.bus.specs.Sizes.{imageSize, memorySize}
 use Rattle.bus.specs.Numbers.{taken, tooShort, outOfRange}
 use Rattle.bus.specs.Registers.{largestValues, imageOf, registersOf}
 use Rattle.bus.specs.Image.{within, legal, short, asked, stored}
 use Rattle.bus.specs.declared.registers.Registers.{Registers}
-use Rattle.bus.specs.declared.image.Asked.{Asked}
 use Rattle.bus.specs.declared.image.Asked.the-variants.{Found, Refused}
 use Rattle.bus.proofs.Legal.{long}
 use Rattle.bus.proofs.Kept.{LegalRegisters, facts-legal}

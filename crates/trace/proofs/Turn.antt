@@ -1,15 +1,15 @@
 -- One event more of a record's payload, over any machine.
 -- Assumes nothing.
-use mathlib.Core.Path.{_≡_, refl, _∙_, ap}
+use mathlib.Core.Path.{_≡_, _∙_}
 use mathlib.Core.List.{List, [], _∷_, map}
-use Prim.Native.Nat.{ℕ, suc, _+_, _≤_, _<_}
+use Prim.Native.Nat.{ℕ, _+_, _≤_, _<_}
 use native.Mathlib.Numerals.{add-one}
 use lib.ListN.{length, getD}
 use lib.Seq.{slice, slice-empty, slice-cons}
-use Rattle.trace.specs.Play.{Result, refuses, gives, onResult, Machine, Ended, stopped, done, playEvents}
+use Rattle.trace.specs.Play.{refuses, gives, onResult, Machine, Ending, stopped, done, playEvents}
 
 -- the events of the bytes from one offset of a trace to another
-abbrev pub playBytes : {S E : Type 0} → Machine S E → (ℕ → E) → List ℕ → ℕ → ℕ → S → Ended S
+abbrev pub playBytes : {S E : Type 0} → Machine S E → (ℕ → E) → List ℕ → ℕ → ℕ → S → Ending S
 playBytes machine means trace at to s = playEvents machine (map means (slice at to trace)) at s
 
 module _ {S E : Type 0} (machine : Machine S E) (means : ℕ → E) (trace : List ℕ) where

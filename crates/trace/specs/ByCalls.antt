@@ -1,6 +1,6 @@
 -- A trace's events by the bus's own event calls, one after the other, on the lent state and memory.
 use Prim.Native.Nat.{ℕ}
-use mathlib.Core.Bool.{Bool, cond, not, _&&_, _||_}
+use mathlib.Core.Bool.{cond, not, _&&_, _||_}
 use mathlib.Core.List.{List, [], _∷_}
 use lib.Dec.{eqb}
 use Rattle.bus.specs.Numbers.{taken, readDiffers}

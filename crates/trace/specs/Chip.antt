@@ -1,11 +1,11 @@
 -- The chip as a machine that plays traces: the kinds of records, and the events that their payloads stand for.
 use Prim.Native.Nat.{ℕ}
-use mathlib.Core.Bool.{Bool, cond, _||_, _&&_}
+use mathlib.Core.Bool.{cond, _||_, _&&_}
 use mathlib.Core.List.{List, [], _∷_, map}
 use lib.Dec.{eqb}
 use lib.ListN.{length}
 use Rattle.bus.specs.Numbers.{kindUnknown, readDiffers}
-use Rattle.bus.specs.Machine.{Chip, Event, commandByte, dataWritten, dataRead, resetPulse, Outcome, step}
+use Rattle.bus.specs.Machine.{Chip, Event, commandByte, dataWritten, dataRead, resetPulse, step}
 use Rattle.bus.specs.declared.registers.Registers.{Registers}
 use Rattle.bus.specs.declared.answer.Answer.{Answer}
 use Rattle.bus.specs.declared.answer.Answer.the-variants.{Taken, Refused}

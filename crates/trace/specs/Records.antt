@@ -44,7 +44,7 @@ whole bytes = leb headerSize (length bytes) && leb (headerSize + lengthOf bytes)
 abbrev pub recordAt : ℕ → List ℕ → Record
 recordAt offset bytes = record { kind = kindOf bytes; payload = payloadOf bytes; place = offset }
 
--- The bytes from an offset on, the first `left` of which belong to the record before.
+-- The bytes from an offset on, the first `left` of which belong to the record before. Of a record's own bytes three of its header and its payload follow the first.
 unfoldable pub splitFrom : ℕ → ℕ → List ℕ → Trace
 splitFrom left offset [] = ended offset
 splitFrom (suc left) offset (byte ∷ bytes) = splitFrom left (offset + 1) bytes

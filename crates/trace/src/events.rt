@@ -10,7 +10,7 @@ ghost use Rattle.bus.specs.Events.{numberOf};
 ghost use Rattle.bus.specs.Machine.{resetPulse};
 ghost use Rattle.trace.specs.Play.{playEvents};
 ghost use Rattle.trace.specs.Chip.{event, command, write, readAs, theChip, chipOf};
-ghost use Rattle.trace.specs.Code.{endedOf};
+ghost use Rattle.trace.specs.Code.{endingOf};
 use bus::answer::After;
 use bus::answer::Answer;
 use bus::refusal::READ_DIFFERS;
@@ -33,7 +33,7 @@ pub enum Progress {
 // The command bytes from one offset of the trace to another.
 pub fn commands(mut registers: Registers, trace: &[u8], from: usize, to: usize) -> Progress
     requires { ⌜ (from ≤ to) × (to ≤ length (now trace)) ⌝ }
-    ensures { λ r. ⌜ ((memory : List ℕ) → endedOf r memory ≡ playEvents theChip (map command (slice from to (now (trace .entry)))) from (chipOf registers memory)) ⌝ }
+    ensures { λ r. ⌜ ((memory : List ℕ) → endingOf r memory ≡ playEvents theChip (map command (slice from to (now (trace .entry)))) from (chipOf registers memory)) ⌝ }
 {
     let mut at = from;
     while at < to {
@@ -56,7 +56,7 @@ pub fn writes(
     to: usize,
 ) -> Progress
     requires { ⌜ (from ≤ to) × (to ≤ length (now trace)) ⌝ }
-    ensures { λ r. ⌜ endedOf r (now (memory .exit)) ≡ playEvents theChip (map write (slice from to (now (trace .entry)))) from (chipOf registers (now (memory .entry))) ⌝ }
+    ensures { λ r. ⌜ endingOf r (now (memory .exit)) ≡ playEvents theChip (map write (slice from to (now (trace .entry)))) from (chipOf registers (now (memory .entry))) ⌝ }
 {
     let mut at = from;
     while at < to {
@@ -79,7 +79,7 @@ pub fn reads(
     to: usize,
 ) -> Progress
     requires { ⌜ (from ≤ to) × (to ≤ length (now trace)) ⌝ }
-    ensures { λ r. ⌜ endedOf r (now (memory .entry)) ≡ playEvents theChip (map readAs (slice from to (now (trace .entry)))) from (chipOf registers (now (memory .entry))) ⌝ }
+    ensures { λ r. ⌜ endingOf r (now (memory .entry)) ≡ playEvents theChip (map readAs (slice from to (now (trace .entry)))) from (chipOf registers (now (memory .entry))) ⌝ }
 {
     let mut at = from;
     while at < to {
@@ -87,8 +87,9 @@ pub fn reads(
         let Answer::Taken(after) = answer else {
             return stopped(answer, at, registers);
         };
+        let left = after.registers;
         if agrees(after, trace[at]) {
-            registers = after.registers;
+            registers = left;
             at += 1;
         } else {
             return Progress::Stopped(Halt {
@@ -103,7 +104,7 @@ pub fn reads(
 
 // A pulse on the reset pin, by the record whose payload would begin at an offset.
 pub fn reset_pin(registers: Registers, from: usize) -> Progress
-    ensures { λ r. ⌜ ((memory : List ℕ) → endedOf r memory ≡ playEvents theChip (event resetPulse ∷ []) from (chipOf registers memory)) ⌝ }
+    ensures { λ r. ⌜ ((memory : List ℕ) → endingOf r memory ≡ playEvents theChip (event resetPulse ∷ []) from (chipOf registers memory)) ⌝ }
 {
     let answer = registers.reset_pin();
     let Answer::Taken(after) = answer else {
@@ -117,10 +118,11 @@ pub fn reset_pin(registers: Registers, from: usize) -> Progress
 fn agrees(after: After, byte: u8) -> bool
     ensures { λ r. ⌜ r ≡ (after .dummy || eqb (after .byte) byte) ⌝ }
 {
+    let read = after.byte;
     if after.dummy {
         return true;
     }
-    after.byte == byte
+    read == byte
 }
 
 // An event that was refused: a refusal has the number of its answer.

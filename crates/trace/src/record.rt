@@ -6,9 +6,9 @@ ghost use lib.ListN.{drop};
 ghost use Rattle.bus.specs.Numbers.{kindUnknown};
 ghost use Rattle.trace.specs.Records.{recordAt};
 ghost use Rattle.trace.specs.Front.{frontOf};
-ghost use Rattle.trace.specs.Play.{Ended, playRecord};
+ghost use Rattle.trace.specs.Play.{Ending, playRecord};
 ghost use Rattle.trace.specs.Chip.{theChip, chipOf};
-ghost use Rattle.trace.specs.Code.{endedOf};
+ghost use Rattle.trace.specs.Code.{endingOf};
 use crate::events::Halt;
 use crate::events::Progress;
 use crate::events::commands;
@@ -29,7 +29,7 @@ pub fn obey(
     at: usize,
 ) -> Progress
     requires { ⌜ frontOf (drop at (now trace)) ≡ Front.Whole header ⌝ }
-    ensures { λ r. ⌜ endedOf r (now (memory .exit)) ≡ playRecord theChip (recordAt at (drop at (now (trace .entry)))) (chipOf registers (now (memory .entry))) ⌝ }
+    ensures { λ r. ⌜ endingOf r (now (memory .exit)) ≡ playRecord theChip (recordAt at (drop at (now (trace .entry)))) (chipOf registers (now (memory .entry))) ⌝ }
 {
     let kind = header.kind;
     let length = header.length;
@@ -51,7 +51,7 @@ pub fn obey(
 
 // A record of no known kind, refused at its first byte.
 fn unknown(at: usize, registers: Registers) -> Progress
-    ensures { λ r. ⌜ ((memory : List ℕ) → endedOf r memory ≡ Ended.stopped kindUnknown at (chipOf registers memory)) ⌝ }
+    ensures { λ r. ⌜ ((memory : List ℕ) → endingOf r memory ≡ Ending.stopped kindUnknown at (chipOf registers memory)) ⌝ }
 {
     Progress::Stopped(Halt {
         number: KIND_UNKNOWN,

@@ -30,11 +30,11 @@ pub fn front_at(trace: &[u8], at: usize) -> Front
         return Front::Cut;
     }
     let length = number_at(trace, at);
-    if left - 4 < length {
-        return Front::Cut;
-    }
     let kind = number_at(trace, at + 2);
-    Front::Whole(Header { kind, length })
+    if length <= left - 4 {
+        return Front::Whole(Header { kind, length });
+    }
+    Front::Cut
 }
 
 // The number of two bytes at an offset, little-endian.

@@ -3,8 +3,7 @@
 use Rattle.trace.proofs.events.reads.Statement.{statement}
 use Rattle.trace.proofs.events.reads.Tie as tie
 use mathlib.Core.Path.{_≡_, refl, sym, _∙_}
-use mathlib.Core.List.{List}
-use Prim.Native.Nat.{ℕ, _≤_, _-_}
+use Prim.Native.Nat.{_≤_, _-_}
 use native.Mathlib.Omega.{arith}
 use borrow.Author.Needs.{needs}
 use denote.Ref.{now}
@@ -12,7 +11,7 @@ use lib.ListN.{length}
 use Rattle.bus.specs.Events.{numberOf}
 use Rattle.bus.specs.Machine.{step}
 use Rattle.trace.specs.Chip.{readAs, theChip, chipOf}
-use Rattle.trace.specs.Code.{endedOf}
+use Rattle.trace.specs.Code.{endingOf}
 use Rattle.trace.proofs.Replayed.{read-agrees, read-differs, read-refused}
 use Rattle.trace.proofs.Turn.{playBytes, none-left, turn-refused, turn-given}
 
@@ -38,7 +37,7 @@ stopped-requires : tie.Need-stopped-requires Inv-loop μ-loop
 stopped-requires c κs = search needs
 
 returns : tie.Need-returns Inv-loop μ-loop
-unfolding step endedOf numberOf
+unfolding step endingOf numberOf
 returns c =
     let d = c .before .before .before in
     let loop = d .before .before .loop in
@@ -64,18 +63,18 @@ loop-again c =
     let d = c .before .before .before .before .before .before .before in
     let loop = d .before .before .loop in
     let args = d .before .before .before .before .before .args in
-    (omega arith, omega arith, loop .inv .2 ∙ turn-given theChip readAs (now (args .trace)) (loop .at) (args .to) _ _ (omega arith) (omega arith) (read-agrees _ _ _ (d .read .ensures) (c .before .before .before .before .before .answer .given .1) (sym (c .before .before .agrees .ensures) ∙ c .before .if1 .taken)))
+    (omega arith, omega arith, loop .inv .2 ∙ turn-given theChip readAs (now (args .trace)) (loop .at) (args .to) _ _ (omega arith) (omega arith) (read-agrees _ _ _ (d .read .ensures) (c .before .before .before .before .before .answer .given .1) (sym (c .before .agrees .ensures) ∙ c .if1 .taken)))
 
 returns-2 : tie.Need-returns-2 Inv-loop μ-loop
-unfolding step endedOf
+unfolding step endingOf
 returns-2 c =
-    let d = c .before .before .before .before .before .before in
+    let d = c .before .before .before .before .before .before .before in
     let loop = d .before .before .loop in
     let args = d .before .before .before .before .before .args in
-    sym (loop .inv .2 ∙ turn-refused theChip readAs (now (args .trace)) (loop .at) (args .to) _ _ (omega arith) (omega arith) (read-differs _ _ _ (d .read .ensures) (c .before .before .before .before .answer .given .1) (sym (c .before .agrees .ensures) ∙ c .if1 .left)))
+    sym (loop .inv .2 ∙ turn-refused theChip readAs (now (args .trace)) (loop .at) (args .to) _ _ (omega arith) (omega arith) (read-differs _ _ _ (d .read .ensures) (c .before .before .before .before .before .answer .given .1) (sym (c .before .agrees .ensures) ∙ c .if1 .left)))
 
 returns-3 : tie.Need-returns-3 Inv-loop μ-loop
-unfolding endedOf
+unfolding endingOf
 returns-3 c =
     let loop = c .before .loop in
     let args = c .before .before .before .before .args in

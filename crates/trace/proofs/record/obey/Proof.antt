@@ -1,16 +1,10 @@
 use borrow.Author.Needs.{needs}
 use Rattle.trace.proofs.record.obey.Statement.{statement}
 use Rattle.trace.proofs.record.obey.Tie as tie
-use mathlib.Core.Path.{_≡_, sym, _∙_, ap}
-use Prim.Native.Nat.{_+_}
+use mathlib.Core.Path.{sym, _∙_}
 use native.Mathlib.Omega.{arith}
 use denote.Ref.{now}
-use lib.ListN.{length, drop}
-use lib.Seq.{slice, length-slice}
-use Rattle.trace.specs.Records.{Record, headerSize, recordAt}
-use Rattle.trace.specs.Play.{playRecord}
-use Rattle.trace.specs.Chip.{theChip, chipOf}
-use Rattle.trace.proofs.Standing.{within-trace, the-record}
+use Rattle.trace.proofs.Standing.{within-trace}
 use Rattle.trace.proofs.ByKind.{kind-1, kind-2, kind-3, kind-4, kind-4-loaded, kind-unknown}
 
 -- `trace::record::obey` meets its contract: the record that stands there, by its kind.

@@ -3,10 +3,10 @@
 use Rattle.trace.proofs.record.unknown.Statement.{statement}
 use Rattle.trace.proofs.record.unknown.Tie as tie
 use mathlib.Core.Path.{refl}
-use Rattle.trace.specs.Code.{endedOf}
+use Rattle.trace.specs.Code.{endingOf}
 
 returns : tie.Need-returns
-unfolding endedOf
+unfolding endingOf
 returns c = λ memory. refl
 
 pub unknown-spec : {M : Type 1} → statement M

@@ -13,7 +13,7 @@ use Rattle.trace.specs.Front.{frontOf}
 use Rattle.trace.specs.declared.records.Front.the-variants.{Whole}
 use Rattle.trace.specs.Play.{play, playFrom}
 use Rattle.trace.specs.Chip.{theChip, chipOf}
-use Rattle.trace.specs.Code.{endedOf, playedOf}
+use Rattle.trace.specs.Code.{endingOf, playedOf}
 use Rattle.trace.proofs.Standing.{within-trace}
 use Rattle.trace.proofs.Rest.{rest, plays-nothing, plays-cut, plays-on, plays-stop}
 
@@ -93,15 +93,15 @@ loop-less : tie.Need-loop-less Inv-loop μ-loop
 loop-less c = omega (arith, fits (c .before .before .before .before .before .before .before .before))
 
 loop-again : tie.Need-loop-again Inv-loop μ-loop
-unfolding endedOf
+unfolding endingOf
 loop-again c =
     let d = c .before .before .before .before .before .before .before .before in
     let loop = d .before .before .before .before .loop in
     let obeyed = c .before .before .before .before .before .before .obey in (
-      fits d,
+      omega (arith, fits d),
       omega (arith, fits d),
       obeyed .kept .1 .1 .0 ∙ loop .inv .2,
-      loop .inv .3 ∙ plays-on (now (d .before .before .before .before .before .before .before .args .trace)) (loop .at) theChip (loop .count) _ _ (standing d) _ (sym (obeyed .ensures) ∙ ap (λ progress. endedOf progress (obeyed .last .1 .1 .0)) (c .before .before .left .given .1)),
+      loop .inv .3 ∙ plays-on (now (d .before .before .before .before .before .before .before .args .trace)) (loop .at) theChip (loop .count) _ _ (standing d) _ (sym (obeyed .ensures) ∙ ap (λ progress. endingOf progress (obeyed .last .1 .1 .0)) (c .before .before .left .given .1)),
     )
 
 enum-known-halt : tie.Need-enum-known-halt Inv-loop μ-loop
@@ -114,13 +114,13 @@ same-length-3 : tie.Need-same-length-3 Inv-loop μ-loop
 same-length-3 c = c .before .before .before .before .before .before .before .obey .kept .1 .1 .0 ∙ c .before .before .before .before .before .before .before .before .before .before .before .before .before .loop .inv .2
 
 returns-3 : tie.Need-returns-3 Inv-loop μ-loop
-unfolding endedOf playedOf
+unfolding endingOf playedOf
 returns-3 c =
     let d = c .before .before .before .before .before .before .before .before .before in
     let loop = d .before .before .before .before .loop in
     let obeyed = c .before .before .before .before .before .before .before .obey in
     rw (c .end3 .ensures)
-    (sym (loop .inv .3 ∙ plays-stop (now (d .before .before .before .before .before .before .before .args .trace)) (loop .at) theChip (loop .count) _ _ (standing d) _ _ _ (sym (obeyed .ensures) ∙ ap (λ progress. endedOf progress (obeyed .last .1 .1 .0)) (c .before .before .before .halt .given .1))))
+    (sym (loop .inv .3 ∙ plays-stop (now (d .before .before .before .before .before .before .before .args .trace)) (loop .at) theChip (loop .count) _ _ (standing d) _ _ _ (sym (obeyed .ensures) ∙ ap (λ progress. endingOf progress (obeyed .last .1 .1 .0)) (c .before .before .before .halt .given .1))))
 
 pub play-spec : {M : Type 1} → statement M
 play-spec =
