@@ -10,6 +10,7 @@
 MODEL  ?= proved
 SEED   ?= 1
 TIMES  ?= 1
+TRACE  ?= traces/screens/weighing.trace
 
 ifeq ($(shell uname -m),x86_64)
   NATIVE := yes
@@ -49,14 +50,18 @@ SAMPLES  := $(OUT)/samples
 HEADER   := $(OUT)/header
 BENCH    := $(OUT)/bench/bench
 
-.PHONY: tool test compare calls check-tool check-traces sanitize mutants \
+.PHONY: tool show test compare calls check-tool check-traces sanitize mutants \
         bench instructions traces oracle cross clean help
 .DELETE_ON_ERROR:
 
 tool: $(TOOL)
 
+show: $(TOOL)
+	@$(RUN) $(TOOL) show $(TRACE)
+
 help:
 	@echo 'make               the tool: $(TOOL)'
+	@echo 'make show          a screen: TRACE=FILE for another trace'
 	@echo 'make test          all tests of the C side'
 	@echo 'make compare       the library beside the oracle; SEED=2 TIMES=10 for more'
 	@echo 'make sanitize      the same tests with address and undefined-behaviour checks'
@@ -124,7 +129,9 @@ clean:
 # ---- how things are built ----
 
 $(LIBRARY): crates.txt $(wildcard crates/*/src/*.rt)
-	rt staticlib host
+	@mkdir -p target
+	@echo 'rt staticlib host'
+	@rt staticlib host > target/staticlib.log 2>&1 || { cat target/staticlib.log; exit 1; }
 
 $(TOOL): $(call objects,host/tool/*.c) $(LINKED)
 $(COMPARE): $(call objects,host/compare/*.c) $(LINKED) \
