@@ -88,9 +88,10 @@ fn within(image: &[u8]) -> bool
     requires { ⌜ 23 ≤ length (now image) ⌝ }
     ensures { λ r. ⌜ r ≡ within largestValues (now (image .entry)) ⌝ }
 {
+    let largest = LARGEST;
     let mut i = 0;
     while i < 23 {
-        if LARGEST[i] < image[i] {
+        if largest[i] < image[i] {
             return false;
         }
         i += 1;

@@ -1,12 +1,15 @@
 -- The listing program's job: the listing of what a trace leaves on the glass, from power-on with zero memory.
 use Prim.Native.Nat.{ℕ}
-use mathlib.Core.List.{List}
-use lib.ListN.{replicate}
+use mathlib.Core.Bool.{cond}
+use mathlib.Core.List.{List, _++_}
+use lib.Dec.{ltb}
+use lib.ListN.{length, drop, replicate}
 use Rattle.bus.specs.Sizes.{memorySize}
 use Rattle.bus.specs.Registers.{powerOn, imageOf}
 use Rattle.trace.specs.Run.{Ran, run}
 use Rattle.picture.specs.Sizes.{frameSize}
 use Rattle.picture.specs.Draw.{draw}
+use Rattle.listing.specs.Sizes.{longestListing}
 use Rattle.listing.specs.Text.{listingOf}
 
 -- The trace run from power-on with zero memory.
@@ -20,3 +23,17 @@ frameAfter ran = draw (ran .state) (ran .memory) (replicate frameSize 0) .frame
 -- The listing of a trace.
 unfoldable pub listingOfTrace : List ℕ → List ℕ
 listingOfTrace trace = let ran = ranFromPowerOn trace in listingOf (ran .stop .number) (ran .stop .offset) (frameAfter ran)
+
+-- The length that the job answers, and the buffer that it leaves.
+pub record Printed : Type 0 where
+  pub size : ℕ
+  pub text : List ℕ
+
+abbrev pub printed : ℕ → List ℕ → Printed
+printed answer later = record { size = answer; text = later }
+
+-- The listing at the start of the buffer, the bytes past it as they were; nothing in a buffer that is too short for some listing.
+unfoldable pub printedOf : List ℕ → List ℕ → Printed
+printedOf trace text =
+    cond (ltb (length text) longestListing) (printed 0 text)
+    (printed (length (listingOfTrace trace)) (listingOfTrace trace ++ drop (length (listingOfTrace trace)) text))

@@ -4,6 +4,7 @@ mod job;
 use job::list_trace;
 use libc::STDIN_FILENO;
 use libc::STDOUT_FILENO;
+use listing::LONGEST_LISTING;
 
 fn main() {
     let mut input = [0u8; 65537];
@@ -12,7 +13,7 @@ fn main() {
         io::write_all(STDOUT_FILENO, b"input too long\n");
         return;
     }
-    let mut text = [0u8; 27408];
+    let mut text = [0u8; LONGEST_LISTING];
     let length = list_trace(&input[..count], &mut text);
     io::write_all(STDOUT_FILENO, &text[..length]);
 }

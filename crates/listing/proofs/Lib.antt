@@ -1,8 +1,10 @@
 pub mod Pieces
 pub mod Decimals
+pub mod Digits
 pub mod Walk
-pub mod Exact
+pub mod LongestRuns
+pub mod Telling
 pub mod Lengths
-pub mod Longest
+pub mod Bound
 pub mod Outcomes
 pub mod Samples

@@ -1,16 +1,20 @@
 -- How the call ends, by the lengths of what is lent.
 -- Assumes nothing.
 use Prim.Native.Nat.{ℕ, _≤_, _<_, _^_}
-use mathlib.Core.Path.{_≡_}
+use mathlib.Core.Path.{_≡_, refl, sym, _∙_, ap}
+use mathlib.Core.Bool.{Bool, true, false, cond, _||_}
 use mathlib.Core.List.{List}
 use native.Mathlib.Omega.{arith}
 use borrow.Author.Tests.{lt-ltb, le-ltb}
-use lib.ListN.{length}
-use Rattle.listing.specs.Sizes.{frameSize, longest}
+use lib.Dec.{ltb}
+use lib.ListN.{length, drop}
+use lib.Seq.{drop-append-seam}
+use Rattle.listing.specs.Sizes.{frameSize, longestListing}
 use Rattle.listing.specs.Text.{listingOf}
-use Rattle.listing.specs.Listing.{outcome, tooShort, written, listed}
+use Rattle.listing.specs.Listing.{Outcome, outcome, tooShort, written, listed}
+use Rattle.listing.specs.declared.Listed.{Listed}
 use Rattle.listing.specs.declared.Listed.the-variants.{Refused}
-use Rattle.listing.proofs.Longest.{at-most}
+use Rattle.listing.proofs.Bound.{at-most}
 
 module _ (number offset : ℕ) (frame text : List ℕ) where
   pub frame-short : length frame < frameSize → listed number offset frame text ≡ outcome (Refused tooShort) text
@@ -25,6 +29,22 @@ module _ (number offset : ℕ) (frame text : List ℕ) where
   unfolding listed
   both-long h k = rw (le-ltb (length frame) frameSize h, le-ltb (length text) (length (listingOf number offset frame)) k)
 
+  -- no byte past the text changes, and none at all where the call is refused
+  pub past : drop (length (listingOf number offset frame)) (listed number offset frame text .text) ≡ drop (length (listingOf number offset frame)) text
+  unfolding listed written
+  past = by (ltb (length frame) frameSize || ltb (length text) (length (listingOf number offset frame)))
+    where
+      whole : List ℕ
+      whole = listingOf number offset frame
+
+      by : (t : Bool) → drop (length whole) (cond t (outcome (Refused tooShort) text) (written whole text) .text) ≡ drop (length whole) text
+      by true = refl
+      by false = drop-append-seam whole (drop (length whole) text)
+
   -- a buffer of 27,408 bytes is enough for any frame, number and offset
-  pub always-enough : number < 256 → offset < 2 ^ 64 → frameSize ≤ length frame → longest ≤ length text → listed number offset frame text ≡ written (listingOf number offset frame) text
+  pub always-enough : number < 256 → offset < 2 ^ 64 → frameSize ≤ length frame → longestListing ≤ length text → listed number offset frame text ≡ written (listingOf number offset frame) text
   always-enough n o h k = both-long h (omega (arith, at-most number offset frame n o, k))
+
+-- Two results that satisfy the call's statement are equal.
+pub same-outcome : {stated : Outcome} (r s : Listed) (text text′ : List ℕ) → outcome r text ≡ stated → outcome s text′ ≡ stated → (r ≡ s) × (text ≡ text′)
+same-outcome r s text text′ p q = let e = p ∙ sym q in (ap (λ o. o .answer) e, ap (λ o. o .text) e)

@@ -1,8 +1,8 @@
 -- A row walked from left to right: what the place under the walk says of the lit places and runs from there on.
 -- Assumes nothing.
 use Prim.Native.Nat.{ℕ, zero, suc, _+_, _-_, _≤_, _<_}
-use mathlib.Core.Path.{_≡_, refl, sym, _∙_, ap}
-use mathlib.Core.Bool.{true, false, _||_}
+use mathlib.Core.Path.{_≡_, refl, _∙_}
+use mathlib.Core.Bool.{true, false}
 use mathlib.Core.List.{List, [], _∷_, _++_}
 use native.Mathlib.Nat.{add-zero, add-suc, suc-add}
 use native.Mathlib.Numerals.{add-one}
@@ -10,13 +10,14 @@ use native.Mathlib.Omega.{arith}
 use lib.ListN.{length, getD, drop, length-drop, drop-of-length-le}
 use lib.Seq.{drop-drop}
 use Rattle.listing.proofs.Pieces.{from}
-use Rattle.listing.specs.Runs.{Run, lit, anyLit, leading, runsFrom}
+use Rattle.listing.specs.Runs.{lit, anyLit, leading, runsFrom}
 use Rattle.listing.specs.Text.{runText, runsText}
 
 -- a number that is not 0 is a successor
 above : (b : ℕ) → (b ≡ 0 → ⊥) → b ≡ suc (b - 1)
 above b n = omega (arith, n)
 
+-- Is a place lit from x on? Here it is, or the places after x decide, or there is none.
 pub any-here : (row : List ℕ) (x : ℕ) → x < length row → (getD row x 0 ≡ 0 → ⊥) → anyLit (drop x row) ≡ true
 unfolding anyLit lit
 any-here row x h n = rw (from row x h, above _ n)
@@ -29,6 +30,7 @@ pub any-end : (row : List ℕ) (x : ℕ) → length row ≤ x → anyLit (drop x
 unfolding anyLit
 any-end row x h = rw (drop-of-length-le row h)
 
+-- The lit places from x on: none where x is dark, one more than after it where it is lit, none at the end.
 pub leading-here : (row : List ℕ) (x : ℕ) → x < length row → getD row x 0 ≡ 0 → leading (drop x row) ≡ 0
 unfolding leading
 leading-here row x h e = rw (from row x h, e)
@@ -62,6 +64,7 @@ gap x [] = refl
 gap x (zero ∷ row) = refl
 gap x (suc b ∷ row) = gap (suc x) row
 
+-- The runs from x on: those after it where x is dark, the one that begins here where it is lit, none at the end.
 pub runs-on : (row : List ℕ) (x : ℕ) → x < length row → getD row x 0 ≡ 0 → runsFrom x 0 (drop x row) ≡ runsFrom (x + 1) 0 (drop (x + 1) row)
 unfolding runsFrom
 runs-on row x h e = rw (from row x h, e, add-one x)

@@ -14,5 +14,5 @@ abbrev pub frameSize : ℕ
 frameSize = rows * width
 
 -- bytes of the longest listing: a buffer of that length is enough for any
-abbrev pub longest : ℕ
-longest = 27408
+abbrev pub longestListing : ℕ
+longestListing = 27408

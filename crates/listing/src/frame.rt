@@ -15,10 +15,10 @@ pub fn put_listing(text: &mut [u8], number: u8, offset: usize, frame: &[u8]) -> 
     requires { ⌜ Countable 0 (listingOf number offset (now frame)) ⌝ }
     ensures { λ r. ⌜ Put (now (text .entry)) 0 (listingOf number offset (now (frame .entry))) r (now (text .exit)) ⌝ }
 {
-    let a = put_refused(text, 0, number, offset);
-    let b = put_bytes(text, a, b"frame 132 65\n");
-    let c = put_lines(text, b, frame);
-    put_bytes(text, c, b"end\n")
+    let next = put_refused(text, 0, number, offset);
+    let next = put_bytes(text, next, b"frame 132 65\n");
+    let next = put_lines(text, next, frame);
+    put_bytes(text, next, b"end\n")
 }
 
 // Puts what a stopped run first prints; a run that was taken prints nothing.
@@ -29,11 +29,11 @@ fn put_refused(text: &mut [u8], at: usize, number: u8, offset: usize) -> usize
     if number == 0 {
         return at;
     }
-    let a = put_bytes(text, at, b"refused ");
-    let b = put_number(text, a, number as usize);
-    let c = put_bytes(text, b, b" at ");
-    let d = put_number(text, c, offset);
-    put(text, d, b'\n')
+    let next = put_bytes(text, at, b"refused ");
+    let next = put_number(text, next, number as usize);
+    let next = put_bytes(text, next, b" at ");
+    let next = put_number(text, next, offset);
+    put(text, next, b'\n')
 }
 
 // Puts the lines of the 65 rows.

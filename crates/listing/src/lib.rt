@@ -15,6 +15,8 @@ pub enum Listed {
 
 // A lent frame or buffer is too short.
 pub const TOO_SHORT: u8 = 1;
+// Bytes of the longest listing: a buffer of that length is enough for any.
+pub const LONGEST_LISTING: usize = 27408;
 
 // Lists a frame into a lent buffer, after a stopped run's number and offset; number 0 is taken, and says nothing of a run.
 pub fn list(number: u8, offset: usize, frame: &[u8], text: &mut [u8]) -> Listed

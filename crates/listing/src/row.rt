@@ -14,9 +14,9 @@ pub fn put_line(text: &mut [u8], at: usize, p: usize, row: &[u8]) -> usize
     ensures { λ r. ⌜ Put (now (text .entry)) at (line p (now (row .entry))) r (now (text .exit)) ⌝ }
 {
     if any_lit(row) {
-        let first = put_number(text, at, p);
-        let last = put_runs(text, first, row);
-        return put(text, last, b'\n');
+        let next = put_number(text, at, p);
+        let next = put_runs(text, next, row);
+        return put(text, next, b'\n');
     }
     at
 }
@@ -74,8 +74,8 @@ fn put_run(text: &mut [u8], at: usize, first: usize, last: usize) -> usize
     requires { ⌜ Countable at (runText (record { first = first; last = last })) ⌝ }
     ensures { λ r. ⌜ Put (now (text .entry)) at (runText (record { first = first; last = last })) r (now (text .exit)) ⌝ }
 {
-    let a = put(text, at, b' ');
-    let b = put_number(text, a, first);
-    let c = put(text, b, b'-');
-    put_number(text, c, last)
+    let next = put(text, at, b' ');
+    let next = put_number(text, next, first);
+    let next = put(text, next, b'-');
+    put_number(text, next, last)
 }

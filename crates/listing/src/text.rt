@@ -1,6 +1,5 @@
 // Pieces of text put into a lent buffer. A place past its end takes no byte and is counted all the same, so that a text is measured by being put into an
 // empty buffer.
-ghost use Prim.Native.Nat.{_+_};
 ghost use mathlib.Core.List.{[], _∷_};
 ghost use Rattle.listing.specs.Put.{Countable, Put};
 ghost use Rattle.listing.specs.Decimal.{decimal};

@@ -3,30 +3,36 @@
 use mathlib.Core.Path.{_≡_, refl, sym, _∙_, ap, subst₂}
 use mathlib.Core.Logic.{_≢_}
 use mathlib.Core.Bool.{Bool, true, false, cond, false≢true}
-use mathlib.Core.List.{List}
+use mathlib.Core.List.{List, [], _∷_}
 use Prim.Native.Nat.{ℕ, zero, suc, _+_, _-_, _/_, _%_, _^_, _≤_, _<_}
 use native.Mathlib.Omega.{arith}
 use native.Mathlib.Nat.{mod-lt, le-of-eq, zero-div}
 use native.Mathlib.Decide.{ℕ-discrete, decLt}
-use lib.Dec.{ltb, eqb, eqb·suc-zero}
+use lib.Dec.{eqb, eqb·suc-zero}
 use borrow.Author.Tests.{lt-ltb, eq-eqb, ne-eqb}
 use lib.Bits.{bitXor, xor-zero-l}
 use lib.Pow.{pow-lt}
 use lib.ListN.{length, getD, set, replicate, length-set, length-replicate, getD-replicate, List·getD-eq-default}
 use lib.Seq.{getD-set-same, getD-set-other}
 use Rattle.bus.specs.Sizes.{width, memorySize}
+use Rattle.codes.specs.Table.{table, commandBy, commandOf}
+use Rattle.bus.specs.Registers.{largestValues, powerOn}
 use Rattle.bus.specs.Memory.{address}
+use Rattle.bus.specs.Events.{obeyed, command}
+use Rattle.bus.specs.Machine.{commandByte, step, registersAfter, chipAfter}
+use Rattle.bus.specs.Image.{within, awaitedCodes, legal}
 use Rattle.bus.specs.declared.registers.Registers.{Registers}
 use Rattle.picture.specs.Sizes.{height, frameRows}
 use Rattle.picture.specs.Rows.{ramRow}
 use Rattle.picture.specs.Frame.{bit, columnOf, turned, bits, line, frame, rowOf, placeOf}
-use Rattle.picture.specs.Demand3.{flipped, ShowsAt, OnePlace, SomeBit, raised, Scrolls, Content, scroll, Agree, Demand3}
+use Rattle.picture.specs.Samples.{after, run}
+use Rattle.picture.specs.Demand3.{Full, flipped, ShowsAt, OnePlace, SomeBit, raised, Scrolls, Content, scroll, Agree, Demand3}
 use Rattle.picture.specs.declared.rows.RamRow.{RamRow}
 use Rattle.picture.proofs.Lines.{line-same, grid-same}
 use Rattle.picture.proofs.Flip.{flip-hit, flip-miss}
 use Rattle.picture.proofs.Places.{frame-row, bits-show}
 use Rattle.picture.proofs.Turns.{turnOf, up, down, decided}
-use Rattle.picture.proofs.Full.{Bounds, bounds, ramOf, rowShowing, scroll-below, row-shows, place-shows, ram-below, row-below, ram-of-row, row-of-ram, column-below, column-twice}
+use Rattle.picture.proofs.Full.{Bounds, bounds, leavingIcons, ramOf, rowShowing, scroll-below, row-shows, place-shows, ram-below, row-below, ram-of-row, row-of-ram, column-below, column-twice}
 
 -- a memory of zeros
 blank : List ℕ
@@ -48,20 +54,32 @@ differs : (reverse v : ℕ) → v < 2 → turned reverse (1 - v) ≢ turned reve
 unfolding turned
 differs reverse v l e = omega arith
 
+-- a bit that shows at a place shows at no other
+no-second : (r : Registers) (row column y x y′ x′ : ℕ) → y′ < frameRows → x′ < width → ShowsAt r row column y x → ShowsAt r row column y′ x′ → (y′ ≡ y) × (x′ ≡ x)
+no-second r row column y x y′ x′ l′ k′ here there = either (ℕ-discrete y′ y) (ℕ-discrete x′ x)
+  where
+    refused : ((y′ ≡ y) × (x′ ≡ x) → ⊥) → ⊥
+    refused n = there .changes blank blank-long (here .noOther blank blank-long y′ x′ l′ k′ n)
+
+    either : Dec (y′ ≡ y) → Dec (x′ ≡ x) → (y′ ≡ y) × (x′ ≡ x)
+    either (yes p) (yes q) = (p, q)
+    either (yes p) (no n) = absurd (refused (λ e. n (e .1)))
+    either (no n) q = absurd (refused (λ e. n (e .0)))
+
 module _ (r : Registers) (b : Bounds r) where
   -- each place shows the bit that the row rule and the column direction name
   shows-at : (y x : ℕ) → y < frameRows → x < width → ShowsAt r (ramOf r y) (columnOf width r x) y x
   shows-at y x l k = record {
     changes = λ memory long e.
         differs (r .reverse) (bit memory (ramRow (ramOf r y)) (columnOf width r x)) (bit-below memory _ _)
-        (ap (turned (r .reverse)) (sym (flip-hit memory (ramOf r y) (columnOf width r x) (inside memory _ _ (ram-below r y l) (column-below r x k) long))) ∙
+        (ap (turned (r .reverse)) (sym (flip-hit memory (ramOf r y) (columnOf width r x) (inside memory _ _ (ram-below r y) (column-below width r x k) long))) ∙
         sym (place-shows r b (flipped (ramRow (ramOf r y)) (columnOf width r x) memory) y x l k) ∙
         e ∙
         place-shows r b memory y x l k);
     noOther = λ memory long y′ x′ l′ k′ n.
         place-shows r b (flipped (ramRow (ramOf r y)) (columnOf width r x) memory) y′ x′ l′ k′ ∙
-        ap (turned (r .reverse)) (flip-miss memory (ramOf r y) (columnOf width r x) (inside memory _ _ (ram-below r y l) (column-below r x k) long) (ramOf r y′) (columnOf width r x′) (column-below r x k) (column-below r x′ k′)
-        (λ e. n (sym (row-of-ram r y′ l′) ∙ ap (rowShowing r) (e .0) ∙ row-of-ram r y l, sym (column-twice r x′ k′) ∙ ap (columnOf width r) (e .1) ∙ column-twice r x k))) ∙
+        ap (turned (r .reverse)) (flip-miss memory (ramOf r y) (columnOf width r x) (inside memory _ _ (ram-below r y) (column-below width r x k) long) (ramOf r y′) (columnOf width r x′) (column-below width r x k) (column-below width r x′ k′)
+        (λ e. n (sym (row-of-ram r y′ l′) ∙ ap (rowShowing r) (e .0) ∙ row-of-ram r y l, sym (column-twice width r x′ k′) ∙ ap (columnOf width r) (e .1) ∙ column-twice width r x k))) ∙
         sym (place-shows r b memory y′ x′ l′ k′);
   }
 
@@ -69,33 +87,21 @@ module _ (r : Registers) (b : Bounds r) where
   some-bit y x l k = record {
     row = ramOf r y;
     column = columnOf width r x;
-    rowIn = ram-below r y l;
-    columnIn = column-below r x k;
+    rowIn = ram-below r y;
+    columnIn = column-below width r x k;
     shows = shows-at y x l k;
   }
 
-  -- a bit that shows at a place shows at no other
-  no-second : (row column y x y′ x′ : ℕ) → y′ < frameRows → x′ < width → ShowsAt r row column y x → ShowsAt r row column y′ x′ → (y′ ≡ y) × (x′ ≡ x)
-  no-second row column y x y′ x′ l′ k′ here there = either (ℕ-discrete y′ y) (ℕ-discrete x′ x)
-    where
-      refused : ((y′ ≡ y) × (x′ ≡ x) → ⊥) → ⊥
-      refused n = there .changes blank blank-long (here .noOther blank blank-long y′ x′ l′ k′ n)
-
-      either : Dec (y′ ≡ y) → Dec (x′ ≡ x) → (y′ ≡ y) × (x′ ≡ x)
-      either (yes p) (yes q) = (p, q)
-      either (yes p) (no n) = absurd (refused (λ e. n (e .1)))
-      either (no n) q = absurd (refused (λ e. n (e .0)))
-
   one-place : (row column : ℕ) → row < frameRows → column < width → OnePlace r row column
   one-place row column l k =
-      let here = subst₂ (λ a c. ShowsAt r a c (rowShowing r row) (columnOf width r column)) (ram-of-row r row l) (column-twice r column k) (shows-at (rowShowing r row) (columnOf width r column) (row-below r row l) (column-below r column k)) in
+      let here = subst₂ (λ a c. ShowsAt r a c (rowShowing r row) (columnOf width r column)) (ram-of-row r row l) (column-twice width r column k) (shows-at (rowShowing r row) (columnOf width r column) (row-below r row) (column-below width r column k)) in
       record {
         y = rowShowing r row;
         x = columnOf width r column;
-        yIn = row-below r row l;
-        xIn = column-below r column k;
+        yIn = row-below r row;
+        xIn = column-below width r column k;
         shows = here;
-        only = λ y′ x′ l′ k′ there. no-second row column (rowShowing r row) (columnOf width r column) y′ x′ l′ k′ here there;
+        only = λ y′ x′ l′ k′ there. no-second r row column (rowShowing r row) (columnOf width r column) y′ x′ l′ k′ here there;
       }
 
 -- a row of the frame is the bits of its RAM row
@@ -135,7 +141,7 @@ agreeing r s b d agree memory =
     grid-same width frameRows _ _ (λ y x l k.
     rw (row-shows r b y l, row-shows s d y l)
     (bits-show r memory (ramRow (ramOf r y)) x (b .on) (b .entire) ∙
-    (λ i. turned (agree .reverse i) (bit memory (ramRow (cond (ltb y height) (turnOf height (eqb (agree .rows i) 0) (agree .line i) y) height)) (cond (eqb (agree .columns i) 0) x (width - 1 - x)))) ∙
+    (λ i. turned (agree .reverse i) (bit memory (ramRow (leavingIcons (turnOf height (eqb (agree .rows i) 0) (agree .line i)) y)) (cond (eqb (agree .columns i) 0) x (width - 1 - x)))) ∙
     sym (bits-show s memory (ramRow (ramOf s y)) x (d .on) (d .entire))))
 
 -- memories with no bit, and with one
@@ -206,13 +212,13 @@ module _ (r s : Registers) (b : Bounds r) (d : Bounds s) (same : (memory : List 
       column = columnOf width r x
 
       room : address (row / 8) column < length blank
-      room = inside blank row column (ram-below r y l) (column-below r x k) blank-long
+      room = inside blank row column (ram-below r y) (column-below width r x k) blank-long
 
       refused : ((ramOf s y ≡ row) × (columnOf width s x ≡ column) → ⊥) → ⊥
       refused n =
           let lit : bit (flipped (ramRow row) column blank) (ramRow row) column ≡ 1 = flip-hit blank row column room ∙ rw (blank-bit (ramRow row) column) in
-          let dark : bit (flipped (ramRow row) column blank) (ramRow (ramOf s y)) (columnOf width s x) ≡ 0 = flip-miss blank row column room (ramOf s y) (columnOf width s x) (column-below r x k) (column-below s x k) n ∙ blank-bit (ramRow (ramOf s y)) (columnOf width s x) in
-          let e : (1 + r .reverse) % 2 ≡ (0 + s .reverse) % 2 = rw (lit, dark) at (places-agree (flipped (ramRow row) column blank) (lit-content row column (ram-below r y l) (column-below r x k)) y x l k) in
+          let dark : bit (flipped (ramRow row) column blank) (ramRow (ramOf s y)) (columnOf width s x) ≡ 0 = flip-miss blank row column room (ramOf s y) (columnOf width s x) (column-below width r x k) (column-below width s x k) n ∙ blank-bit (ramRow (ramOf s y)) (columnOf width s x) in
+          let e : (1 + r .reverse) % 2 ≡ (0 + s .reverse) % 2 = rw (lit, dark) at (places-agree (flipped (ramRow row) column blank) (lit-content row column (ram-below r y) (column-below width r x k)) y x l k) in
           omega (arith, reverse-agrees)
 
       either : Dec (ramOf s y ≡ row) → Dec (columnOf width s x ≡ column) → (ramOf s y ≡ row) × (columnOf width s x ≡ column)
@@ -232,6 +238,11 @@ module _ (r s : Registers) (b : Bounds r) (d : Bounds s) (same : (memory : List 
         reverse = reverse-agrees;
         line = turns .1;
       }
+
+-- the demand is not empty: after AF from power-on the chip is set so
+pub full-once-on : Full (run (commandByte 0xAF ∷ []) .registers)
+unfolding largestValues powerOn within awaitedCodes legal table commandBy commandOf obeyed command step registersAfter chipAfter after
+full-once-on = record { inRange = refl; allRows = refl; on = refl; notLit = refl }
 
 pub demand3 : Demand3
 demand3 = record {

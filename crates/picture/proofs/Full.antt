@@ -10,6 +10,7 @@ use native.Mathlib.Decide.{decLt}
 use lib.Dec.{ltb, eqb}
 use borrow.Author.Tests.{lt-ltb, le-ltb}
 use Rattle.bus.specs.Sizes.{width}
+use Rattle.bus.specs.Places
 use Rattle.bus.specs.Registers.{largestValues}
 use Rattle.bus.proofs.Kept.{legal-facts, bound}
 use Rattle.bus.specs.declared.registers.Registers.{Registers}
@@ -19,10 +20,10 @@ use Rattle.picture.specs.Frame.{bit, columnOf, turned, bits, frame, plac
 use Rattle.picture.specs.Demand3.{Full, scroll}
 use Rattle.picture.specs.declared.rows.Shown.the-variants.{Ram}
 use Rattle.picture.proofs.RowRule.{of-both}
-use Rattle.picture.proofs.Turns.{turnOf, backOf, turn-back, back-turn, rule}
+use Rattle.picture.proofs.Turns.{turnOf, backOf, turn-below, back-below, turn-back, back-turn, rule}
 use Rattle.picture.proofs.Places.{frame-place, bits-show}
 
--- what such a setting holds, as bounds
+-- what such a setting holds of the registers that a frame depends on
 pub record Bounds (r : Registers) : Type 0 where
   pub start : r .start < height
   pub offset : r .offset < height
@@ -38,11 +39,11 @@ unfolding largestValues
 bounds r full =
     let held = bound r (legal-facts r (full .inRange)) in
     record {
-      start = omega (arith, held 2 (omega arith));
-      offset = omega (arith, held 3 (omega arith));
-      columns = omega (arith, held 12 (omega arith));
-      rows = omega (arith, held 13 (omega arith));
-      reverse = omega (arith, held 15 (omega arith));
+      start = omega (arith, held Places.start (omega arith));
+      offset = omega (arith, held Places.offset (omega arith));
+      columns = omega (arith, held Places.mirrored (omega arith));
+      rows = omega (arith, held Places.rows (omega arith));
+      reverse = omega (arith, held Places.reverse (omega arith));
       allRows = full .allRows;
       on = full .on;
       entire = full .notLit;
@@ -52,23 +53,63 @@ pub scroll-below : (r : Registers) → scroll r < height
 unfolding scroll
 scroll-below r = of-both (λ c. c < height) (eqb (r .rows) 0) (mod-lt _ (omega arith)) (mod-lt _ (omega arith))
 
--- the RAM row that a row of the frame shows, and the row of the frame that shows a RAM row: the icons apart
+-- a turn of the panel rows that leaves the icon line
+abbrev pub leavingIcons : (ℕ → ℕ) → ℕ → ℕ
+leavingIcons turn y = cond (ltb y height) (turn y) height
+
+leaving-below : (turn : ℕ → ℕ) → ((n : ℕ) → turn n < height) → (y : ℕ) → leavingIcons turn y < frameRows
+leaving-below turn below y = of-both (λ n. n < frameRows) (ltb y height) (omega (arith, below y)) (omega arith)
+
+leaving-back : (turn back : ℕ → ℕ) → ((n : ℕ) → back n < height) → ((n : ℕ) → n < height → turn (back n) ≡ n) → (n : ℕ) → n < frameRows → leavingIcons turn (leavingIcons back n) ≡ n
+leaving-back turn back below undone n l = either (decLt n height)
+  where
+    either : Dec (n < height) → leavingIcons turn (leavingIcons back n) ≡ n
+    either (yes k) = rw (lt-ltb n height k, lt-ltb (back n) height (below n)) (undone n k)
+    either (no m) = rw (le-ltb n height (omega arith)) (omega arith)
+
+-- the RAM row that a row of the frame shows, and the row of the frame that shows a RAM row
 abbrev pub ramOf : Registers → ℕ → ℕ
-ramOf r y = cond (ltb y height) (turnOf height (eqb (r .rows) 0) (scroll r) y) height
+ramOf r = leavingIcons (turnOf height (eqb (r .rows) 0) (scroll r))
 
 abbrev pub rowShowing : Registers → ℕ → ℕ
-rowShowing r n = cond (ltb n height) (backOf height (eqb (r .rows) 0) (scroll r) n) height
+rowShowing r = leavingIcons (backOf height (eqb (r .rows) 0) (scroll r))
+
+pub ram-below : (r : Registers) (y : ℕ) → ramOf r y < frameRows
+ram-below r y = leaving-below (turnOf height (eqb (r .rows) 0) (scroll r)) (λ n. turn-below height (eqb (r .rows) 0) (scroll r) n (omega arith)) y
+
+pub row-below : (r : Registers) (n : ℕ) → rowShowing r n < frameRows
+row-below r n = leaving-below (backOf height (eqb (r .rows) 0) (scroll r)) (λ n. back-below height (eqb (r .rows) 0) (scroll r) n (omega arith)) n
+
+pub ram-of-row : (r : Registers) (n : ℕ) → n < frameRows → ramOf r (rowShowing r n) ≡ n
+ram-of-row r n l = leaving-back (turnOf height (eqb (r .rows) 0) (scroll r)) (backOf height (eqb (r .rows) 0) (scroll r)) (λ n. back-below height (eqb (r .rows) 0) (scroll r) n (omega arith)) (λ n k. turn-back height (eqb (r .rows) 0) (scroll r) n (scroll-below r) k) n l
+
+pub row-of-ram : (r : Registers) (y : ℕ) → y < frameRows → rowShowing r (ramOf r y) ≡ y
+row-of-ram r y l = leaving-back (backOf height (eqb (r .rows) 0) (scroll r)) (turnOf height (eqb (r .rows) 0) (scroll r)) (λ n. turn-below height (eqb (r .rows) 0) (scroll r) n (omega arith)) (λ n k. back-turn height (eqb (r .rows) 0) (scroll r) n (scroll-below r) k) y l
+
+-- a segment's column is one of the w, and its own column's segment
+pub column-below : (w : ℕ) (r : Registers) (x : ℕ) → x < w → columnOf w r x < w
+unfolding columnOf
+column-below w r x l = of-both (λ c. c < w) (eqb (r .mirrored) 0) l (omega arith)
+
+pub column-twice : (w : ℕ) (r : Registers) (x : ℕ) → x < w → columnOf w r (columnOf w r x) ≡ x
+unfolding columnOf
+column-twice w r x l = twice (eqb (r .mirrored) 0)
+  where
+    twice : (normal : Bool) → cond normal (cond normal x (w - 1 - x)) (w - 1 - cond normal x (w - 1 - x)) ≡ x
+    twice true = refl
+    twice false = omega arith
 
 either-row : (normal : Bool) (n m : ℕ) → cond normal (ramRow n) (ramRow m) ≡ ramRow (cond normal n m)
 either-row true n m = refl
 either-row false n m = refl
 
 module _ (r : Registers) (b : Bounds r) where
+  -- each row shows the RAM row that its turn names
   panel-shows : (p : ℕ) → p < height → panelShows height r (panelRow p) ≡ Ram (ramRow (turnOf height (eqb (r .rows) 0) (scroll r) p))
   unfolding panelShows used ramRowOf comOf scroll
   panel-shows p l =
-      rw (lt-ltb ((p + r .offset) % height) (rowsInUse r) (omega (arith, mod-lt (p + r .offset) {m = height} (omega arith), b .allRows)), either-row (eqb (r .rows) 0))
-      (ap (λ n. Ram (ramRow n)) (rule height (eqb (r .rows) 0) (r .start) (r .offset) (rowsInUse r) p (b .start) (b .offset) (b .allRows) l))
+      rw (b .allRows, lt-ltb ((p + r .offset) % height) height (mod-lt _ (omega arith)), either-row (eqb (r .rows) 0))
+      (ap (λ n. Ram (ramRow n)) (rule height (eqb (r .rows) 0) (r .start) (r .offset) p (b .start) (b .offset) l))
 
   pub row-shows : (y : ℕ) → y < frameRows → rowShows height r (panelRow y) ≡ Ram (ramRow (ramOf r y))
   unfolding rowShows
@@ -82,43 +123,3 @@ module _ (r : Registers) (b : Bounds r) where
   pub place-shows : (memory : List ℕ) (y x : ℕ) → y < frameRows → x < width → placeOf y x (frame r memory) ≡ turned (r .reverse) (bit memory (ramRow (ramOf r y)) (columnOf width r x))
   unfolding bits
   place-shows memory y x l k = frame-place r memory y x l k ∙ rw (row-shows y l) (bits-show r memory (ramRow (ramOf r y)) x (b .on) (b .entire))
-
--- there and back
-pub ram-below : (r : Registers) (y : ℕ) → y < frameRows → ramOf r y < frameRows
-ram-below r y l = of-both (λ n. n < frameRows) (ltb y height) (of-both (λ n. n < frameRows) (eqb (r .rows) 0) (below _) (below _)) (omega arith)
-  where
-    below : (n : ℕ) → n % height < frameRows
-    below n = omega arith
-
-pub row-below : (r : Registers) (n : ℕ) → n < frameRows → rowShowing r n < frameRows
-row-below r n l = of-both (λ y. y < frameRows) (ltb n height) (of-both (λ y. y < frameRows) (eqb (r .rows) 0) (below _) (below _)) (omega arith)
-  where
-    below : (y : ℕ) → y % height < frameRows
-    below y = omega arith
-
--- a turn of the rows 0 to 63 that leaves the icons, and the turn back
-turned-back : (f g : ℕ → ℕ) → ((n : ℕ) → n < height → g n < height) → ((n : ℕ) → n < height → f (g n) ≡ n) → (n : ℕ) → n < frameRows → cond (ltb (cond (ltb n height) (g n) height) height) (f (cond (ltb n height) (g n) height)) height ≡ n
-turned-back f g below back n l = either (decLt n height)
-  where
-    either : Dec (n < height) → cond (ltb (cond (ltb n height) (g n) height) height) (f (cond (ltb n height) (g n) height)) height ≡ n
-    either (yes k) = rw (lt-ltb n height k, lt-ltb (g n) height (below n k)) (back n k)
-    either (no m) = rw (le-ltb n height (omega arith)) (omega arith)
-
-pub ram-of-row : (r : Registers) (n : ℕ) → n < frameRows → ramOf r (rowShowing r n) ≡ n
-ram-of-row r n l = turned-back (turnOf height (eqb (r .rows) 0) (scroll r)) (backOf height (eqb (r .rows) 0) (scroll r)) (λ n k. of-both (λ y. y < height) (eqb (r .rows) 0) (mod-lt _ (omega arith)) (mod-lt _ (omega arith))) (λ n k. turn-back height (eqb (r .rows) 0) (scroll r) n (scroll-below r) k) n l
-
-pub row-of-ram : (r : Registers) (y : ℕ) → y < frameRows → rowShowing r (ramOf r y) ≡ y
-row-of-ram r y l = turned-back (backOf height (eqb (r .rows) 0) (scroll r)) (turnOf height (eqb (r .rows) 0) (scroll r)) (λ n k. of-both (λ y. y < height) (eqb (r .rows) 0) (mod-lt _ (omega arith)) (mod-lt _ (omega arith))) (λ n k. back-turn height (eqb (r .rows) 0) (scroll r) n (scroll-below r) k) y l
-
--- columns
-pub column-below : (r : Registers) (x : ℕ) → x < width → columnOf width r x < width
-unfolding columnOf
-column-below r x l = of-both (λ c. c < width) (eqb (r .mirrored) 0) l (omega arith)
-
-pub column-twice : (r : Registers) (x : ℕ) → x < width → columnOf width r (columnOf width r x) ≡ x
-unfolding columnOf
-column-twice r x l = twice (eqb (r .mirrored) 0)
-  where
-    twice : (normal : Bool) → cond normal (cond normal x (width - 1 - x)) (width - 1 - cond normal x (width - 1 - x)) ≡ x
-    twice true = refl
-    twice false = omega arith

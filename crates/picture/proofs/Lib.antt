@@ -1,11 +1,11 @@
-pub mod Asking
+pub mod Samples
+pub mod Demand3
+pub mod Yields
 pub mod Lines
-pub mod Outcome
-pub mod Flip
-pub mod Full
 pub mod Places
 pub mod RowRule
-pub mod Samples
 pub mod Turns
+pub mod Full
+pub mod Flip
 pub mod Bits
-pub mod Demand3
+pub mod Asking

@@ -3,9 +3,7 @@
 use mathlib.Core.Path.{_≡_, sym, _∙_, ap}
 use mathlib.Core.List.{List}
 use Prim.Native.Nat.{ℕ, _*_, _<_}
-use native.Mathlib.Omega.{arith}
-use lib.Dec.{eqb}
-use native.Mathlib.Nat.{mod-lt, add-zero, mod-mod}
+use native.Mathlib.Nat.{add-zero, mod-mod}
 use lib.ListN.{length, getD, drop, replicate}
 use lib.Seq.{getD-take, getD-drop}
 use Rattle.bus.specs.Sizes.{width}
@@ -14,9 +12,7 @@ use Rattle.picture.specs.Sizes.{height, frameRows, frameSize}
 use Rattle.picture.specs.Rows.{panelRow, ramRow, rowShows}
 use Rattle.picture.specs.Frame.{bit, columnOf, turned, bits, lighted, segment, line, frame, rowOf, placeOf}
 use Rattle.picture.specs.declared.rows.RamRow.{RamRow}
-use Rattle.picture.specs.declared.rows.Shown.{Shown}
-use Rattle.picture.specs.declared.rows.Shown.the-variants.{Dark, Ram}
-use Rattle.picture.proofs.RowRule.{of-both}
+use Rattle.picture.specs.declared.rows.Shown.the-variants.{Ram}
 use Rattle.picture.proofs.Lines.{line-same, line-at, grid-length, grid-row, grid-same, grid-alike}
 
 pub frame-length : (r : Registers) (memory : List ℕ) → length (frame r memory) ≡ frameSize
@@ -34,15 +30,6 @@ frame-place r memory y x l k =
     sym (getD-take width (drop (y * width) (frame r memory)) x 0 k) ∙
     ap (λ row. getD row x 0) (frame-row r memory y l) ∙
     line-at width (segment width r memory (rowShows height r (panelRow y))) x k
-
--- each place is dark, 0, or lit, 1
-pub dark-or-lit : (r : Registers) (memory : List ℕ) (y x : ℕ) → y < frameRows → x < width → placeOf y x (frame r memory) < 2
-unfolding segment lighted bits turned
-dark-or-lit r memory y x l k = rw (frame-place r memory y x l k) (of-both (λ v. v < 2) (eqb (r .on) 0) (omega arith) (shade (rowShows height r (panelRow y))))
-  where
-    shade : (shown : Shown) → lighted width r memory shown x < 2
-    shade Dark = omega arith
-    shade (Ram row) = of-both (λ v. v < 2) (eqb (r .entire) 1) (omega arith) (mod-lt _ (omega arith))
 
 -- where the display is on and not forced all-lit, a RAM row shows its bits
 pub bits-show : (r : Registers) (memory : List ℕ) (row : RamRow) (x : ℕ) → r .on ≡ 1 → r .entire ≡ 0 → segment width r memory (Ram row) x ≡ bits width r memory row x

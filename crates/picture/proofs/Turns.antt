@@ -48,6 +48,15 @@ module _ (h : ℕ) where
   there-again c p u w k l k′ l′ (high d) (low e) = omega arith
   there-again c p u w k l k′ l′ (high d) (high e) = omega arith
 
+  -- they stay among the h rows
+  pub turn-below : (normal : Bool) (c p : ℕ) → 0 < h → turnOf h normal c p < h
+  turn-below true c p pos = mod-lt _ pos
+  turn-below false c p pos = mod-lt _ pos
+
+  pub back-below : (normal : Bool) (c n : ℕ) → 0 < h → backOf h normal c n < h
+  back-below true c n pos = mod-lt _ pos
+  back-below false c n pos = mod-lt _ pos
+
   -- the turn and the turn back undo each other
   pub turn-back : (normal : Bool) (c n : ℕ) → c < h → n < h → turnOf h normal c (backOf h normal c n) ≡ n
   turn-back true c n k l =
@@ -82,13 +91,13 @@ module _ (h : ℕ) where
   amount normal start offset = cond normal ((start + offset) % h) ((start + h - offset) % h)
 
   -- the row rule is a turn by it
-  pub rule : (normal : Bool) (start offset m p : ℕ) → start < h → offset < h → m ≡ h → p < h → cond normal ((start + (p + offset) % h) % h) ((start + m - 1 - (p + offset) % h) % h) ≡ turnOf h normal (amount normal start offset) p
-  rule true start offset m p s o e l =
+  pub rule : (normal : Bool) (start offset p : ℕ) → start < h → offset < h → p < h → cond normal ((start + (p + offset) % h) % h) ((start + h - 1 - (p + offset) % h) % h) ≡ turnOf h normal (amount normal start offset) p
+  rule true start offset p s o l =
       let sum : start + (p + offset) ≡ start + offset + p = omega arith in
       rw (add-mod-mod start (p + offset) h, mod-add-mod (start + offset) h p, sum)
-  rule false start offset m p s o e l =
+  rule false start offset p s o l =
       let below = mod-lt (p + offset) {m = h} (omega arith) in
-      let last : start + m - 1 - (p + offset) % h ≡ start + (h - 1) - (p + offset) % h = omega arith in
+      let last : start + h - 1 - (p + offset) % h ≡ start + (h - 1) - (p + offset) % h = omega arith in
       rw last (reversed start offset p s o l)
 
   -- the start line raised by n: rows normal show what was n rows below, rows reversed what was n rows above

@@ -2,6 +2,7 @@
 -- Assumes nothing.
 use mathlib.Core.Path.{sym}
 use lib.Seq.{length-take-le}
+use Rattle.list.proofs.Listings.{within-text}
 use borrow.Author.Needs.{needs}
 use Rattle.list.proofs.main.Statement.{statement}
 use Rattle.list.proofs.main.Tie as tie
@@ -34,10 +35,10 @@ list-trace-requires : tie.Need-list-trace-requires
 list-trace-requires c κs = search needs
 
 array-share-prefix-text : tie.Need-array-share-prefix-text
-array-share-prefix-text c = search needs
+array-share-prefix-text c = within-text _ _ _ _ (c .before .list-trace .ensures)
 
 slice-aggregate-write-all-2 : tie.Need-slice-aggregate-write-all-2
-slice-aggregate-write-all-2 c = sym (length-take-le _ _ (c .before .before .list-trace .ensures .2))
+slice-aggregate-write-all-2 c = sym (length-take-le _ _ (within-text _ _ _ _ (c .before .before .list-trace .ensures)))
 
 write-all-requires-2 : tie.Need-write-all-requires-2
 write-all-requires-2 c κs = search needs

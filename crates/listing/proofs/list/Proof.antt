@@ -16,7 +16,7 @@ use Rattle.listing.specs.Text.{listingOf}
 use Rattle.listing.specs.Listing.{outcome, written}
 use Rattle.listing.specs.declared.Listed.the-variants.{Refused}
 use Rattle.listing.proofs.Pieces.{sets-empty}
-use Rattle.listing.proofs.Longest.{at-most}
+use Rattle.listing.proofs.Bound.{at-most}
 use Rattle.listing.proofs.Outcomes.{frame-short, text-short, both-long}
 
 -- a buffer of which only the first 0 bytes were lent is as it was

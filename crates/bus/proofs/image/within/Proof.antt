@@ -23,10 +23,10 @@ unfolding within
 turn largest image i p q = rw (drop-cons largest i 0 p, drop-cons image i 0 q, add-one)
 
 abbrev Inv-loop : tie.InvT-loop
-Inv-loop image i₀ i = (i ≤ 23) × (within largestValues image ≡ within (drop i largestValues) (drop i image))
+Inv-loop image largest i₀ i = (i ≤ 23) × (within largestValues image ≡ within (drop i largestValues) (drop i image))
 
 abbrev μ-loop : tie.MeasureT-loop
-μ-loop image i₀ i = 23 - i
+μ-loop image largest i₀ i = 23 - i
 
 loop-holds : tie.Need-loop-holds Inv-loop μ-loop
 loop-holds c = (omega arith, refl)

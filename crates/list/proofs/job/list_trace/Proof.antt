@@ -5,9 +5,15 @@ use Rattle.list.proofs.job.list_trace.Statement.{statement}
 use Rattle.list.proofs.job.list_trace.Tie as tie
 use mathlib.Core.Path.{_∙_, ap}
 use native.Mathlib.Omega.{arith}
+use borrow.Author.Tests.{lt-ltb}
 use denote.Ref.{now}
 use Rattle.bus.specs.Registers.{imageOf}
+use Rattle.list.specs.Job.{printedOf}
 use Rattle.list.proofs.Listings.{whole, finished, never-refused}
+
+returns : tie.Need-returns
+unfolding printedOf
+returns c = rw (lt-ltb _ _ (c .if1 .taken))
 
 power-on-requires : tie.Need-power-on-requires
 power-on-requires c κs = search needs
@@ -51,31 +57,36 @@ enum-told c = search needs
 same-length : tie.Need-same-length
 same-length c = search needs
 
-returns : tie.Need-returns
-returns c =
+returns-2 : tie.Need-returns-2
+returns-2 c =
     let d = c .before .before .before .before .before in
     let drawing = d .before .before .before .before in
     let running = drawing .before .before .before .before .before .before in
     let imaged = running .before .before .before in
-    let e = whole (now (imaged .before .before .before .before .args .bytes)) (now (imaged .before .before .before .before .args .text)) (imaged .image .result) (running .run .result) (running .run .last .0) (running .run .last .1 .0) (drawing .draw .last .1 .1 .0) (d .list .last .1 .1 .1 .0) (drawing .draw .result) (d .list .result) (imaged .image .ensures ∙ ap imageOf (imaged .before .power-on .ensures)) (running .run .ensures) (drawing .draw .ensures) (d .list .ensures) (omega (arith, running)) (omega (arith, running)) (omega (arith, drawing)) (omega (arith, imaged .before .before .before .before)) in
-    finished _ _ _ _ _ e (c .before .length .given .1)
+    let tested = imaged .before .before in
+    let args = tested .before .before .before .args in
+    let e = whole (now (args .bytes)) (now (args .text)) (imaged .image .result) (running .run .result) (running .run .last .0) (running .run .last .1 .0) (drawing .draw .last .1 .1 .0) (d .list .last .1 .1 .1 .0) (drawing .draw .result) (d .list .result) (imaged .image .ensures ∙ ap imageOf (imaged .before .power-on .ensures)) (running .run .ensures) (drawing .draw .ensures) (d .list .ensures) (omega (arith, running)) (omega (arith, running)) (omega (arith, drawing)) (tested .if1 .left) in
+    finished (now (args .bytes)) (now (args .text)) _ _ _ (tested .if1 .left) e (c .before .length .given .1)
 
 same-length-2 : tie.Need-same-length-2
 same-length-2 c = search needs
 
-returns-2 : tie.Need-returns-2
-returns-2 c =
+returns-3 : tie.Need-returns-3
+returns-3 c =
     let d = c .before .before .before .before in
     let drawing = d .before .before .before .before in
     let running = drawing .before .before .before .before .before .before in
     let imaged = running .before .before .before in
-    let e = whole (now (imaged .before .before .before .before .args .bytes)) (now (imaged .before .before .before .before .args .text)) (imaged .image .result) (running .run .result) (running .run .last .0) (running .run .last .1 .0) (drawing .draw .last .1 .1 .0) (d .list .last .1 .1 .1 .0) (drawing .draw .result) (d .list .result) (imaged .image .ensures ∙ ap imageOf (imaged .before .power-on .ensures)) (running .run .ensures) (drawing .draw .ensures) (d .list .ensures) (omega (arith, running)) (omega (arith, running)) (omega (arith, drawing)) (omega (arith, imaged .before .before .before .before)) in
+    let tested = imaged .before .before in
+    let args = tested .before .before .before .args in
+    let e = whole (now (args .bytes)) (now (args .text)) (imaged .image .result) (running .run .result) (running .run .last .0) (running .run .last .1 .0) (drawing .draw .last .1 .1 .0) (d .list .last .1 .1 .1 .0) (drawing .draw .result) (d .list .result) (imaged .image .ensures ∙ ap imageOf (imaged .before .power-on .ensures)) (running .run .ensures) (drawing .draw .ensures) (d .list .ensures) (omega (arith, running)) (omega (arith, running)) (omega (arith, drawing)) (tested .if1 .left) in
     absurd (never-refused _ _ _ _ _ e (c .enum-told .given .1))
 
 pub list-trace-spec : {M : Type 1} → statement M
 list-trace-spec =
     tie.close
     (tie.spec
+    returns
     power-on-requires
     image-requires
     slice-aggregate-run
@@ -90,6 +101,6 @@ list-trace-spec =
     enum-known-length
     enum-told
     same-length
-    returns
+    returns-2
     same-length-2
-    returns-2)
+    returns-3)

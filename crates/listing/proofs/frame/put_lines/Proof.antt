@@ -1,27 +1,27 @@
 -- `listing::frame::put_lines` meets its contract: the lines of the rows from here on are put from here on.
 -- Assumes nothing.
--- the lines from row p on are its own and those after it
--- the part of the frame that is lent for row p
 use Rattle.listing.proofs.frame.put_lines.Statement.{statement}
 use Rattle.listing.proofs.frame.put_lines.Tie as tie
 use Prim.Native.Nat.{ℕ, suc, _≤_, _<_, _+_, _-_, _*_}
-use mathlib.Core.Path.{_≡_, refl}
+use mathlib.Core.Path.{_≡_, subst⁻¹}
 use mathlib.Core.List.{List, _++_}
-use native.Mathlib.Nat.{sub-self}
 use native.Mathlib.Numerals.{add-one}
 use native.Mathlib.Omega.{arith}
 use denote.Ref.{now}
-use lib.ListN.{length, take, drop}
+use lib.ListN.{take, drop}
 use Rattle.listing.specs.Sizes.{width, rows}
+use Rattle.listing.specs.Put.{Countable}
 use Rattle.listing.specs.Text.{line, rowOf, lines}
 use Rattle.listing.proofs.Pieces.{Rest, begin, turn, done, room, room-left, rest-length}
 
+-- the lines from row p on are its own and those after it
 lines-on : (w : ℕ) (frame : List ℕ) (n p : ℕ) → p < n → lines w frame (n - p) p ≡ line p (rowOf w frame p) ++ lines w frame (n - (p + 1)) (p + 1)
 unfolding lines
 lines-on w frame n p h =
     let e : n - p ≡ suc (n - (p + 1)) = omega arith in
     rw (e, ← add-one p)
 
+-- the part of the frame that is lent for row p
 part : (frame : List ℕ) (p : ℕ) → take (p * 132 + 132 - p * 132) (drop (p * 132) frame) ≡ rowOf width frame p
 unfolding rowOf
 part frame p =
@@ -58,7 +58,7 @@ put-line-requires c κs =
     let start = at .before .before .before in
     let frame = now (start .args .frame) in
     let p = at .loop .p in
-    rw (part frame p) (room (at .loop .next) (line p (rowOf width frame p)) _ (rw (lines-on width frame rows p (c .before .before .loop-test .taken)) at (room-left (at .loop .inv .1) (start .pre .1))))
+    subst⁻¹ (λ row. Countable (at .loop .next) (line p row)) (part frame p) (room (at .loop .next) (line p (rowOf width frame p)) _ (rw (lines-on width frame rows p (c .before .before .loop-test .taken)) at (room-left (at .loop .inv .1) (start .pre .1))))
 
 add-p : tie.Need-add-p Inv-loop μ-loop
 add-p c = omega arith

@@ -4,15 +4,16 @@ use borrow.Author.Needs.{needs}
 use Rattle.listing.proofs.frame.put_refused.Statement.{statement}
 use Rattle.listing.proofs.frame.put_refused.Tie as tie
 use native.Mathlib.Omega.{arith}
-use borrow.Author.Tests.{eq-eqb, ne-eqb}
+use borrow.Author.Tests.{ne-eqb}
 use Rattle.listing.specs.Ascii.{ascii}
 use Rattle.listing.specs.Text.{refusedText}
 use Rattle.listing.proofs.Pieces.{none, after}
-use Rattle.listing.proofs.Lengths.{refused-length}
+use Rattle.listing.proofs.Lengths.{taken-nothing, refused-length}
 
 returns : tie.Need-returns
-unfolding refusedText
-returns c = rw (eq-eqb _ _ (c .if1 .taken)) (none _ _)
+returns c =
+    let args = c .before .before .args in
+    rw (taken-nothing (args .number) (args .offset) (c .if1 .taken)) (none _ _)
 
 slice-aggregate-put-bytes : tie.Need-slice-aggregate-put-bytes
 slice-aggregate-put-bytes c = search needs

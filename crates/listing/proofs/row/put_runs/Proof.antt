@@ -2,7 +2,7 @@
 -- Assumes nothing.
 use Rattle.listing.proofs.row.put_runs.Statement.{statement}
 use Rattle.listing.proofs.row.put_runs.Tie as tie
-use Prim.Native.Nat.{_≤_, _+_, _-_}
+use Prim.Native.Nat.{_≤_, _-_}
 use native.Mathlib.Omega.{arith}
 use denote.Ref.{now}
 use lib.ListN.{length, drop}

@@ -1,22 +1,21 @@
 -- No listing is longer than 27,408 bytes, so a buffer of that length is always enough; and one listing is that long.
 -- Assumes nothing.
 use Prim.Native.Nat.{ℕ, zero, suc, _+_, _-_, _*_, _/_, _%_, _^_, _≤_, _<_}
-use mathlib.Core.Path.{_≡_, refl, sym, _∙_, ap}
+use mathlib.Core.Path.{_≡_, refl, _∙_}
 use mathlib.Core.Bool.{Bool, true, false, cond, _&&_, false≢true}
 use mathlib.Core.Logic.{⊎-elim}
 use mathlib.Core.List.{List, [], _∷_, _++_}
 use native.Mathlib.Nat.{not-suc-le-zero, eq-or-lt-of-le, add-zero, add-suc, suc-add, pow-suc}
-use native.Mathlib.Numerals.{add-one}
 use native.Mathlib.Omega.{arith}
 use borrow.Author.Tests.{ltb-true, ltb-false, lt-ltb, leb-true, eqb-false}
 use lib.Dec.{ltb, leb, eqb, lit≤}
 use lib.Seq.{drop-append-add}
-use lib.ListN.{length, length-append, length-take, length-drop, drop, take}
-use Rattle.listing.specs.Sizes.{width, rows, longest}
+use lib.ListN.{length, length-append, length-take, drop, take}
+use Rattle.listing.specs.Sizes.{width, rows, longestListing}
 use Rattle.listing.specs.Ascii.{ascii}
 use Rattle.listing.specs.Decimal.{digits, decimal}
-use Rattle.listing.specs.Runs.{Run, lit, anyLit, leading, runsFrom, runs}
-use Rattle.listing.specs.Text.{runText, runsText, line, rowOf, lines, frameText, refusedText, listingOf}
+use Rattle.listing.specs.Runs.{lit, anyLit, leading, runsFrom, runs}
+use Rattle.listing.specs.Text.{runText, runsText, line, rowOf, lines, refusedText, listingOf}
 use Rattle.listing.proofs.Walk.{leading-length, gap}
 use Rattle.listing.proofs.Lengths.{run-length, line-length, refused-length, listing-length}
 
@@ -44,6 +43,7 @@ digits-rise (suc f) m n h =
     by false true d e r = absurd (omega (arith, h, ltb-false m 10 d, ltb-true n 10 e))
     by false false d e r = omega (arith, r, length-append (digits f (m / 10)) ((48 + m % 10) ∷ []), length-append (digits f (n / 10)) ((48 + n % 10) ∷ []))
 
+-- nor is it written shorter
 width-rises : (m n : ℕ) → m ≤ n → length (decimal m) ≤ length (decimal n)
 unfolding decimal
 width-rises m n h = digits-rise 20 m n h
@@ -68,6 +68,7 @@ rising-at (suc m) n e h = by (leb (most m) (most (suc m))) refl e (rising-at m n
     by true d e more = ⊎-elim (λ q. rw q (leb-true (most m) (most (suc m)) d)) (more e) (eq-or-lt-of-le (omega (arith, h)))
     by false d e more = absurd (false≢true e)
 
+-- more places never take less
 most-rises : (n k : ℕ) → n + k ≤ width → most n ≤ most (n + k)
 unfolding rising most decimal digits
 most-rises n zero h = rw add-zero (omega arith)
@@ -134,6 +135,7 @@ lines-most frame (suc n) p =
     rw length-append
     (omega (arith, line-most p row (omega (arith, length-take width (drop (p * width) frame))), lines-most frame n (suc p)))
 
+-- what a stopped run prints
 refused-most : (number offset : ℕ) → number < 256 → offset < 2 ^ 64 → length (refusedText number offset) ≤ 36
 unfolding refusedText decimal
 refused-most number offset h k = by (eqb number 0) refl
@@ -143,12 +145,13 @@ refused-most number offset h k = by (eqb number 0) refl
     by false e =
         omega (arith, refused-length number offset (eqb-false number 0 e), few-digits 20 2 number (omega (arith, h)), few-digits 20 19 offset (omega (arith, k)))
 
+-- what all rows can take
 lines-all : tall rows 0 ≡ 27355
 unfolding tall most decimal digits
 lines-all = refl
 
 -- no listing is longer
-pub at-most : (number offset : ℕ) (frame : List ℕ) → number < 256 → offset < 2 ^ 64 → length (listingOf number offset frame) ≤ longest
+pub at-most : (number offset : ℕ) (frame : List ℕ) → number < 256 → offset < 2 ^ 64 → length (listingOf number offset frame) ≤ longestListing
 at-most number offset frame h k =
     omega (arith, listing-length number offset frame, refused-most number offset h k, lines-most frame rows 0, lines-all)
 
@@ -161,6 +164,7 @@ abbrev pub striped : ℕ → List ℕ
 striped zero = []
 striped (suc n) = turns 66 ++ striped n
 
+-- each row is the same
 stripe : (n p : ℕ) → p < n → rowOf width (striped n) p ≡ turns 66
 unfolding rowOf
 stripe zero p h = absurd (not-suc-le-zero h)
@@ -169,16 +173,18 @@ stripe (suc n) (suc p) h =
     let e : suc p * width ≡ 132 + p * width = omega arith in
     rw (e, drop-append-add (turns 66) (striped n) (p * width)) (stripe n p (omega (arith, h)))
 
+-- and takes the most that it can
 stripe-lines : (n p : ℕ) → p + n ≤ rows → length (lines width (striped rows) n p) ≡ tall n p
 unfolding lines tall most decimal digits lit anyLit leading runsFrom runs runText runsText ascii
 stripe-lines zero p h = refl
 stripe-lines (suc n) p h =
     rw (length-append, stripe rows p (omega (arith, h)), line-length p (turns 66) refl, stripe-lines n (suc p) (omega (arith, h)))
 
+-- as does what the run prints
 refused-all : length (refusedText 255 (2 ^ 64 - 1)) ≡ 36
 unfolding refusedText ascii decimal digits
 refused-all = refl
 
 -- and one is that long
-pub reached : length (listingOf 255 (2 ^ 64 - 1) (striped rows)) ≡ longest
+pub reached : length (listingOf 255 (2 ^ 64 - 1) (striped rows)) ≡ longestListing
 reached = listing-length 255 (2 ^ 64 - 1) (striped rows) ∙ rw (refused-all, stripe-lines rows 0 (lit≤ tt), lines-all)

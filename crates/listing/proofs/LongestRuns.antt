@@ -4,13 +4,13 @@ use Prim.Native.Nat.{ℕ, zero, suc, _+_, _≤_, _<_}
 use mathlib.Core.Path.{_≡_, refl, sym, _∙_, ap, ap₂}
 use mathlib.Core.Bool.{Bool, true, false, _&&_, _||_, true≢false, false≢true}
 use mathlib.Core.List.{List, [], _∷_}
-use mathlib.Core.Logic.{⊎-elim}
 use native.Mathlib.Nat.{not-suc-le-zero, zero-add, add-suc, suc-add}
 use native.Mathlib.Omega.{arith}
 use borrow.Author.Tests.{ltb-true, ltb-false, leb-true, leb-false, le-leb, lt-leb}
 use lib.Dec.{ltb, leb}
 use lib.ListN.{length, getD}
-use Rattle.listing.specs.Runs.{Run, lit, leading, runsFrom, runs, inside, covered, together, Apart, LongestRuns}
+use Rattle.listing.specs.Runs.{Run, lit, anyLit, leading, runsFrom, runs}
+use Rattle.listing.specs.LongestRuns.{inside, covered, together, Apart, LongestRuns}
 use Rattle.listing.proofs.Walk.{gap}
 
 -- where a run stands to a place
@@ -33,6 +33,7 @@ unfolding covered
 before x [] a y h = refl
 before x (run ∷ more) a y h = rw (left-of run y (omega (arith, h, a .0)), before (run .last + 2) more (a .2) y (omega (arith, h, a .0, a .1)))
 
+-- runs that stand apart from x on do so from any place before it
 sooner : (x y : ℕ) (list : List Run) → y ≤ x → Apart x list → Apart y list
 sooner x y [] h a = tt
 sooner x y (run ∷ more) h a = (omega (arith, h, a .0), a .1, a .2)
@@ -48,6 +49,7 @@ apart-from x zero (suc b ∷ row) =
     let e : x + k + 2 ≡ suc x + suc k = omega arith in
     (omega arith, omega arith, rw (e, gap (suc x) row) (apart-from (suc x) (suc k) row))
 
+-- the leading places are lit
 leading-lit : (row : List ℕ) (y : ℕ) → y < leading row → lit (getD row y 0) ≡ true
 unfolding leading lit
 leading-lit [] y h = absurd (not-suc-le-zero h)
@@ -185,3 +187,24 @@ stretch z (run ∷ more) a x y h all = by (inside run x) (inside run y) refl ref
 -- no run could be longer: lit places side by side are in one run
 pub runs-longest : (row : List ℕ) (x y : ℕ) → x ≤ y → ((p : ℕ) → x ≤ p → p ≤ y → lit (getD row p 0) ≡ true) → together (runs row) x y ≡ true
 runs-longest row x y h all = stretch 0 (runs row) (runs-are row .apart) x y h (λ p f t. runs-are row .exact p ∙ all p f t)
+
+-- a row has runs exactly where it has a lit place, so that no line is without a run
+none-from : (x : ℕ) (row : List ℕ) → anyLit row ≡ false → runsFrom x 0 row ≡ []
+unfolding runsFrom anyLit lit
+none-from x [] e = refl
+none-from x (zero ∷ row) e = none-from (suc x) row e
+none-from x (suc b ∷ row) e = absurd (true≢false e)
+
+some-from : (x : ℕ) (row : List ℕ) → anyLit row ≡ true → runsFrom x 0 row ≡ [] → ⊥
+unfolding runsFrom anyLit lit
+some-from x [] e = absurd (false≢true e)
+some-from x (zero ∷ row) e = some-from (suc x) row e
+some-from x (suc b ∷ row) e = λ h. omega (arith, ap length h)
+
+pub no-runs : (row : List ℕ) → anyLit row ≡ false → runs row ≡ []
+unfolding runs
+no-runs row e = none-from 0 row e
+
+pub some-run : (row : List ℕ) → anyLit row ≡ true → runs row ≡ [] → ⊥
+unfolding runs
+some-run row e = some-from 0 row e

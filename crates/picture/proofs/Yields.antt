@@ -1,11 +1,13 @@
--- What draw's one equation comes to: one outcome for each input, its number, and what a refusal and a drawing leave of the lent frame.
+-- What draw's one equation comes to: one outcome for each input, its number, what a refusal and a drawing leave of the lent frame, and what each place can be.
 -- Assumes nothing.
 use mathlib.Core.Path.{_≡_, refl, sym, _∙_, ap}
 use mathlib.Core.Logic.{_≢_}
 use mathlib.Core.Bool.{Bool, true, false, cond, _||_}
-use mathlib.Core.List.{List, _++_}
-use Prim.Native.Nat.{ℕ}
-use lib.Dec.{ltb}
+use mathlib.Core.List.{List}
+use Prim.Native.Nat.{ℕ, _<_}
+use native.Mathlib.Omega.{arith}
+use native.Mathlib.Nat.{mod-lt}
+use lib.Dec.{ltb, eqb}
 use lib.ListN.{length, drop}
 use lib.Seq.{drop-at}
 use Rattle.bus.specs.Numbers.{taken, tooShort, outOfRange}
@@ -13,10 +15,16 @@ use Rattle.bus.specs.Registers.{registersOf}
 use Rattle.bus.specs.Image.{short, legal, asked}
 use Rattle.bus.specs.declared.image.Asked.{Asked}
 use Rattle.bus.specs.declared.image.Asked.the-variants.{Found, Refused}
-use Rattle.picture.specs.Sizes.{frameSize}
-use Rattle.picture.specs.Frame.{frame}
+use Rattle.picture.specs.Sizes.{height, frameRows, frameSize}
+use Rattle.bus.specs.Sizes.{width}
+use Rattle.bus.specs.declared.registers.Registers.{Registers}
+use Rattle.picture.specs.Rows.{panelRow, rowShows}
+use Rattle.picture.specs.Frame.{turned, bits, lighted, segment, frame, placeOf}
+use Rattle.picture.specs.declared.rows.Shown.{Shown}
+use Rattle.picture.specs.declared.rows.Shown.the-variants.{Dark, Ram}
+use Rattle.picture.proofs.RowRule.{of-both}
 use Rattle.picture.specs.Draw.{drawn, drawOn, draw}
-use Rattle.picture.proofs.Places.{frame-length}
+use Rattle.picture.proofs.Places.{frame-length, frame-place}
 
 -- two outcomes that satisfy the statement are equal
 pub once : (state memory was : List ℕ) {n m : ℕ} {left later : List ℕ} → drawn n left ≡ draw state memory was → drawn m later ≡ draw state memory was → (n ≡ m) × (left ≡ later)
@@ -52,3 +60,12 @@ past state memory was = by-cases (ltb (length was) frameSize) (asked state memor
     by-cases true asking = refl
     by-cases false (Found r) = drop-at (frame r memory) (drop frameSize was) frameSize (frame-length r memory)
     by-cases false (Refused number) = refl
+
+-- each place is dark, 0, or lit, 1
+pub dark-or-lit : (r : Registers) (memory : List ℕ) (y x : ℕ) → y < frameRows → x < width → placeOf y x (frame r memory) < 2
+unfolding segment lighted bits turned
+dark-or-lit r memory y x l k = rw (frame-place r memory y x l k) (of-both (λ v. v < 2) (eqb (r .on) 0) (omega arith) (shade (rowShows height r (panelRow y))))
+  where
+    shade : (shown : Shown) → lighted width r memory shown x < 2
+    shade Dark = omega arith
+    shade (Ram row) = of-both (λ v. v < 2) (eqb (r .entire) 1) (omega arith) (mod-lt _ (omega arith))
