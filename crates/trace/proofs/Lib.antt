@@ -9,6 +9,7 @@ pub mod Ran
 pub mod Cases
 pub mod OneByOne
 pub mod Further
+pub mod Written
 pub mod Joined
 pub mod Sound
 pub mod Kept

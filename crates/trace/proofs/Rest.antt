@@ -41,7 +41,7 @@ split-cut offset [] h e = absurd (h refl)
 split-cut offset (byte ∷ bytes) h e = rw e
 
 -- a whole record, then the rest
-split-whole : (offset : ℕ) (bytes : List ℕ) → whole bytes ≡ true → splitFrom 0 offset bytes ≡ (recordAt offset bytes then splitFrom 0 (offset + (headerSize + lengthOf bytes)) (drop (headerSize + lengthOf bytes) bytes))
+pub split-whole : (offset : ℕ) (bytes : List ℕ) → whole bytes ≡ true → splitFrom 0 offset bytes ≡ (recordAt offset bytes then splitFrom 0 (offset + (headerSize + lengthOf bytes)) (drop (headerSize + lengthOf bytes) bytes))
 unfolding splitFrom
 split-whole offset [] e = absurd (false≢true e)
 split-whole offset (byte ∷ bytes) e =
