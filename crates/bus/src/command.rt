@@ -1,7 +1,7 @@
 // The command byte and the reset pin.
 ghost use mathlib.Core.Path.{_≡_};
 ghost use Rattle.codes.specs.Values.{CommandInRange};
-ghost use Rattle.bus.specs.Events.{command, obeyed, supplied, given, done, enter, leave, softwareReset, resetPin};
+ghost use Rattle.bus.specs.Events.{command, obeyed, supplied, enter, leave, softwareReset, resetPin};
 use crate::answer::After;
 use crate::answer::Answer;
 use crate::refusal::NO_PAGE;
@@ -38,63 +38,57 @@ impl Registers {
         })
     }
 
-    // Obeys a command where no code is awaited.
-    fn obey(self, named: Command) -> Answer
+    // Obeys a command where no code is awaited; every command byte taken sets fresh to 1.
+    fn obey(mut self, named: Command) -> Answer
         requires { ⌜ CommandInRange named ⌝ }
         ensures { λ r. ⌜ r ≡ obeyed named self ⌝ }
     {
         match named {
-            Command::ColumnLow(low) => self.with_column(self.column / 16 * 16 + low).done(),
-            Command::ColumnHigh(high) => self.with_column(high * 16 + self.column % 16).done(),
-            Command::ResistorRatio(ratio) => self.with_ratio(ratio).done(),
-            Command::PowerControl(power) => self.with_power(power).done(),
-            Command::StartLine(line) => self.with_start(line).done(),
-            Command::ColumnDirection(direction) => self.with_mirrored(direction).done(),
-            Command::Bias(bias) => self.with_bias(bias).done(),
-            Command::EntireOn(entire) => self.with_entire(entire).done(),
-            Command::Reverse(reverse) => self.with_reverse(reverse).done(),
-            Command::QuarterBias(bias) => self.with_quarter(bias).done(),
-            Command::IndicatorOff => self.with_indicator(0).with_mode(0).done(),
-            Command::DisplayOn(on) => self.with_on(on).done(),
-            Command::Page(page) => self.with_page(page).done(),
-            Command::NoPage => Answer::Refused(NO_PAGE),
-            Command::RowDirection(direction) => self.with_rows(direction).done(),
-            Command::EnterReadModifyWrite => self.enter().done(),
-            Command::SoftwareReset => self.software_reset().done(),
-            Command::Nothing => self.done(),
-            Command::LeaveReadModifyWrite => self.leave().done(),
-            Command::Await(code) => self.with_awaited(code).done(),
-            Command::Outside => Answer::Refused(OUTSIDE_TABLE),
+            Command::ColumnLow(low) => self.column = self.column / 16 * 16 + low,
+            Command::ColumnHigh(high) => self.column = high * 16 + self.column % 16,
+            Command::ResistorRatio(ratio) => self.ratio = ratio,
+            Command::PowerControl(power) => self.power = power,
+            Command::StartLine(line) => self.start = line,
+            Command::ColumnDirection(direction) => self.mirrored = direction,
+            Command::Bias(bias) => self.bias = bias,
+            Command::EntireOn(entire) => self.entire = entire,
+            Command::Reverse(reverse) => self.reverse = reverse,
+            Command::QuarterBias(bias) => self.quarter = bias,
+            Command::IndicatorOff => self = self.with_indicator(0).with_mode(0),
+            Command::DisplayOn(on) => self.on = on,
+            Command::Page(page) => self.page = page,
+            Command::NoPage => return Answer::Refused(NO_PAGE),
+            Command::RowDirection(direction) => self.rows = direction,
+            Command::EnterReadModifyWrite => self = self.enter(),
+            Command::SoftwareReset => self = self.software_reset(),
+            Command::Nothing => {}
+            Command::LeaveReadModifyWrite => self = self.leave(),
+            Command::Await(code) => self.awaited = code,
+            Command::Outside => return Answer::Refused(OUTSIDE_TABLE),
         }
+        self.fresh = 1;
+        Answer::Taken(After {
+            registers: self,
+            byte: 0,
+            dummy: false,
+        })
     }
 
     // Takes the n of the awaited code, or refuses it; a code that is none of the seven is out of its range.
-    fn supply(self, operand: Operand) -> Answer
+    fn supply(mut self, operand: Operand) -> Answer
         ensures { λ r. ⌜ r ≡ supplied operand self ⌝ }
     {
         match operand {
-            Operand::Contrast(contrast) => self.with_contrast(contrast).given(),
-            Operand::Multiplex(multiplex) => self.with_multiplex(multiplex).given(),
-            Operand::HeldByte(byte) => self.with_held(byte).given(),
-            Operand::IndicatorMode(mode) => self.with_indicator(1).with_mode(mode).given(),
-            Operand::Offset(offset) => self.with_offset(offset).given(),
-            Operand::FramePhases(phases) => self.with_phases(phases).given(),
-            Operand::NotAllowed => Answer::Refused(NOT_ALLOWED),
-            Operand::NotAwaited => Answer::Refused(OUT_OF_RANGE),
+            Operand::Contrast(contrast) => self.contrast = contrast,
+            Operand::Multiplex(multiplex) => self.multiplex = multiplex,
+            Operand::HeldByte(byte) => self.held = byte,
+            Operand::IndicatorMode(mode) => self = self.with_indicator(1).with_mode(mode),
+            Operand::Offset(offset) => self.offset = offset,
+            Operand::FramePhases(phases) => self.phases = phases,
+            Operand::NotAllowed => return Answer::Refused(NOT_ALLOWED),
+            Operand::NotAwaited => return Answer::Refused(OUT_OF_RANGE),
         }
-    }
-
-    // An n taken: no code is awaited any more.
-    fn given(self) -> Answer
-        ensures { λ r. ⌜ r ≡ given self ⌝ }
-    {
-        self.with_awaited(0).done()
-    }
-
-    // A command byte taken: fresh is 1.
-    fn done(mut self) -> Answer
-        ensures { λ r. ⌜ r ≡ done self ⌝ }
-    {
+        self.awaited = 0;
         self.fresh = 1;
         Answer::Taken(After {
             registers: self,

@@ -1,7 +1,7 @@
 // The registers of document 01, in its order.
 ghost use mathlib.Core.Path.{_≡_};
 ghost use Rattle.bus.specs.Registers.{powerOn, powerState, _with_≔_};
-ghost use Rattle.bus.specs.Places.{page, column, start, offset, multiplex, contrast, ratio, power, bias, quarter, held, phases, mirrored, rows, entire, reverse, on, indicator, mode, awaited, modify, saved, fresh};
+ghost use Rattle.bus.specs.Places.{column, fresh, indicator, mode};
 
 pub struct Registers {
     pub page: u8,
@@ -98,122 +98,10 @@ impl Registers {
         PowerState::Awake
     }
 
-    pub fn with_page(mut self, value: u8) -> Registers
-        ensures { λ r. ⌜ r ≡ (self with page ≔ value) ⌝ }
-    {
-        self.page = value;
-        self
-    }
-
     pub fn with_column(mut self, value: u8) -> Registers
         ensures { λ r. ⌜ r ≡ (self with column ≔ value) ⌝ }
     {
         self.column = value;
-        self
-    }
-
-    pub fn with_start(mut self, value: u8) -> Registers
-        ensures { λ r. ⌜ r ≡ (self with start ≔ value) ⌝ }
-    {
-        self.start = value;
-        self
-    }
-
-    pub fn with_offset(mut self, value: u8) -> Registers
-        ensures { λ r. ⌜ r ≡ (self with offset ≔ value) ⌝ }
-    {
-        self.offset = value;
-        self
-    }
-
-    pub fn with_multiplex(mut self, value: u8) -> Registers
-        ensures { λ r. ⌜ r ≡ (self with multiplex ≔ value) ⌝ }
-    {
-        self.multiplex = value;
-        self
-    }
-
-    pub fn with_contrast(mut self, value: u8) -> Registers
-        ensures { λ r. ⌜ r ≡ (self with contrast ≔ value) ⌝ }
-    {
-        self.contrast = value;
-        self
-    }
-
-    pub fn with_ratio(mut self, value: u8) -> Registers
-        ensures { λ r. ⌜ r ≡ (self with ratio ≔ value) ⌝ }
-    {
-        self.ratio = value;
-        self
-    }
-
-    pub fn with_power(mut self, value: u8) -> Registers
-        ensures { λ r. ⌜ r ≡ (self with power ≔ value) ⌝ }
-    {
-        self.power = value;
-        self
-    }
-
-    pub fn with_bias(mut self, value: u8) -> Registers
-        ensures { λ r. ⌜ r ≡ (self with bias ≔ value) ⌝ }
-    {
-        self.bias = value;
-        self
-    }
-
-    pub fn with_quarter(mut self, value: u8) -> Registers
-        ensures { λ r. ⌜ r ≡ (self with quarter ≔ value) ⌝ }
-    {
-        self.quarter = value;
-        self
-    }
-
-    pub fn with_held(mut self, value: u8) -> Registers
-        ensures { λ r. ⌜ r ≡ (self with held ≔ value) ⌝ }
-    {
-        self.held = value;
-        self
-    }
-
-    pub fn with_phases(mut self, value: u8) -> Registers
-        ensures { λ r. ⌜ r ≡ (self with phases ≔ value) ⌝ }
-    {
-        self.phases = value;
-        self
-    }
-
-    pub fn with_mirrored(mut self, value: u8) -> Registers
-        ensures { λ r. ⌜ r ≡ (self with mirrored ≔ value) ⌝ }
-    {
-        self.mirrored = value;
-        self
-    }
-
-    pub fn with_rows(mut self, value: u8) -> Registers
-        ensures { λ r. ⌜ r ≡ (self with rows ≔ value) ⌝ }
-    {
-        self.rows = value;
-        self
-    }
-
-    pub fn with_entire(mut self, value: u8) -> Registers
-        ensures { λ r. ⌜ r ≡ (self with entire ≔ value) ⌝ }
-    {
-        self.entire = value;
-        self
-    }
-
-    pub fn with_reverse(mut self, value: u8) -> Registers
-        ensures { λ r. ⌜ r ≡ (self with reverse ≔ value) ⌝ }
-    {
-        self.reverse = value;
-        self
-    }
-
-    pub fn with_on(mut self, value: u8) -> Registers
-        ensures { λ r. ⌜ r ≡ (self with on ≔ value) ⌝ }
-    {
-        self.on = value;
         self
     }
 
@@ -228,13 +116,6 @@ impl Registers {
         ensures { λ r. ⌜ r ≡ (self with mode ≔ value) ⌝ }
     {
         self.mode = value;
-        self
-    }
-
-    pub fn with_awaited(mut self, value: u8) -> Registers
-        ensures { λ r. ⌜ r ≡ (self with awaited ≔ value) ⌝ }
-    {
-        self.awaited = value;
         self
     }
 
