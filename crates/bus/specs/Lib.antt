@@ -7,3 +7,4 @@ pub mod Events
 pub mod Machine
 pub mod Image
 pub mod Calls
+pub mod Given

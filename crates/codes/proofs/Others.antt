@@ -8,63 +8,8 @@ use native.Mathlib.Nat.{not-suc-le-zero, le-of-suc-le-suc, eq-or-lt-of-le}
 use mathlib.Core.Logic.{⊎-elim}
 use lib.Dec.{leb}
 use Rattle.codes.proofs.Tests.{both}
+use Rattle.codes.specs.Others.{others, among, isOutside}
 use Rattle.codes.specs.Table.{table, commandBy, commandOf}
-use Rattle.codes.specs.declared.Command.{Command}
-use Rattle.codes.specs.declared.Command.the-variants.{
-  ColumnLow,
-  ColumnHigh,
-  ResistorRatio,
-  PowerControl,
-  StartLine,
-  ColumnDirection,
-  Bias,
-  EntireOn,
-  Reverse,
-  QuarterBias,
-  IndicatorOff,
-  DisplayOn,
-  Page,
-  NoPage,
-  RowDirection,
-  EnterReadModifyWrite,
-  SoftwareReset,
-  Nothing,
-  LeaveReadModifyWrite,
-  Await,
-  Outside,
-}
-
--- document 01's list of all others, from each first to each last
-abbrev pub others : List (ℕ × ℕ)
-others =
-    (0x30, 0x3F) ∷ (0x80, 0x80) ∷ (0x82, 0x9F) ∷ (0xD0, 0xD2) ∷ (0xD5, 0xDF) ∷ (0xE1, 0xE1) ∷ (0xE4, 0xED) ∷ (0xEF, 0xEF) ∷ (0xF0, 0xFF) ∷ []
-
-abbrev pub among : List (ℕ × ℕ) → ℕ → Bool
-among [] b = false
-among (span ∷ spans) b = (leb (span .0) b && leb b (span .1)) || among spans b
-
-abbrev pub isOutside : Command → Bool
-isOutside (ColumnLow low) = false
-isOutside (ColumnHigh high) = false
-isOutside (ResistorRatio ratio) = false
-isOutside (PowerControl power) = false
-isOutside (StartLine line) = false
-isOutside (ColumnDirection direction) = false
-isOutside (Bias bias) = false
-isOutside (EntireOn entire) = false
-isOutside (Reverse reverse) = false
-isOutside (QuarterBias bias) = false
-isOutside IndicatorOff = false
-isOutside (DisplayOn on) = false
-isOutside (Page page) = false
-isOutside NoPage = false
-isOutside (RowDirection direction) = false
-isOutside EnterReadModifyWrite = false
-isOutside SoftwareReset = false
-isOutside Nothing = false
-isOutside LeaveReadModifyWrite = false
-isOutside (Await code) = false
-isOutside Outside = true
 
 equal : (s t : Bool) → Bool·beq s t ≡ true → s ≡ t
 equal true true e = refl

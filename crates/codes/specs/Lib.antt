@@ -1,3 +1,4 @@
 pub mod OneOf
 pub mod Table
+pub mod Others
 pub mod Values

@@ -1,0 +1,92 @@
+-- Document 01, "Numbers given", as a table for a single event's call: which number it gives. Exactly.antt proves that the calls give these.
+use Prim.Native.Nat.{ℕ}
+use mathlib.Core.Bool.{Bool, true, false, cond, not, _&&_}
+use mathlib.Core.List.{List}
+use lib.Dec.{leb, eqb}
+use Rattle.codes.specs.Table.{commandOf, operandOf}
+use Rattle.codes.specs.declared.Command.{Command}
+use Rattle.codes.specs.declared.Command.the-variants.{
+  ColumnLow,
+  ColumnHigh,
+  ResistorRatio,
+  PowerControl,
+  StartLine,
+  ColumnDirection,
+  Bias,
+  EntireOn,
+  Reverse,
+  QuarterBias,
+  IndicatorOff,
+  DisplayOn,
+  Page,
+  NoPage,
+  RowDirection,
+  EnterReadModifyWrite,
+  SoftwareReset,
+  Nothing,
+  LeaveReadModifyWrite,
+  Await,
+  Outside,
+}
+use Rattle.codes.specs.declared.Operand.{Operand}
+use Rattle.codes.specs.declared.Operand.the-variants.{Contrast, Multiplex, HeldByte, IndicatorMode, Offset, FramePhases, NotAllowed, NotAwaited}
+use Rattle.bus.specs.Sizes.{lastColumn}
+use Rattle.bus.specs.Numbers.{taken, tooShort, outOfRange, outsideTable, noPage, notAllowed, codeAwaited, columnAbove}
+use Rattle.bus.specs.Registers.{registersOf}
+use Rattle.bus.specs.Machine.{Event, commandByte, dataWritten, dataRead, resetPulse}
+use Rattle.bus.specs.Image.{short, legal}
+use Rattle.bus.specs.declared.registers.Registers.{Registers}
+
+-- 3 for a byte outside the table, 4 for B9-BF
+abbrev pub numberOfCommand : Command → ℕ
+numberOfCommand (ColumnLow low) = taken
+numberOfCommand (ColumnHigh high) = taken
+numberOfCommand (ResistorRatio ratio) = taken
+numberOfCommand (PowerControl power) = taken
+numberOfCommand (StartLine line) = taken
+numberOfCommand (ColumnDirection direction) = taken
+numberOfCommand (Bias bias) = taken
+numberOfCommand (EntireOn entire) = taken
+numberOfCommand (Reverse reverse) = taken
+numberOfCommand (QuarterBias bias) = taken
+numberOfCommand IndicatorOff = taken
+numberOfCommand (DisplayOn on) = taken
+numberOfCommand (Page page) = taken
+numberOfCommand NoPage = noPage
+numberOfCommand (RowDirection direction) = taken
+numberOfCommand EnterReadModifyWrite = taken
+numberOfCommand SoftwareReset = taken
+numberOfCommand Nothing = taken
+numberOfCommand LeaveReadModifyWrite = taken
+numberOfCommand (Await code) = taken
+numberOfCommand Outside = outsideTable
+
+-- 5 for an n that is not allowed
+abbrev pub numberOfOperand : Operand → ℕ
+numberOfOperand (Contrast value) = taken
+numberOfOperand (Multiplex value) = taken
+numberOfOperand (HeldByte value) = taken
+numberOfOperand (IndicatorMode value) = taken
+numberOfOperand (Offset value) = taken
+numberOfOperand (FramePhases value) = taken
+numberOfOperand NotAllowed = notAllowed
+numberOfOperand NotAwaited = outOfRange
+
+-- what the registers of a legal state meet: 3, 4 or 5 of a command byte, 6 before 7 of a data event, nothing of the reset pin
+abbrev pub numberOfEvent : Event → Registers → ℕ
+numberOfEvent (commandByte b) r = cond (eqb (r .awaited) 0) (numberOfCommand (commandOf b)) (numberOfOperand (operandOf (r .awaited) b))
+numberOfEvent (dataWritten b) r = cond (eqb (r .awaited) 0) (cond (leb (r .column) lastColumn) taken columnAbove) codeAwaited
+numberOfEvent dataRead r = cond (eqb (r .awaited) 0) (cond (leb (r .column) lastColumn) taken columnAbove) codeAwaited
+numberOfEvent resetPulse r = taken
+
+-- 2 is not asked at a single reset-pin event
+abbrev pub asksRanges : Event → Bool
+asksRanges (commandByte b) = true
+asksRanges (dataWritten b) = true
+asksRanges dataRead = true
+asksRanges resetPulse = false
+
+-- the table, the lower of 1 and 2 first
+abbrev pub numberGiven : Event → List ℕ → List ℕ → ℕ
+numberGiven event state memory =
+    cond (short state memory) tooShort (cond (asksRanges event && not (legal state)) outOfRange (numberOfEvent event (registersOf state)))
