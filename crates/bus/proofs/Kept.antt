@@ -38,7 +38,7 @@ use Rattle.codes.specs.declared.Command.the-variants.{
 }
 use Rattle.codes.specs.declared.Operand.{Operand}
 use Rattle.codes.specs.declared.Operand.the-variants.{Contrast, Multiplex, HeldByte, IndicatorMode, Offset, FramePhases, NotAllowed, NotAwaited}
-use Rattle.codes.proofs.Tests.{both, one-of-at-most}
+use Rattle.codes.proofs.Tests.{both, chosen, one-of-at-most}
 use Rattle.codes.proofs.InRange.{command-in-range, operand-in-range}
 use Rattle.bus.specs.Sizes.{imageSize, memorySize}
 use Rattle.bus.specs.Numbers.{taken, tooShort, outOfRange}
@@ -131,20 +131,6 @@ pub bound : (r : Registers) → LegalRegisters r → (place : ℕ) → place < 2
 unfolding largestValues
 bound r l place h = within-at largestValues (imageOf r) place (l .inRanges) h
 
--- a test chooses between two that are legal
-chosen : (t : Bool) (r s : Registers) → (t ≡ true → LegalRegisters r) → (t ≡ false → LegalRegisters s) → LegalRegisters (cond t r s)
-chosen true r s p q = p refl
-chosen false r s p q = q refl
-
--- a test chooses between two answers, or two numbers
-either-keeps : (t : Bool) (x y : Answer) → Keeps x → Keeps y → Keeps (cond t x y)
-either-keeps true x y p q = p
-either-keeps false x y p q = q
-
-at-most : (t : Bool) (x y : ℕ) {most : ℕ} → x ≤ most → y ≤ most → cond t x y ≤ most
-at-most true x y p q = p
-at-most false x y p q = q
-
 -- a data write or read that is not taken is refused
 taken-keeps : (number : ℕ) (x : Answer) → (number ≡ taken → Keeps x) → Keeps (cond (eqb number taken) x (Refused number))
 taken-keeps number x p = by (eqb number taken) refl
@@ -169,13 +155,13 @@ code-legal code h = rw h (or-true (eqb code 0))
 enter-keeps : (r : Registers) → LegalRegisters r → LegalRegisters (enter r)
 unfolding largestValues
 enter-keeps r l =
-    chosen (eqb (r .modify) 1) r _ (λ e. l)
+    chosen LegalRegisters (eqb (r .modify) 1) r _ (λ e. l)
     (λ e. record { inRanges = put _ saved (r .column) (put r modify 1 (l .inRanges) (lit≤ tt)) (bound r l column (lit≤ tt)); code = l .code; savedZero = refl })
 
 leave-keeps : (r : Registers) → LegalRegisters r → LegalRegisters (leave r)
 unfolding largestValues
 leave-keeps r l =
-    chosen (eqb (r .modify) 1) _ r
+    chosen LegalRegisters (eqb (r .modify) 1) _ r
     (λ e. record {
       inRanges = put _ saved 0 (put _ column (r .saved) (put r modify 0 (l .inRanges) (lit≤ tt)) (bound r l saved (lit≤ tt))) (lit≤ tt);
       code = l .code;
@@ -253,11 +239,11 @@ supplied-keeps NotAwaited r h l = tt
 
 command-keeps : (b : ℕ) (r : Registers) → b < 256 → LegalRegisters r → Keeps (command b r)
 unfolding command
-command-keeps b r h l = either-keeps (eqb (r .awaited) 0) _ _ (obeyed-keeps (commandOf b) r (command-in-range b) l) (supplied-keeps (operandOf (r .awaited) b) r (operand-in-range (r .awaited) b h) l)
+command-keeps b r h l = chosen Keeps (eqb (r .awaited) 0) _ _ (λ e. obeyed-keeps (commandOf b) r (command-in-range b) l) (λ e. supplied-keeps (operandOf (r .awaited) b) r (operand-in-range (r .awaited) b h) l)
 
 onward-bound : (column : ℕ) → column ≤ 131 → onward column ≤ 255
 unfolding onward
-onward-bound column h = at-most (eqb column 131) 0 (column + 1) (lit≤ tt) (omega arith)
+onward-bound column h = chosen (λ c. c ≤ 255) (eqb column 131) 0 (column + 1) (λ e. lit≤ tt) (λ e. omega arith)
 
 moved-keeps : (r : Registers) (size : ℕ) → LegalRegisters r → access r size ≡ taken → LegalRegisters (moved r)
 unfolding largestValues
@@ -271,7 +257,7 @@ read-keeps : (r : Registers) (memory : List ℕ) → LegalRegisters r → Keeps 
 unfolding read largestValues
 read-keeps r memory l =
     taken-keeps (access r (length memory)) _
-    (λ e. either-keeps (eqb (r .fresh) 1) _ _ (set-plain r fresh 0 l (lit≤ tt) refl refl refl) (chosen (eqb (r .modify) 1) r (moved r) (λ f. l) (λ f. moved-keeps r (length memory) l e)))
+    (λ e. chosen Keeps (eqb (r .fresh) 1) _ _ (λ f. set-plain r fresh 0 l (lit≤ tt) refl refl refl) (λ g. chosen LegalRegisters (eqb (r .modify) 1) r (moved r) (λ f. l) (λ f. moved-keeps r (length memory) l e)))
 
 power-on-legal : LegalRegisters powerOn
 unfolding powerOn largestValues within awaitedCodes

@@ -7,7 +7,7 @@ use Prim.Native.Nat.{ℕ, _≤_, _<_, _%_}
 use native.Mathlib.Omega.{arith}
 use lib.Dec.{leb, eqb}
 use borrow.Author.Tests.{leb-true, eqb-true}
-use Rattle.codes.proofs.Tests.{both, one-of-at-most}
+use Rattle.codes.proofs.Tests.{both, chosen, one-of-at-most}
 use Rattle.codes.specs.Table.{Row, one, two, table, commandBy, commandOf, operandBy, operandOf, offsetOf, framePhasesOf}
 use Rattle.codes.specs.OneOf.{oneOf}
 use Rattle.codes.specs.Values.{codesOf, CommandInRange, OperandInRange}
@@ -20,19 +20,14 @@ Sound [] = Unit {0}
 Sound (one first last means ∷ rows) = ((b : ℕ) → first ≤ b → b ≤ last → CommandInRange (means b)) × Sound rows
 Sound (two code gives ∷ rows) = (oneOf (codesOf table) code ≡ true) × Sound rows
 
--- of two things that a test chooses between, each that can be chosen has the property
-chosen : (P : Command → Type 0) (t : Bool) (x y : Command) → (t ≡ true → P x) → P y → P (cond t x y)
-chosen P true x y p q = p refl
-chosen P false x y p q = q
-
 carried-by : (rows : List Row) (b : ℕ) → Sound rows → CommandInRange (commandBy rows b)
 unfolding commandBy
 carried-by [] b s = tt
 carried-by (one first last means ∷ rows) b s =
     let halves = both (leb first b) (leb b last) in
-    chosen CommandInRange (leb first b && leb b last) (means b) (commandBy rows b) (λ e. s .0 b (leb-true first b (halves e .0)) (leb-true b last (halves e .1))) (carried-by rows b (s .1))
+    chosen CommandInRange (leb first b && leb b last) (means b) (commandBy rows b) (λ e. s .0 b (leb-true first b (halves e .0)) (leb-true b last (halves e .1))) (λ e. carried-by rows b (s .1))
 carried-by (two code gives ∷ rows) b s =
-    chosen CommandInRange (eqb b code) _ (commandBy rows b) (λ e. rw (eqb-true b code e) (s .0)) (carried-by rows b (s .1))
+    chosen CommandInRange (eqb b code) _ (commandBy rows b) (λ e. rw (eqb-true b code e) (s .0)) (λ e. carried-by rows b (s .1))
 
 sound : Sound table
 unfolding table codesOf
@@ -49,25 +44,21 @@ SoundOperands [] = Unit {0}
 SoundOperands (one first last means ∷ rows) = SoundOperands rows
 SoundOperands (two code gives ∷ rows) = ((n : ℕ) → n < 256 → OperandInRange (gives n)) × SoundOperands rows
 
-picked : (P : Operand → Type 0) (t : Bool) (x y : Operand) → (t ≡ true → P x) → P y → P (cond t x y)
-picked P true x y p q = p refl
-picked P false x y p q = q
-
 given-by : (rows : List Row) (code n : ℕ) → n < 256 → SoundOperands rows → OperandInRange (operandBy rows code n)
 unfolding operandBy
 given-by [] code n h s = tt
 given-by (one first last means ∷ rows) code n h s = given-by rows code n h s
-given-by (two awaited gives ∷ rows) code n h s = picked OperandInRange (eqb code awaited) (gives n) (operandBy rows code n) (λ e. s .0 n h) (given-by rows code n h (s .1))
+given-by (two awaited gives ∷ rows) code n h s = chosen OperandInRange (eqb code awaited) (gives n) (operandBy rows code n) (λ e. s .0 n h) (λ e. given-by rows code n h (s .1))
 
 offset-given : (n : ℕ) → OperandInRange (offsetOf n)
 unfolding offsetOf
-offset-given n = picked OperandInRange (leb n 0x3F) _ _ (λ e. omega (arith, leb-true n 0x3F e)) tt
+offset-given n = chosen OperandInRange (leb n 0x3F) _ _ (λ e. omega (arith, leb-true n 0x3F e)) (λ e. tt)
 
 phases-given : (n : ℕ) → OperandInRange (framePhasesOf n)
 unfolding framePhasesOf
 phases-given n =
     let phases : List ℕ = 0x00 ∷ 0x10 ∷ 0x20 ∷ 0x30 ∷ [] in
-    picked OperandInRange (oneOf phases n) _ _ (λ e. omega (arith, one-of-at-most 0x30 phases n refl e)) tt
+    chosen OperandInRange (oneOf phases n) _ _ (λ e. omega (arith, one-of-at-most 0x30 phases n refl e)) (λ e. tt)
 
 sound-operands : SoundOperands table
 unfolding table
