@@ -8,7 +8,7 @@ use native.Mathlib.Omega.{arith}
 use lib.Dec.{leb, eqb, lit<}
 use lib.ListN.{length}
 use borrow.Author.Tests.{le-ltb, lt-ltb, eqb-true}
-use Rattle.codes.specs.Table.{commandOf, operandOf}
+use Rattle.codes.specs.Table.{meaningOf}
 use Rattle.codes.specs.declared.Command.{Command}
 use Rattle.codes.specs.declared.Command.the-variants.{
   ColumnLow,
@@ -16,32 +16,38 @@ use Rattle.codes.specs.declared.Command.the-variants.{
   ResistorRatio,
   PowerControl,
   StartLine,
+  Contrast,
   ColumnDirection,
   Bias,
   EntireOn,
   Reverse,
+  Multiplex,
+  HeldByte,
   QuarterBias,
   IndicatorOff,
+  IndicatorMode,
   DisplayOn,
   Page,
   NoPage,
   RowDirection,
+  Offset,
+  FramePhases,
   EnterReadModifyWrite,
   SoftwareReset,
   Nothing,
   LeaveReadModifyWrite,
   Await,
+  NotAllowed,
+  NotAwaited,
   Outside,
 }
-use Rattle.codes.specs.declared.Operand.{Operand}
-use Rattle.codes.specs.declared.Operand.the-variants.{Contrast, Multiplex, HeldByte, IndicatorMode, Offset, FramePhases, NotAllowed, NotAwaited}
 use Rattle.bus.specs.Sizes.{lastColumn, pages, memorySize}
 use Rattle.bus.specs.Numbers.{taken, tooShort, outOfRange, outsideTable, noPage, notAllowed, codeAwaited, columnAbove}
 use Rattle.bus.specs.Registers.{largestValues, registersOf}
-use Rattle.bus.specs.Events.{numberOf, obeyed, supplied, command, access, write, dummyRead, byteRead, read, resetPin}
+use Rattle.bus.specs.Events.{numberOf, obeyed, command, access, write, dummyRead, byteRead, read, resetPin}
 use Rattle.bus.specs.Machine.{Event, commandByte, dataWritten, dataRead, resetPulse, step}
 use Rattle.bus.specs.Image.{short, legal, asked}
-use Rattle.bus.specs.Given.{numberOfCommand, numberOfOperand, numberOfEvent, numberGiven}
+use Rattle.bus.specs.Given.{numberOfCommand, numberOfEvent, numberGiven}
 use Rattle.bus.specs.Calls.{replyOf, concluded, refused, askedBefore, callOn, call}
 use Rattle.bus.specs.declared.registers.Registers.{Registers}
 use Rattle.bus.specs.declared.answer.Answer.{Answer}
@@ -53,43 +59,35 @@ use Rattle.bus.proofs.Kept.{bound, state-facts}
 
 obeyed-number : (named : Command) (r : Registers) → numberOf (obeyed named r) ≡ numberOfCommand named
 unfolding obeyed numberOf
-obeyed-number (ColumnLow low) r = refl
-obeyed-number (ColumnHigh high) r = refl
-obeyed-number (ResistorRatio ratio) r = refl
-obeyed-number (PowerControl power) r = refl
-obeyed-number (StartLine line) r = refl
-obeyed-number (ColumnDirection direction) r = refl
-obeyed-number (Bias bias) r = refl
-obeyed-number (EntireOn entire) r = refl
-obeyed-number (Reverse reverse) r = refl
-obeyed-number (QuarterBias bias) r = refl
+obeyed-number (ColumnLow value) r = refl
+obeyed-number (ColumnHigh value) r = refl
+obeyed-number (ResistorRatio value) r = refl
+obeyed-number (PowerControl value) r = refl
+obeyed-number (StartLine value) r = refl
+obeyed-number (Contrast value) r = refl
+obeyed-number (ColumnDirection value) r = refl
+obeyed-number (Bias value) r = refl
+obeyed-number (EntireOn value) r = refl
+obeyed-number (Reverse value) r = refl
+obeyed-number (Multiplex value) r = refl
+obeyed-number (HeldByte value) r = refl
+obeyed-number (QuarterBias value) r = refl
 obeyed-number IndicatorOff r = refl
-obeyed-number (DisplayOn on) r = refl
-obeyed-number (Page page) r = refl
+obeyed-number (IndicatorMode value) r = refl
+obeyed-number (DisplayOn value) r = refl
+obeyed-number (Page value) r = refl
 obeyed-number NoPage r = refl
-obeyed-number (RowDirection direction) r = refl
+obeyed-number (RowDirection value) r = refl
+obeyed-number (Offset value) r = refl
+obeyed-number (FramePhases value) r = refl
 obeyed-number EnterReadModifyWrite r = refl
 obeyed-number SoftwareReset r = refl
 obeyed-number Nothing r = refl
 obeyed-number LeaveReadModifyWrite r = refl
-obeyed-number (Await code) r = refl
+obeyed-number (Await value) r = refl
+obeyed-number NotAllowed r = refl
+obeyed-number NotAwaited r = refl
 obeyed-number Outside r = refl
-
-supplied-number : (operand : Operand) (r : Registers) → numberOf (supplied operand r) ≡ numberOfOperand operand
-unfolding supplied numberOf
-supplied-number (Contrast value) r = refl
-supplied-number (Multiplex value) r = refl
-supplied-number (HeldByte value) r = refl
-supplied-number (IndicatorMode value) r = refl
-supplied-number (Offset value) r = refl
-supplied-number (FramePhases value) r = refl
-supplied-number NotAllowed r = refl
-supplied-number NotAwaited r = refl
-
--- of two answers that a test chooses between, the number is chosen by the test
-chosen : (t : Bool) (x y : Answer) (m n : ℕ) → numberOf x ≡ m → numberOf y ≡ n → numberOf (cond t x y) ≡ cond t m n
-chosen true x y m n p q = p
-chosen false x y m n p q = q
 
 -- an event that is taken where a number is 0 and else refused with it has that number
 guarded : (number : ℕ) (x : Answer) → numberOf x ≡ taken → numberOf (cond (eqb number taken) x (Refused number)) ≡ number
@@ -107,7 +105,7 @@ access-number r size h p = rw (le-ltb size memorySize h, lt-ltb (r .page) pages 
 
 event-number : (event : Event) (r : Registers) (memory : List ℕ) → memorySize ≤ length memory → r .page < pages → numberOf (step event r memory .answer) ≡ numberOfEvent event r
 unfolding step command write read resetPin numberOf
-event-number (commandByte b) r memory h p = chosen (eqb (r .awaited) 0) _ _ _ _ (obeyed-number (commandOf b) r) (supplied-number (operandOf (r .awaited) b) r)
+event-number (commandByte b) r memory h p = obeyed-number (meaningOf (r .awaited) b) _
 event-number (dataWritten b) r memory h p = guarded (access r (length memory)) _ refl ∙ access-number r (length memory) h p
 event-number dataRead r memory h p = guarded (access r (length memory)) _ (by (eqb (r .fresh) 1)) ∙ access-number r (length memory) h p
   where

@@ -14,25 +14,31 @@ use Rattle.codes.specs.declared.Command.the-variants.{
   ResistorRatio,
   PowerControl,
   StartLine,
+  Contrast,
   ColumnDirection,
   Bias,
   EntireOn,
   Reverse,
+  Multiplex,
+  HeldByte,
   QuarterBias,
   IndicatorOff,
+  IndicatorMode,
   DisplayOn,
   Page,
   NoPage,
   RowDirection,
+  Offset,
+  FramePhases,
   EnterReadModifyWrite,
   SoftwareReset,
   Nothing,
   LeaveReadModifyWrite,
   Await,
+  NotAllowed,
+  NotAwaited,
   Outside,
 }
-use Rattle.codes.specs.declared.Operand.{Operand}
-use Rattle.codes.specs.declared.Operand.the-variants.{Contrast, Multiplex, HeldByte, IndicatorMode, Offset, FramePhases, NotAllowed, NotAwaited}
 use Rattle.bus.specs.Numbers.{taken}
 use Rattle.bus.specs.Events.{command, obeyed, supplied, access, write, read, resetPin}
 use Rattle.bus.specs.Machine.{Chip, Event, commandByte, dataWritten, dataRead, resetPulse, step}
