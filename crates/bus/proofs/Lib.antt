@@ -7,3 +7,4 @@ pub mod Untouched
 pub mod Settled
 pub mod Ranges
 pub mod Exactly
+pub mod Waiting
