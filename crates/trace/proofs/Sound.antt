@@ -6,7 +6,7 @@ use mathlib.Core.List.{List}
 use Prim.Native.Nat.{ℕ}
 use lib.Dec.{eqb}
 use lib.ListN.{length}
-use Rattle.codes.specs.Table.{commandOf, operandOf}
+use Rattle.codes.specs.Table.{meaningOf}
 use Rattle.codes.specs.declared.Command.{Command}
 use Rattle.codes.specs.declared.Command.the-variants.{
   ColumnLow,
@@ -40,7 +40,7 @@ use Rattle.codes.specs.declared.Command.the-variants.{
   Outside,
 }
 use Rattle.bus.specs.Numbers.{taken}
-use Rattle.bus.specs.Events.{command, obeyed, supplied, access, write, read, resetPin}
+use Rattle.bus.specs.Events.{command, obeyed, access, write, read, resetPin}
 use Rattle.bus.specs.Machine.{Chip, Event, commandByte, dataWritten, dataRead, resetPulse, step}
 use Rattle.bus.specs.declared.registers.Registers.{Registers}
 use Rattle.bus.specs.declared.answer.Answer.{Answer}
@@ -60,38 +60,35 @@ either false a b p q = q
 
 obeyed-honest : (named : Command) (r : Registers) → honest (obeyed named r) ≡ true
 unfolding obeyed
-obeyed-honest (ColumnLow low) r = refl
-obeyed-honest (ColumnHigh high) r = refl
+obeyed-honest (ColumnLow value) r = refl
+obeyed-honest (ColumnHigh value) r = refl
 obeyed-honest (ResistorRatio value) r = refl
 obeyed-honest (PowerControl value) r = refl
 obeyed-honest (StartLine value) r = refl
+obeyed-honest (Contrast value) r = refl
 obeyed-honest (ColumnDirection value) r = refl
 obeyed-honest (Bias value) r = refl
 obeyed-honest (EntireOn value) r = refl
 obeyed-honest (Reverse value) r = refl
+obeyed-honest (Multiplex value) r = refl
+obeyed-honest (HeldByte value) r = refl
 obeyed-honest (QuarterBias value) r = refl
 obeyed-honest IndicatorOff r = refl
+obeyed-honest (IndicatorMode value) r = refl
 obeyed-honest (DisplayOn value) r = refl
 obeyed-honest (Page value) r = refl
 obeyed-honest NoPage r = refl
 obeyed-honest (RowDirection value) r = refl
+obeyed-honest (Offset value) r = refl
+obeyed-honest (FramePhases value) r = refl
 obeyed-honest EnterReadModifyWrite r = refl
 obeyed-honest SoftwareReset r = refl
 obeyed-honest Nothing r = refl
 obeyed-honest LeaveReadModifyWrite r = refl
-obeyed-honest (Await code) r = refl
+obeyed-honest (Await value) r = refl
+obeyed-honest NotAllowed r = refl
+obeyed-honest NotAwaited r = refl
 obeyed-honest Outside r = refl
-
-supplied-honest : (operand : Operand) (r : Registers) → honest (supplied operand r) ≡ true
-unfolding supplied
-supplied-honest (Contrast value) r = refl
-supplied-honest (Multiplex value) r = refl
-supplied-honest (HeldByte value) r = refl
-supplied-honest (IndicatorMode value) r = refl
-supplied-honest (Offset value) r = refl
-supplied-honest (FramePhases value) r = refl
-supplied-honest NotAllowed r = refl
-supplied-honest NotAwaited r = refl
 
 accessed : (number : ℕ) (t : Bool) (a : Answer) → eqb number taken ≡ t → honest a ≡ true → honest (cond t a (Refused number)) ≡ true
 accessed number true a e p = p
@@ -100,7 +97,7 @@ accessed number false a e p = rw e
 -- no event is refused with 0
 pub step-honest : (e : Event) (r : Registers) (memory : List ℕ) → honest (step e r memory .answer) ≡ true
 unfolding step command write read resetPin
-step-honest (commandByte b) r memory = either (eqb (r .awaited) 0) _ _ (obeyed-honest (commandOf b) r) (supplied-honest (operandOf (r .awaited) b) r)
+step-honest (commandByte b) r memory = obeyed-honest (meaningOf (r .awaited) b) _
 step-honest (dataWritten b) r memory = accessed (access r (length memory)) _ _ refl refl
 step-honest dataRead r memory = accessed (access r (length memory)) _ _ refl (either (eqb (r .fresh) 1) _ _ refl refl)
 step-honest resetPulse r memory = refl

@@ -5,7 +5,7 @@ ghost use Rattle.trace.specs.Play.{play};
 ghost use Rattle.trace.specs.Chip.{theChip, chipOf};
 ghost use Rattle.trace.specs.Code.{playedOf};
 ghost use Rattle.trace.specs.Run.{ran, run};
-use crate::events::Progress;
+use crate::events::Ended;
 use crate::reader::read_at;
 use crate::record::obey;
 use crate::records::Front;
@@ -57,17 +57,20 @@ fn play(mut registers: Registers, memory: &mut [u8], trace: &[u8]) -> Finish
         match read_at(trace, at) {
             Front::Nothing => return end(TAKEN, at, count, registers),
             Front::Cut => return end(HEADER_CUT, at, count, registers),
-            Front::Whole(header) => match obey(header, registers, memory, trace, at) {
-                Progress::Done(left) => {
-                    registers = left;
-                    at = at + 4 + header.length;
-                    count += 1;
+            Front::Whole(header) => {
+                let progress = obey(header, registers, memory, trace, at);
+                registers = progress.registers;
+                let ended = progress.ended;
+                match ended {
+                    Ended::Done => {
+                        at = at + 4 + header.length;
+                        count += 1;
+                    }
+                    Ended::Stopped(halt) => {
+                        return end(halt.number, halt.offset, count, registers);
+                    }
                 }
-                Progress::Stopped(halt) => {
-                    let left = halt.registers;
-                    return end(halt.number, halt.offset, count, left);
-                }
-            },
+            }
         }
     }
 }
