@@ -8,3 +8,4 @@ pub mod Settled
 pub mod Ranges
 pub mod Exactly
 pub mod Waiting
+pub mod Silent

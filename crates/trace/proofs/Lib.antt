@@ -17,3 +17,4 @@ pub mod Stored
 pub mod Held
 pub mod Runs
 pub mod ByCalls
+pub mod Alone

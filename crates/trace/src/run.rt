@@ -48,7 +48,7 @@ pub fn run(state: &mut [u8], memory: &mut [u8], trace: &[u8]) -> Stop
 }
 
 // Plays the records of a trace from given registers and memory.
-fn play(mut registers: Registers, memory: &mut [u8], trace: &[u8]) -> Finish
+pub fn play(mut registers: Registers, memory: &mut [u8], trace: &[u8]) -> Finish
     ensures { λ r. ⌜ playedOf r (now (memory .exit)) ≡ play theChip (split (now (trace .entry))) (chipOf registers (now (memory .entry))) ⌝ }
 {
     let mut at = 0;

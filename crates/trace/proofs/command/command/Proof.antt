@@ -1,12 +1,12 @@
--- `bus::calls::command` meets its contract: what the registers answer is concluded, and what was refused first stays refused.
+-- `trace::command::command` meets its contract: what the byte answers is concluded, and what was refused first stays refused.
 -- Assumes nothing.
 use borrow.Author.Needs.{needs}
-use Rattle.bus.proofs.calls.command.Statement.{statement}
-use Rattle.bus.proofs.calls.command.Tie as tie
 use mathlib.Core.Path.{refl}
 use Rattle.bus.specs.Machine.{commandByte, step}
 use Rattle.bus.specs.Calls.{askedBefore}
 use Rattle.bus.proofs.Concluded.{concludes, refuses}
+use Rattle.trace.proofs.command.command.Statement.{statement}
+use Rattle.trace.proofs.command.command.Tie as tie
 
 ask-requires : tie.Need-ask-requires
 ask-requires c κs = search needs
@@ -14,8 +14,8 @@ ask-requires c κs = search needs
 enum-known-registers : tie.Need-enum-known-registers
 enum-known-registers c = search needs
 
-command-requires : tie.Need-command-requires
-command-requires c κs = search needs
+alone-requires : tie.Need-alone-requires
+alone-requires c κs = search needs
 
 conclude-requires : tie.Need-conclude-requires
 conclude-requires c κs = search needs
@@ -33,7 +33,7 @@ returns : tie.Need-returns
 unfolding step askedBefore
 returns c =
     let d = c .before .before .before .before in
-    concludes (commandByte _) _ _ (d .before .before .before .before .ask .ensures) (d .before .before .registers .given .1) (d .command .ensures) (c .before .before .conclude .ensures .0) (c .before .before .conclude .ensures .1) refl
+    concludes (commandByte _) _ _ (d .before .before .before .before .ask .ensures) (d .before .before .registers .given .1) (d .alone .ensures) (c .before .before .conclude .ensures .0) (c .before .before .conclude .ensures .1) refl
 
 same-length-2 : tie.Need-same-length-2
 same-length-2 c = search needs
@@ -48,7 +48,7 @@ command-spec =
     (tie.spec
     ask-requires
     enum-known-registers
-    command-requires
+    alone-requires
     conclude-requires
     enum-known-number
     refuse-requires
