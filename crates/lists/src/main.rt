@@ -1,7 +1,9 @@
 // The listing program for many traces: a pack of them from standard input, the listing of each to standard output.
 mod pack;
 
-use libc::STDIN_FILENO;
+use input::Input;
+use input::read_input;
+use libc::STDERR_FILENO;
 use libc::STDOUT_FILENO;
 use listing::LONGEST_LISTING;
 use pack::Entry;
@@ -11,17 +13,28 @@ use pack::entry_at;
 const LONGEST_PACK: usize = 131072;
 
 fn main() {
-    let mut input = [0u8; LONGEST_PACK + 1];
-    let count = io::read_full(STDIN_FILENO, &mut input);
-    if LONGEST_PACK < count {
-        io::write_all(STDOUT_FILENO, b"pack too long\n");
+    let mut pack = [0u8; LONGEST_PACK + 1];
+    let read = read_input(&mut pack);
+    let Input::Read(count) = read else {
+        io::write_all(STDERR_FILENO, b"lists: standard input cannot be read\n");
+        return;
+    };
+    if list_pack(&pack[..count]) {
         return;
     }
-    list_pack(&input[..count]);
+    io::write_all(STDERR_FILENO, b"lists: standard output cannot be written\n");
 }
 
-// Lists the entries of a pack in turn. The last line says how many there are, or where the pack is cut. Answers whether all was written.
+// Lists a pack that is not too long. Answers, as each of these does, whether all was written.
 fn list_pack(pack: &[u8]) -> bool {
+    if LONGEST_PACK < pack.len() {
+        return io::write_all(STDOUT_FILENO, b"pack too long\n");
+    }
+    list_entries(pack)
+}
+
+// Lists the entries of a pack in turn. The last line says how many there are, or where the pack is cut.
+fn list_entries(pack: &[u8]) -> bool {
     let mut at = 0;
     let mut count = 0;
     loop {

@@ -1,4 +1,4 @@
--- `lists::list_pack` is safe and ends: each whole entry is within the pack, and the next begins further on.
+-- `lists::list_entries` is safe and ends: each whole entry is within the pack, and the next begins further on.
 -- Assumes nothing.
 use Prim.Native.Nat.{_+_, _-_, _≤_}
 use mathlib.Core.Path.{sym, _∙_}
@@ -8,8 +8,8 @@ use denote.Ref.{now}
 use lib.ListN.{length}
 use Rattle.lists.specs.Pack.{headerSize}
 use Rattle.lists.proofs.Entries.{within}
-use Rattle.lists.proofs.list_pack.Statement.{statement}
-use Rattle.lists.proofs.list_pack.Tie as tie
+use Rattle.lists.proofs.list_entries.Statement.{statement}
+use Rattle.lists.proofs.list_entries.Tie as tie
 
 abbrev Inv-loop : tie.InvT-loop
 Inv-loop pack at₀ count₀ at count = (at ≤ length pack) × (count ≤ at)
@@ -90,8 +90,8 @@ loop-again c = (omega (arith, fits (c .before .before .before .before .before .b
 returns-3 : tie.Need-returns-3 Inv-loop μ-loop
 returns-3 c = search needs
 
-pub list-pack-spec : {M : Type 1} → statement M
-list-pack-spec =
+pub list-entries-spec : {M : Type 1} → statement M
+list-entries-spec =
     tie.close
     (tie.spec
     Inv-loop
