@@ -68,7 +68,7 @@ help:
 	@echo 'make mutants       damaged plain C, which the comparison must catch'
 	@echo 'make bench         the library beside plain C: time'
 	@echo 'make instructions  the library beside plain C: executed instructions'
-	@echo 'make traces        makes traces/*.trace and *.list again from their sources'
+	@echo 'make traces        makes traces/*.trace, *.list and the pack of crates/lists again'
 	@echo 'make clean         removes what was made'
 	@echo 'MODEL=plain        with any of these: plain C in place of the library'
 
@@ -114,6 +114,7 @@ instructions: $(BENCH)
 traces: oracle
 	traces/make.py
 	traces/list.sh $(ORACLE)
+	traces/pack.py
 
 oracle:
 	cargo build --quiet --release --manifest-path oracle/Cargo.toml

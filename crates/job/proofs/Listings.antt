@@ -20,11 +20,11 @@ use Rattle.listing.specs.Listing.{Outcome, outcome, written, listed}
 use Rattle.listing.specs.declared.Listed.{Listed}
 use Rattle.listing.specs.declared.Listed.the-variants.{Written, Refused}
 use Rattle.listing.proofs.Outcomes.{always-enough}
-use Rattle.list.specs.Job.{ranFromPowerOn, frameAfter, listingOfTrace, printed, printedOf}
+use Rattle.job.specs.Job.{ranFromPowerOn, frameAfter, listingOfTrace, printed, printedOf}
 
-pub whole : (bytes text state : List ℕ) (stop : Stop) (later left frame text′ : List ℕ) (number : ℕ) (answer : Listed) → state ≡ imageOf powerOn → ran stop later left ≡ run state (replicate memorySize 0) bytes → drawn number frame ≡ draw later left (replicate frameSize 0) → outcome answer text′ ≡ listed (stop .number) (stop .offset) frame text → stop .number < 256 → stop .offset < 2 ^ 64 → frameSize ≤ length frame → longestListing ≤ length text → outcome answer text′ ≡ written (listingOfTrace bytes) text
+pub whole : (trace text state : List ℕ) (stop : Stop) (later left frame text′ : List ℕ) (number : ℕ) (answer : Listed) → state ≡ imageOf powerOn → ran stop later left ≡ run state (replicate memorySize 0) trace → drawn number frame ≡ draw later left (replicate frameSize 0) → outcome answer text′ ≡ listed (stop .number) (stop .offset) frame text → stop .number < 256 → stop .offset < 2 ^ 64 → frameSize ≤ length frame → longestListing ≤ length text → outcome answer text′ ≡ written (listingOfTrace trace) text
 unfolding ranFromPowerOn frameAfter listingOfTrace
-whole bytes text state stop later left frame text′ number answer s p d l n o f t =
+whole trace text state stop later left frame text′ number answer s p d l n o f t =
     l ∙
     always-enough (stop .number) (stop .offset) frame text n o f t ∙
     ap (λ listing. written listing text)
@@ -32,11 +32,11 @@ whole bytes text state stop later left frame text′ number answer s p d l n o f
     ap (λ r. listingOf (r .stop .number) (r .stop .offset) (draw (r .state) (r .memory) (replicate frameSize 0) .frame)) (rw s at p))
 
 -- the text stands at the start of the buffer, with its length
-pub finished : (bytes text text′ : List ℕ) (answer : Listed) (size : ℕ) → longestListing ≤ length text → outcome answer text′ ≡ written (listingOfTrace bytes) text → answer ≡ Written size → printed size text′ ≡ printedOf bytes text
+pub finished : (trace text text′ : List ℕ) (answer : Listed) (size : ℕ) → longestListing ≤ length text → outcome answer text′ ≡ written (listingOfTrace trace) text → answer ≡ Written size → printed size text′ ≡ printedOf (listingOfTrace trace) text
 unfolding written printedOf
-finished bytes text text′ answer size t e a =
-    let same : Written size ≡ Written (length (listingOfTrace bytes)) = sym a ∙ ap (λ o. o .answer) e in
-    let long : size ≡ length (listingOfTrace bytes) = cc in
+finished trace text text′ answer size t e a =
+    let same : Written size ≡ Written (length (listingOfTrace trace)) = sym a ∙ ap (λ o. o .answer) e in
+    let long : size ≡ length (listingOfTrace trace) = cc in
     rw (le-ltb (length text) longestListing t, long, ap (λ o. o .text) e)
 
 -- it is never refused
@@ -48,13 +48,10 @@ never-refused listing text text′ answer number e a =
     omega arith
 
 -- the answer is within the buffer
-pub within-text : (bytes text text′ : List ℕ) (size : ℕ) → printed size text′ ≡ printedOf bytes text → size ≤ length text′
+pub within-text : (whole text text′ : List ℕ) (size : ℕ) → printed size text′ ≡ printedOf whole text → size ≤ length text′
 unfolding printedOf
-within-text bytes text text′ size e = by (ltb (length text) longestListing) e
+within-text whole text text′ size e = by (ltb (length text) longestListing) e
   where
-    l : List ℕ
-    l = listingOfTrace bytes
-
-    by : (t : Bool) → printed size text′ ≡ cond t (printed 0 text) (printed (length l) (l ++ drop (length l) text)) → size ≤ length text′
+    by : (t : Bool) → printed size text′ ≡ cond t (printed 0 text) (printed (length whole) (whole ++ drop (length whole) text)) → size ≤ length text′
     by true p = omega (arith, ap (λ o. o .size) p)
-    by false p = omega (arith, ap (λ o. o .size) p, ap (λ o. length (o .text)) p ∙ length-append l (drop (length l) text))
+    by false p = omega (arith, ap (λ o. o .size) p, ap (λ o. length (o .text)) p ∙ length-append whole (drop (length whole) text))

@@ -1,15 +1,15 @@
--- `list::job::list_trace` meets its contract: what its calls leave is the listing of the trace.
+-- `job::list_trace` meets its contract: what its calls leave is the listing of the trace.
 -- Assumes nothing.
 use borrow.Author.Needs.{needs}
-use Rattle.list.proofs.job.list_trace.Statement.{statement}
-use Rattle.list.proofs.job.list_trace.Tie as tie
+use Rattle.job.proofs.list_trace.Statement.{statement}
+use Rattle.job.proofs.list_trace.Tie as tie
 use mathlib.Core.Path.{_∙_, ap}
 use native.Mathlib.Omega.{arith}
 use borrow.Author.Tests.{lt-ltb}
 use denote.Ref.{now}
 use Rattle.bus.specs.Registers.{imageOf}
-use Rattle.list.specs.Job.{printedOf}
-use Rattle.list.proofs.Listings.{whole, finished, never-refused}
+use Rattle.job.specs.Job.{printedOf}
+use Rattle.job.proofs.Listings.{whole, finished, never-refused}
 
 returns : tie.Need-returns
 unfolding printedOf
@@ -65,8 +65,8 @@ returns-2 c =
     let imaged = running .before .before .before in
     let tested = imaged .before .before in
     let args = tested .before .before .before .args in
-    let e = whole (now (args .bytes)) (now (args .text)) (imaged .image .result) (running .run .result) (running .run .last .0) (running .run .last .1 .0) (drawing .draw .last .1 .1 .0) (d .list .last .1 .1 .1 .0) (drawing .draw .result) (d .list .result) (imaged .image .ensures ∙ ap imageOf (imaged .before .power-on .ensures)) (running .run .ensures) (drawing .draw .ensures) (d .list .ensures) (omega (arith, running)) (omega (arith, running)) (omega (arith, drawing)) (tested .if1 .left) in
-    finished (now (args .bytes)) (now (args .text)) _ _ _ (tested .if1 .left) e (c .before .length .given .1)
+    let e = whole (now (args .trace)) (now (args .text)) (imaged .image .result) (running .run .result) (running .run .last .0) (running .run .last .1 .0) (drawing .draw .last .1 .1 .0) (d .list .last .1 .1 .1 .0) (drawing .draw .result) (d .list .result) (imaged .image .ensures ∙ ap imageOf (imaged .before .power-on .ensures)) (running .run .ensures) (drawing .draw .ensures) (d .list .ensures) (omega (arith, running)) (omega (arith, running)) (omega (arith, drawing)) (tested .if1 .left) in
+    finished (now (args .trace)) (now (args .text)) _ _ _ (tested .if1 .left) e (c .before .length .given .1)
 
 same-length-2 : tie.Need-same-length-2
 same-length-2 c = search needs
@@ -79,7 +79,7 @@ returns-3 c =
     let imaged = running .before .before .before in
     let tested = imaged .before .before in
     let args = tested .before .before .before .args in
-    let e = whole (now (args .bytes)) (now (args .text)) (imaged .image .result) (running .run .result) (running .run .last .0) (running .run .last .1 .0) (drawing .draw .last .1 .1 .0) (d .list .last .1 .1 .1 .0) (drawing .draw .result) (d .list .result) (imaged .image .ensures ∙ ap imageOf (imaged .before .power-on .ensures)) (running .run .ensures) (drawing .draw .ensures) (d .list .ensures) (omega (arith, running)) (omega (arith, running)) (omega (arith, drawing)) (tested .if1 .left) in
+    let e = whole (now (args .trace)) (now (args .text)) (imaged .image .result) (running .run .result) (running .run .last .0) (running .run .last .1 .0) (drawing .draw .last .1 .1 .0) (d .list .last .1 .1 .1 .0) (drawing .draw .result) (d .list .result) (imaged .image .ensures ∙ ap imageOf (imaged .before .power-on .ensures)) (running .run .ensures) (drawing .draw .ensures) (d .list .ensures) (omega (arith, running)) (omega (arith, running)) (omega (arith, drawing)) (tested .if1 .left) in
     absurd (never-refused _ _ _ _ _ e (c .enum-told .given .1))
 
 pub list-trace-spec : {M : Type 1} → statement M

@@ -1,4 +1,4 @@
--- The listing program's job: the listing of what a trace leaves on the glass, from power-on with zero memory.
+-- The listing program's job: from a trace to the text that is printed for it.
 use Prim.Native.Nat.{ℕ}
 use mathlib.Core.Bool.{cond}
 use mathlib.Core.List.{List, _++_}
@@ -10,6 +10,7 @@ use Rattle.trace.specs.Run.{Ran, run}
 use Rattle.picture.specs.Sizes.{frameSize}
 use Rattle.picture.specs.Draw.{draw}
 use Rattle.listing.specs.Sizes.{longestListing}
+use Rattle.listing.specs.Ascii.{ascii}
 use Rattle.listing.specs.Text.{listingOf}
 
 -- The trace run from power-on with zero memory.
@@ -24,6 +25,14 @@ frameAfter ran = draw (ran .state) (ran .memory) (replicate frameSize 0) .frame
 unfoldable pub listingOfTrace : List ℕ → List ℕ
 listingOfTrace trace = let ran = ranFromPowerOn trace in listingOf (ran .stop .number) (ran .stop .offset) (frameAfter ran)
 
+-- bytes of the longest trace that is listed
+abbrev pub longestTrace : ℕ
+longestTrace = 65536
+
+-- What is printed for an input: its listing; for a longer input than that only one line.
+unfoldable pub textFor : List ℕ → List ℕ
+textFor input = cond (ltb longestTrace (length input)) (ascii "input too long\n") (listingOfTrace input)
+
 -- The length that the job answers, and the buffer that it leaves.
 pub record Printed : Type 0 where
   pub size : ℕ
@@ -32,8 +41,6 @@ pub record Printed : Type 0 where
 abbrev pub printed : ℕ → List ℕ → Printed
 printed answer later = record { size = answer; text = later }
 
--- The listing at the start of the buffer, the bytes past it as they were; nothing in a buffer that is too short for some listing.
+-- A text at the start of the buffer, the bytes past it as they were; nothing in a buffer that is too short for some listing.
 unfoldable pub printedOf : List ℕ → List ℕ → Printed
-printedOf trace text =
-    cond (ltb (length text) longestListing) (printed 0 text)
-    (printed (length (listingOfTrace trace)) (listingOfTrace trace ++ drop (length (listingOfTrace trace)) text))
+printedOf whole text = cond (ltb (length text) longestListing) (printed 0 text) (printed (length whole) (whole ++ drop (length whole) text))
