@@ -4,7 +4,7 @@ use mathlib.Core.Path.{_≡_, refl, _∙_, ap}
 use mathlib.Core.List.{List}
 use Prim.Native.Nat.{ℕ}
 use lib.ListN.{set, replicate}
-use Rattle.codes.specs.Table.{table, commandBy, commandOf}
+use Rattle.codes.specs.Table.{table, commandBy, commandOf, meaningOf}
 use Rattle.bus.specs.Sizes.{memorySize, width}
 use Rattle.bus.specs.Places.{column, on}
 use Rattle.bus.specs.Registers.{largestValues, powerOn, imageOf, _with_≔_}
@@ -34,7 +34,7 @@ abbrev ownFrame : List ℕ
 ownFrame = set (set (set (replicate frameSize 0) 0 1) 1 1) width 1
 
 runs-so : ranFromPowerOn ownTrace ≡ ownRan
-unfolding powerOn largestValues run runOn ranOf asked short legal within awaitedCodes stored split splitFrom playFrom playRecord playEvents eventsOf replay happened step command obeyed write written access kept onward commandOf commandBy table ranFromPowerOn
+unfolding powerOn largestValues run runOn ranOf asked short legal within awaitedCodes stored split splitFrom playFrom playRecord playEvents eventsOf replay happened step command obeyed write written access kept onward commandOf commandBy meaningOf table ranFromPowerOn
 runs-so = refl
 
 draws-so : frameAfter ownRan ≡ ownFrame
