@@ -59,15 +59,16 @@ pub fn play(mut registers: Registers, memory: &mut [u8], trace: &[u8]) -> Finish
             Front::Cut => return end(HEADER_CUT, at, count, registers),
             Front::Whole(header) => {
                 let progress = obey(header, registers, memory, trace, at);
-                registers = progress.registers;
+                let left = progress.registers;
                 let ended = progress.ended;
                 match ended {
                     Ended::Done => {
+                        registers = left;
                         at = at + 4 + header.length;
                         count += 1;
                     }
                     Ended::Stopped(halt) => {
-                        return end(halt.number, halt.offset, count, registers);
+                        return end(halt.number, halt.offset, count, left);
                     }
                 }
             }
