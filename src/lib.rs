@@ -2,13 +2,13 @@
 #![forbid(unsafe_code)]
 
 pub mod commands;
-//pub mod comparison;
+pub mod comparison;
 pub mod data;
-//pub mod difference;
+pub mod difference;
 pub mod events;
 pub mod frame;
 pub mod listing;
 pub mod numbers;
 pub mod registers;
-//pub mod stream;
+pub mod stream;
 pub mod trace;
