@@ -5,7 +5,7 @@ use std::io::{Read, Write};
 
 use crate::data::{COLUMNS, MEMORY_LENGTH};
 use crate::difference::{
-    event_words, memory_words, state_words, trace_words, Difference, Findings,
+    column_words, event_words, memory_words, state_words, trace_words, Difference, Findings,
 };
 use crate::events::{call, Event};
 use crate::frame::{draw, FRAME_LENGTH};
@@ -366,8 +366,9 @@ fn compare_drawing(fields: &mut Fields) -> Result<Option<Difference>, Trouble> {
     Ok(findings.conclude(|| {
         vec![
             state_words(state),
-            memory_words(state, memory),
+            format!("memory of {} bytes", memory.len()),
             format!("frame of {length} bytes, fill {fill}"),
+            column_words(memory, first_unequal(&expected, &frame) % COLUMNS),
         ]
     }))
 }
@@ -384,6 +385,12 @@ fn frame_after(before: &[u8], drawn: &[u8]) -> Vec<u8> {
     let mut frame = drawn.to_vec();
     frame.extend(before.iter().skip(drawn.len()));
     frame
+}
+
+/// The first place where two frames differ, or the end of the shorter.
+fn first_unequal(stream: &[u8], own: &[u8]) -> usize {
+    let pairs = stream.iter().zip(own);
+    pairs.take_while(|(left, right)| left == right).count()
 }
 
 /// Compares tag 5, a listing.

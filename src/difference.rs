@@ -222,6 +222,25 @@ pub fn memory_words(state: &[u8], memory: &[u8]) -> String {
     format!("memory of {} bytes, at {index}: {byte}", memory.len())
 }
 
+/// The memory bytes of a column and of its mirror image, page after page, in words.
+pub fn column_words(memory: &[u8], column: usize) -> String {
+    let mirrored = COLUMNS - 1 - column.min(COLUMNS - 1);
+    let plain_bytes = hexadecimal(&column_bytes(memory, column));
+    let mirrored_bytes = hexadecimal(&column_bytes(memory, mirrored));
+    format!("memory column {column}: {plain_bytes}; column {mirrored}: {mirrored_bytes}")
+}
+
+/// The memory bytes of a column, page after page.
+fn column_bytes(memory: &[u8], column: usize) -> Vec<u8> {
+    let needed = &memory[..memory.len().min(MEMORY_LENGTH)];
+    needed
+        .iter()
+        .skip(column)
+        .step_by(COLUMNS)
+        .copied()
+        .collect()
+}
+
 /// The trace in words, whole if short, else its beginning and the bytes around a place.
 pub fn trace_words(trace: &[u8], place: usize) -> String {
     let length = trace.len();

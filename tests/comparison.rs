@@ -388,6 +388,18 @@ fn a_sequence_tells_its_first_event_that_differs() {
 }
 
 #[test]
+fn a_drawing_tells_the_memory_behind_its_first_place_that_differs() {
+    let case = drawing();
+    let place = case.outcomes[1 + 132 + 5];
+    let (_, report) = compared(&stream(&[wrong_at(&case, place)]));
+    let words = "memory column 5: 02 00 00 00 00 00 00 00 00; column 126: 00";
+    assert!(report.contains(words), "{report}");
+    let words =
+        "frame, 1 differ, first byte 137 (row 1 place 5): stream 4 (04 hex); own 0 (00 hex)";
+    assert!(report.contains(words), "{report}");
+}
+
+#[test]
 fn only_the_first_20_are_shown_but_all_are_counted() {
     let wrong = wrong_at(&single_short(), single_short().outcomes[0]);
     let (summary, report) = compared(&stream(&vec![wrong; 25]));
