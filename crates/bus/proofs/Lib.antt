@@ -2,8 +2,11 @@ pub mod Access
 pub mod Concluded
 pub mod Legal
 pub mod ThereAndBack
+pub mod Asking
 pub mod Kept
+pub mod Answers
 pub mod Untouched
 pub mod Settled
 pub mod Ranges
 pub mod Exactly
+pub mod Stored

@@ -1,11 +1,12 @@
--- What an event leaves alone: a write changes one byte and no other, and no call changes a byte past 23 of the state or past 1,188 of the memory.
+-- What an event leaves alone: a write changes one byte and no other, no call changes a byte past 23 of the state or past 1,188 of the memory, and a refused one changes nothing.
 -- Assumes nothing.
-use mathlib.Core.Path.{_≡_, refl, sym, _∙_, ap}
+use mathlib.Core.Path.{_≡_, refl}
 use mathlib.Core.Bool.{Bool, true, false, cond}
+use mathlib.Core.Logic.{_≢_}
 use mathlib.Core.List.{List, _++_}
 use Prim.Native.Nat.{ℕ}
 use native.Mathlib.Omega.{arith}
-use lib.Dec.{ltb, eqb, lit<}
+use lib.Dec.{ltb, eqb}
 use lib.ListN.{length, getD, drop, set, length-set}
 use lib.Seq.{drop-set-lt, getD-set-other}
 use borrow.Author.Tests.{eqb-true}
@@ -13,10 +14,10 @@ use Rattle.bus.specs.Sizes.{imageSize, memorySize}
 use Rattle.bus.specs.Numbers.{taken}
 use Rattle.bus.specs.Registers.{imageOf, _with_≔_}
 use Rattle.bus.specs.Memory.{address, kept}
-use Rattle.bus.specs.Events.{silently, moved, access, write, written}
-use Rattle.bus.specs.Machine.{Event, Outcome, commandByte, dataWritten, dataRead, resetPulse, step}
+use Rattle.bus.specs.Events.{numberOf, silently, moved, access, write, written}
+use Rattle.bus.specs.Machine.{Event, commandByte, dataWritten, dataRead, resetPulse, step}
 use Rattle.bus.specs.Image.{stored}
-use Rattle.bus.specs.Calls.{Called, stateAfter, concluded, refused, askedBefore, callOn, call}
+use Rattle.bus.specs.Calls.{replyOf, stateAfter, concluded, refused, askedBefore, callOn, call}
 use Rattle.bus.specs.declared.registers.Registers.{Registers}
 use Rattle.bus.specs.Places.{fresh}
 use Rattle.bus.specs.declared.answer.After.{After}
@@ -42,6 +43,14 @@ written-elsewhere b r memory place h =
 
 pub written-length : (b : ℕ) (r : Registers) (memory : List ℕ) → length (written b r memory) ≡ length memory
 written-length b r memory = by-write (λ left. length left ≡ length memory) b r memory (λ e. length-set memory _ _) refl
+
+-- no event changes the memory's length
+pub step-length : (event : Event) (r : Registers) (memory : List ℕ) → length (step event r memory .memory) ≡ length memory
+unfolding step
+step-length (commandByte b) r memory = refl
+step-length (dataWritten b) r memory = written-length b r memory
+step-length dataRead r memory = refl
+step-length resetPulse r memory = refl
 
 -- the state past its image is left as it was
 pub state-past : (answer : Answer) (state : List ℕ) → drop imageSize (stateAfter answer state) ≡ drop imageSize state
@@ -87,3 +96,16 @@ refused-leaves (dataWritten b) r memory number e = by (eqb (access r (length mem
     by false e = refl
 refused-leaves dataRead r memory number e = refl
 refused-leaves resetPulse r memory number e = refl
+
+-- a call that gives another number than 0 leaves the lent state and memory as they were
+pub call-refused : (event : Event) (state memory : List ℕ) → call event state memory .reply .number ≢ taken → (call event state memory .state ≡ state) × (call event state memory .memory ≡ memory)
+unfolding call callOn concluded refused replyOf numberOf stateAfter
+call-refused event state memory = on (askedBefore event state memory)
+  where
+    after : (r : Registers) (answer : Answer) → step event r memory .answer ≡ answer → replyOf answer .number ≢ taken → (stateAfter answer state ≡ state) × (step event r memory .memory ≡ memory)
+    after r (Taken t) e n = absurd (n refl)
+    after r (Refused number) e n = (refl, refused-leaves event r memory number e)
+
+    on : (asking : Asked) → callOn asking event state memory .reply .number ≢ taken → (callOn asking event state memory .state ≡ state) × (callOn asking event state memory .memory ≡ memory)
+    on (Found r) n = after r (step event r memory .answer) refl n
+    on (Asked.Refused number) n = (refl, refl)
