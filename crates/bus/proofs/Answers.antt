@@ -42,6 +42,7 @@ use Rattle.bus.specs.Events.{numberOf, byteOf, dummyOf, obeyed, supplied
 use Rattle.bus.specs.Machine.{Event, commandByte, dataWritten, dataRead, resetPulse, step}
 use Rattle.bus.specs.Given.{numberOfCommand, numberOfOperand, numberOfEvent, isRead}
 use Rattle.bus.specs.declared.registers.Registers.{Registers}
+use Rattle.bus.specs.declared.answer.After.{After}
 use Rattle.bus.specs.declared.answer.Answer.{Answer}
 use Rattle.bus.specs.declared.answer.Answer.the-variants.{Taken, Refused}
 
@@ -138,3 +139,13 @@ pub its-number : (number : ℕ) (answer : Answer) → StandsFor number answer �
 unfolding numberOf
 its-number number (Taken after) p = sym p
 its-number number (Refused refusal) p = sym (p .0)
+
+-- an answer with 0 is taken
+pub record WasTaken (answer : Answer) : Type 0 where
+  pub after : After
+  pub is : answer ≡ Taken after
+
+pub was-taken : (number : ℕ) (answer : Answer) → StandsFor number answer → numberOf answer ≡ taken → WasTaken answer
+unfolding numberOf
+was-taken number (Taken t) s n = record { after = t; is = refl }
+was-taken number (Refused refusal) s n = absurd (omega (arith, s .1))

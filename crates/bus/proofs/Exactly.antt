@@ -28,7 +28,7 @@ use Rattle.bus.specs.declared.calls.Reply.{Reply}
 use Rattle.bus.proofs.Legal.{long}
 use Rattle.bus.proofs.Kept.{bound, state-facts}
 use Rattle.bus.proofs.Asking.{OneOrTwo, before-refusal}
-use Rattle.bus.proofs.Answers.{StandsFor, Silent, metBy, step-answers, step-silent, its-number}
+use Rattle.bus.proofs.Answers.{StandsFor, Silent, metBy, step-answers, step-silent, its-number, was-taken}
 
 -- the reply to an event by the number that it meets
 read-reply : (r : Registers) (memory : List ℕ) → replyOf (read r memory) ≡ replyWith (access r (length memory)) dataRead r memory
@@ -118,10 +118,8 @@ pub call-taken : (event : Event) (state memory : List ℕ) → call event state 
 unfolding call callOn concluded refused replyOf numberOf
 call-taken event state memory = (λ e. on (askedBefore event state memory) refl e, λ t. rw (t .found, t .answer))
   where
-    after : (r : Registers) (answer : Answer) → askedBefore event state memory ≡ Found r → step event r memory .answer ≡ answer → StandsFor (metBy event r (length memory)) answer → numberOf answer ≡ taken → IsTaken event state memory
-    after r (Taken t) f e s n = record { registers = r; after = t; found = f; answer = e }
-    after r (Refused number) f e s n = absurd (omega (arith, s .1, n))
-
     on : (asking : Asked) → askedBefore event state memory ≡ asking → callOn asking event state memory .reply .number ≡ taken → IsTaken event state memory
-    on (Found r) e n = after r (step event r memory .answer) e refl (step-answers event r memory) n
+    on (Found r) e n =
+        let t = was-taken _ (step event r memory .answer) (step-answers event r memory) n in
+        record { registers = r; after = t .after; found = e; answer = t .is }
     on (Asked.Refused number) e n = absurd (omega (arith, n, subst OneOrTwo e (before-refusal event state memory) .0))

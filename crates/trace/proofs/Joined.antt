@@ -56,7 +56,7 @@ module _ (a b : List ℕ) (h : whole a ≡ true) where
   still-whole =
       rw (same-length, length-append a b, le-leb headerSize (length a + length b) (omega (arith, long .0)), le-leb (headerSize + lengthOf a) (length a + length b) (omega (arith, long .1)))
 
-  same-record : (offset : ℕ) → recordAt offset (a ++ b) ≡ recordAt offset a
+  pub same-record : (offset : ℕ) → recordAt offset (a ++ b) ≡ recordAt offset a
   same-record offset = rw (same-payload, same-number 2 (omega (arith, long .0)))
 
 -- the record at hand, and the rest onto which more is put
@@ -103,7 +103,7 @@ pub record Sound {S E : Type 0} (machine : Machine S E) : Type 0 where
 
 module _ {S E : Type 0} (machine : Machine S E) (sound : Sound machine) where
   -- what a record stops with is no 0
-  abbrev Stops : Ending S → Type 0
+  abbrev pub Stops : Ending S → Type 0
   Stops (stopped number offset s) = number ≡ taken → ⊥
   Stops (done s) = Unit {0}
 
@@ -111,7 +111,7 @@ module _ {S E : Type 0} (machine : Machine S E) (sound : Sound machine) where
   stops (refuses number) go offset s p q = p number refl
   stops (gives a) go offset s p q = q a
 
-  events-stop : (events : List E) (offset : ℕ) (s : S) → Stops (playEvents machine events offset s)
+  pub events-stop : (events : List E) (offset : ℕ) (s : S) → Stops (playEvents machine events offset s)
   unfolding playEvents
   events-stop [] offset s = tt
   events-stop (e ∷ rest) offset s = stops (machine .step e s) (λ t. playEvents machine rest (offset + 1) t) offset s (sound .step e s) (λ t. events-stop rest (offset + 1) t)
@@ -141,7 +141,7 @@ module _ {S E : Type 0} (machine : Machine S E) (sound : Sound machine) where
   taken-whole (r then rest) count s h = then-whole (playRecord machine r s) (record-stops r s) r rest count h (λ t. taken-whole rest (count + 1) t)
 
   -- a trace that begins at an offset, with so many records before it
-  further-on : (offset count : ℕ) (b : List ℕ) (t : S) → playFrom machine (splitFrom 0 offset b) count t ≡ further offset count (play machine (split b) t)
+  pub further-on : (offset count : ℕ) (b : List ℕ) (t : S) → playFrom machine (splitFrom 0 offset b) count t ≡ further offset count (play machine (split b) t)
   unfolding split
   further-on offset count b t =
       ap (λ (at : ℕ). playFrom machine (splitFrom 0 at b) count t) (sym (add-zero offset)) ∙

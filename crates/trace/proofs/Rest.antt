@@ -29,13 +29,13 @@ passed (suc left) offset (byte ∷ bytes) h =
     passed left (offset + 1) bytes (omega arith) ∙ rw e
 
 -- no byte is left
-split-nothing : (offset : ℕ) (bytes : List ℕ) → length bytes ≡ 0 → splitFrom 0 offset bytes ≡ ended offset
+pub split-nothing : (offset : ℕ) (bytes : List ℕ) → length bytes ≡ 0 → splitFrom 0 offset bytes ≡ ended offset
 unfolding splitFrom
 split-nothing offset [] h = refl
 split-nothing offset (byte ∷ bytes) h = absurd (omega arith)
 
 -- what is left is no whole record
-split-cut : (offset : ℕ) (bytes : List ℕ) → (length bytes ≡ 0 → ⊥) → whole bytes ≡ false → splitFrom 0 offset bytes ≡ cut offset
+pub split-cut : (offset : ℕ) (bytes : List ℕ) → (length bytes ≡ 0 → ⊥) → whole bytes ≡ false → splitFrom 0 offset bytes ≡ cut offset
 unfolding splitFrom
 split-cut offset [] h e = absurd (h refl)
 split-cut offset (byte ∷ bytes) h e = rw e
