@@ -8,4 +8,4 @@ pub mod Turns
 pub mod Full
 pub mod Flip
 pub mod Bits
-pub mod Asking
+pub mod Ignored
