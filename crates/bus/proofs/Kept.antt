@@ -1,7 +1,7 @@
 -- A taken event leads from a legal state to a legal state.
 -- Assumes nothing.
 use mathlib.Core.Path.{_≡_, refl, sym, _∙_, ap, subst}
-use mathlib.Core.Bool.{Bool, true, false, cond, _&&_, or-true, false≢true}
+use mathlib.Core.Bool.{Bool, true, cond, _&&_, or-true, false≢true}
 use mathlib.Core.List.{List, [], _∷_, _++_}
 use Prim.Native.Nat.{ℕ, zero, suc, _+_, _≤_, _<_}
 use native.Mathlib.Nat.{le-of-suc-le-suc, not-suc-le-zero}
@@ -133,11 +133,7 @@ bound r l place h = within-at largestValues (imageOf r) place (l .inRanges) h
 
 -- a data write or read that is not taken is refused
 taken-keeps : (number : ℕ) (x : Answer) → (number ≡ taken → Keeps x) → Keeps (cond (eqb number taken) x (Refused number))
-taken-keeps number x p = by (eqb number taken) refl
-  where
-    by : (t : Bool) → eqb number taken ≡ t → Keeps (cond t x (Refused number))
-    by true e = p (eqb-true number taken e)
-    by false e = tt
+taken-keeps number x p = chosen Keeps (eqb number taken) x (Refused number) (λ e. p (eqb-true number taken e)) (λ e. tt)
 
 -- a register is set that bears on no other: its value is in its range, and code, read-modify-write and saved column stay
 set-plain : (r : Registers) (place value : ℕ) → LegalRegisters r → value ≤ getD largestValues place 0 → (r with place ≔ value) .awaited ≡ r .awaited → (r with place ≔ value) .modify ≡ r .modify → (r with place ≔ value) .saved ≡ r .saved → LegalRegisters (r with place ≔ value)

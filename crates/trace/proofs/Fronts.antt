@@ -1,18 +1,19 @@
 -- What stands at an offset of a trace, by the tests that tell it.
 -- Assumes nothing.
-use mathlib.Core.Path.{_≡_, refl, sym, _∙_}
+use mathlib.Core.Path.{_≡_, refl, sym, _∙_, subst}
 use mathlib.Core.Bool.{Bool, true, false, _&&_, false≢true}
 use mathlib.Core.List.{List}
 use Prim.Native.Nat.{ℕ, _+_, _-_, _≤_, _<_}
 use native.Mathlib.Omega.{arith}
-use borrow.Author.Tests.{ne-eqb, leb-true, leb-false, le-leb, lt-leb, eq-eqb}
+use borrow.Author.Tests.{ne-eqb, leb-true, leb-false, le-leb, lt-leb, eq-eqb, eqb-true, eqb-false}
 use lib.Dec.{leb, eqb}
 use lib.ListN.{length, drop, length-drop}
 use lib.Seq.{length-take-le, getD-drop}
-use Rattle.codes.proofs.Tests.{both}
+use Rattle.codes.proofs.Tests.{both, chosen}
 use Rattle.trace.specs.Records.{headerSize, lengthOf, kindOf, payloadOf, whole, number}
 use Rattle.trace.specs.Front.{frontOf}
 use Rattle.trace.specs.Given.{CutShort, fewBytes, pastEnd}
+use Rattle.trace.specs.declared.records.Front.{Front}
 use Rattle.trace.specs.declared.records.Front.the-variants.{Cut, Whole, Nothing}
 use native.Mathlib.Nat.{add-zero}
 
@@ -46,6 +47,19 @@ module _ (trace : List ℕ) (at : ℕ) where
       pub whole-there : number trace at ≤ length trace - at - headerSize → frontOf (drop at trace) ≡ Whole (record { kind = number trace (at + 2); length = number trace at })
       unfolding frontOf
       whole-there q = rw (some-left, length-at, kind-at, length-drop at trace, le-leb headerSize (length trace - at) p, le-leb (headerSize + number trace at) (length trace - at) (omega arith))
+
+-- what stands first tells of the bytes
+abbrev pub Tells : List ℕ → Front → Type 0
+Tells bytes Nothing = length bytes ≡ 0
+Tells bytes Cut = (length bytes ≡ 0 → ⊥) × (whole bytes ≡ false)
+Tells bytes (Whole header) = (whole bytes ≡ true) × (kindOf bytes ≡ header .kind) × (lengthOf bytes ≡ header .length)
+
+pub tells : (bytes : List ℕ) {front : Front} → frontOf bytes ≡ front → Tells bytes front
+unfolding frontOf
+tells bytes e =
+    subst (Tells bytes) e
+    (chosen (Tells bytes) (eqb (length bytes) 0) _ _ (eqb-true (length bytes) 0)
+    (λ some. chosen (Tells bytes) (whole bytes) _ _ (λ there. (there, refl, refl)) (λ cut. (eqb-false (length bytes) 0 some, cut))))
 
 -- bytes that are cut, by the tests of what stands first
 pub cut-tests : (left : List ℕ) → CutShort left → (length left ≡ 0 → ⊥) × (whole left ≡ false)
