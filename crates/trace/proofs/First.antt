@@ -6,15 +6,15 @@ use mathlib.Core.List.{List, _++_}
 use Prim.Native.Nat.{ℕ, zero, suc, _+_, _≤_}
 use native.Mathlib.Nat.{zero-add}
 use native.Mathlib.Omega.{arith}
-use borrow.Author.Tests.{eqb-true, eqb-false, leb-true, le-leb}
-use lib.Dec.{eqb, leb}
+use borrow.Author.Tests.{eqb-true, eqb-false, le-leb}
+use lib.Dec.{eqb}
 use lib.ListN.{length, take, drop, length-drop, take-append-drop, drop-of-length-le}
 use lib.Seq.{getD-take, drop-drop, take-add, length-take-le}
-use Rattle.codes.proofs.Tests.{both}
 use Rattle.bus.specs.Numbers.{taken, headerCut}
 use Rattle.trace.specs.Records.{ended, _then_, headerSize, lengthOf, whole, recordAt, splitFrom, split}
 use Rattle.trace.specs.Play.{Machine, Ending, stopped, done, Played, played, playRecord, playFrom, play}
 use Rattle.trace.proofs.Further.{further, record-further}
+use Rattle.trace.proofs.Fronts.{room}
 use Rattle.trace.proofs.Rest.{split-nothing, split-cut, split-whole, rest}
 use Rattle.trace.proofs.Joined.{Sound, same-record, further-on, joined}
 
@@ -32,14 +32,11 @@ module _ (bytes : List ℕ) (h : whole bytes ≡ true) where
   abbrev size : ℕ
   size = headerSize + lengthOf bytes
 
-  room : headerSize + lengthOf bytes ≤ length bytes
-  room = leb-true (headerSize + lengthOf bytes) (length bytes) (both (leb headerSize (length bytes)) _ h .1)
-
   front-length : lengthOf (take size bytes) ≡ lengthOf bytes
   front-length = rw (getD-take size bytes 0 0 (omega arith), getD-take size bytes 1 0 (omega arith))
 
   front-whole : whole (take size bytes) ≡ true
-  front-whole = rw (front-length, length-take-le size bytes room, le-leb headerSize size (omega arith), le-leb size size (omega arith))
+  front-whole = rw (front-length, length-take-le size bytes (room bytes h .1), le-leb headerSize size (omega arith), le-leb size size (omega arith))
 
   front-record : recordAt 0 (take size bytes) ≡ recordAt 0 bytes
   front-record = sym (same-record (take size bytes) (drop size bytes) front-whole 0) ∙ ap (recordAt 0) (take-append-drop size bytes)
@@ -48,7 +45,7 @@ module _ (bytes : List ℕ) (h : whole bytes ≡ true) where
   unfolding split splitFrom
   front-split =
       split-whole 0 (take size bytes) front-whole ∙
-      rw (front-record, front-length, drop-of-length-le (take size bytes) {i = size} (omega (arith, length-take-le size bytes room)), zero-add (headerSize + lengthOf bytes))
+      rw (front-record, front-length, drop-of-length-le (take size bytes) {i = size} (omega (arith, length-take-le size bytes (room bytes h .1))), zero-add (headerSize + lengthOf bytes))
 
 module _ {S E : Type 0} (machine : Machine S E) (sound : Sound machine) where
   module _ (bytes : List ℕ) (s t : S) (h : whole bytes ≡ true) (e : playRecord machine (recordAt 0 bytes) s ≡ done t) where
@@ -90,8 +87,8 @@ module _ {S E : Type 0} (machine : Machine S E) (sound : Sound machine) where
 
   -- by the bytes that are left, no more than so many
   first-within : (most : ℕ) (bytes : List ℕ) (s : S) → length bytes ≤ most → First machine bytes s (play machine (split bytes) s)
-  first-within zero bytes s l = by-front bytes s (λ h t. absurd (omega (arith, room bytes h)))
-  first-within (suc most) bytes s l = by-front bytes s (λ h t. first-within most (drop (size bytes h) bytes) t (omega (arith, room bytes h, length-drop (size bytes h) bytes)))
+  first-within zero bytes s l = by-front bytes s (λ h t. absurd (omega (arith, room bytes h .1)))
+  first-within (suc most) bytes s l = by-front bytes s (λ h t. first-within most (drop (size bytes h) bytes) t (omega (arith, room bytes h .1, length-drop (size bytes h) bytes)))
 
   pub first : (bytes : List ℕ) (s : S) → First machine bytes s (play machine (split bytes) s)
   first bytes s = first-within (length bytes) bytes s (omega arith)

@@ -48,6 +48,12 @@ module _ (trace : List ℕ) (at : ℕ) where
       unfolding frontOf
       whole-there q = rw (some-left, length-at, kind-at, length-drop at trace, le-leb headerSize (length trace - at) p, le-leb (headerSize + number trace at) (length trace - at) (omega arith))
 
+-- the bytes of a whole record are there
+pub room : (bytes : List ℕ) → whole bytes ≡ true → (headerSize ≤ length bytes) × (headerSize + lengthOf bytes ≤ length bytes)
+room bytes e =
+    let halves = both (leb headerSize (length bytes)) (leb (headerSize + lengthOf bytes) (length bytes)) e in
+    (leb-true headerSize (length bytes) (halves .0), leb-true (headerSize + lengthOf bytes) (length bytes) (halves .1))
+
 -- what stands first tells of the bytes
 abbrev pub Tells : List ℕ → Front → Type 0
 Tells bytes Nothing = length bytes ≡ 0
@@ -80,7 +86,7 @@ front-cut left some e = rw (ne-eqb (length left) 0 some, e)
 
 pub front-whole : (left : List ℕ) → whole left ≡ true → frontOf left ≡ Whole (record { kind = kindOf left; length = lengthOf left })
 unfolding frontOf
-front-whole left e = rw (ne-eqb (length left) 0 (λ z. omega (arith, leb-true headerSize (length left) (both (leb headerSize (length left)) _ e .0))), e)
+front-whole left e = rw (ne-eqb (length left) 0 (λ z. omega (arith, room left e .0)), e)
 
 module _ (trace : List ℕ) (at : ℕ) where
   -- where bytes are left, the offset is within the trace
@@ -88,10 +94,10 @@ module _ (trace : List ℕ) (at : ℕ) where
   where-left some = omega (arith, some, length-drop at trace)
 
   pub whole-left : whole (drop at trace) ≡ true → length (drop at trace) ≡ 0 → ⊥
-  whole-left e z = omega (arith, leb-true headerSize (length (drop at trace)) (both (leb headerSize (length (drop at trace))) _ e .0))
+  whole-left e z = omega (arith, room (drop at trace) e .0)
 
   -- a whole record's payload has its length
   pub payload-length : whole (drop at trace) ≡ true → length (payloadOf (drop at trace)) ≡ lengthOf (drop at trace)
   payload-length w =
       let left = drop at trace in
-      length-take-le (lengthOf left) (drop headerSize left) (omega (arith, length-drop headerSize left, leb-true (headerSize + lengthOf left) (length left) (both (leb headerSize (length left)) _ w .1)))
+      length-take-le (lengthOf left) (drop headerSize left) (omega (arith, length-drop headerSize left, room left w .1))

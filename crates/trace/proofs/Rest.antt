@@ -6,18 +6,15 @@ use mathlib.Core.List.{List, [], _∷_}
 use Prim.Native.Nat.{ℕ, zero, suc, _+_, _≤_}
 use native.Mathlib.Nat.{add-zero}
 use native.Mathlib.Omega.{arith}
-use borrow.Author.Tests.{leb-true}
-use lib.Dec.{leb}
 use lib.ListN.{length, drop}
 use lib.Seq.{drop-drop}
 use Rattle.bus.specs.Numbers.{taken, headerCut}
-use Rattle.codes.proofs.Tests.{both}
 use Rattle.trace.specs.Records.{Trace, ended, cut, _then_, headerSize, lengthOf, whole, recordAt, splitFrom}
 use Rattle.trace.specs.Front.{frontOf}
 use Rattle.trace.specs.Play.{Machine, stopped, done, played, playRecord, playFrom}
 use Rattle.trace.specs.declared.records.Header.{Header}
 use Rattle.trace.specs.declared.records.Front.the-variants.{Nothing, Cut, Whole}
-use Rattle.trace.proofs.Fronts.{tells}
+use Rattle.trace.proofs.Fronts.{room, tells}
 use Rattle.trace.proofs.Standing.{is-whole, its-length}
 
 -- the bytes that belong to the record before are passed over
@@ -49,7 +46,7 @@ split-whole offset (byte ∷ bytes) e =
     let n = 3 + lengthOf (byte ∷ bytes) in
     let size : headerSize + lengthOf (byte ∷ bytes) ≡ suc n = omega arith in
     let place : offset + suc n ≡ offset + 1 + n = omega arith in
-    let fits : n ≤ length bytes = omega (arith, leb-true (headerSize + lengthOf (byte ∷ bytes)) (length (byte ∷ bytes)) (both (leb headerSize (length (byte ∷ bytes))) _ e .1)) in
+    let fits : n ≤ length bytes = omega (arith, room (byte ∷ bytes) e .1) in
     rw (e, size, place, passed n (offset + 1) bytes fits)
 
 -- the rest of a trace from an offset on

@@ -5,16 +5,13 @@ use mathlib.Core.Bool.{true}
 use mathlib.Core.List.{List}
 use Prim.Native.Nat.{ℕ, _+_, _≤_}
 use native.Mathlib.Omega.{arith}
-use borrow.Author.Tests.{leb-true}
-use lib.Dec.{leb}
 use lib.ListN.{length, take, drop, length-drop}
 use lib.Seq.{slice, drop-drop, drop-at, take-add, length-take-le}
-use Rattle.codes.proofs.Tests.{both}
 use Rattle.trace.specs.Records.{headerSize, lengthOf, kindOf, payloadOf, whole, recordAt}
 use Rattle.trace.specs.Front.{frontOf}
 use Rattle.trace.specs.declared.records.Header.{Header}
 use Rattle.trace.specs.declared.records.Front.the-variants.{Whole}
-use Rattle.trace.proofs.Fronts.{tells}
+use Rattle.trace.proofs.Fronts.{room, tells}
 
 module _ (trace : List ℕ) (at : ℕ) (header : Header) (h : frontOf (drop at trace) ≡ Whole header) where
   pub is-whole : whole (drop at trace) ≡ true
@@ -28,7 +25,7 @@ module _ (trace : List ℕ) (at : ℕ) (header : Header) (h : frontOf (drop at t
 
   -- the payload is not past the end
   pub within-trace : at + headerSize + header .length ≤ length trace
-  within-trace = omega (arith, its-length, length-drop at trace, leb-true (headerSize + lengthOf (drop at trace)) (length (drop at trace)) (both (leb headerSize (length (drop at trace))) _ is-whole .1))
+  within-trace = omega (arith, its-length, length-drop at trace, room (drop at trace) is-whole .1)
 
   -- the payload lies between two offsets
   its-payload : payloadOf (drop at trace) ≡ slice (at + headerSize) (at + headerSize + header .length) trace
