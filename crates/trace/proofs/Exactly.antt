@@ -61,13 +61,13 @@ module _ (state memory trace : List ℕ) where
   is-cut (small p) n = absurd (omega arith)
   is-cut (whereCut h m) n = h
   is-cut (atItsKind h m) n = absurd (omega arith)
-  is-cut (atItsRead at here d w k s after a b f m) n = absurd (omega arith)
+  is-cut (atItsRead at here d w s) n = absurd (omega (arith, s .ten))
 
   is-unknown : {number offset : ℕ} → RunStop state memory trace number offset → number ≡ kindUnknown → KindUnknown state memory trace offset
   is-unknown (small p) n = absurd (omega arith)
   is-unknown (whereCut h m) n = absurd (omega arith)
   is-unknown (atItsKind h m) n = h
-  is-unknown (atItsRead at here d w k s after a b f m) n = absurd (omega arith)
+  is-unknown (atItsRead at here d w s) n = absurd (omega (arith, s .ten))
 
   -- 8: one to three bytes left where a header should stand, or payload past the end
   pub eight : (offset : ℕ) → (run state memory trace .stop .number ≡ headerCut) × (run state memory trace .stop .offset ≡ offset) ↔ HeaderCut state memory trace offset
@@ -138,19 +138,19 @@ module _ (state memory trace : List ℕ) where
   is-read bytes (small p) n = absurd (omega arith)
   is-read bytes (whereCut h m) n = absurd (omega arith)
   is-read bytes (atItsKind h m) n = absurd (omega arith)
-  is-read bytes {number} {offset} (atItsRead at here d w k s after a b f m) n =
-      let reply = reply-there at offset here d (s .before) bytes in
+  is-read bytes {number} {offset} (atItsRead at here d w s) n =
+      let reply = reply-there at offset here d (s .stops .before) bytes in
       record {
         place = at;
         header = header-at state memory trace at here;
         complete = w;
-        reads = k;
-        after = s .after;
-        inside = s .inside;
-        before = ap (λ (r : Ran). r .stop .number) (before-ran at offset here d (s .before));
-        happens = ap (λ (r : Reply). r .number) reply ∙ rw a;
-        compared = ap (λ (r : Reply). r .dummy) reply ∙ rw a b;
-        differs = rw (reply, a) f;
+        reads = s .kind;
+        after = s .stops .after;
+        inside = s .stops .inside;
+        before = ap (λ (r : Ran). r .stop .number) (before-ran at offset here d (s .stops .before));
+        happens = ap (λ (r : Reply). r .number) reply ∙ rw (s .answer);
+        compared = ap (λ (r : Reply). r .dummy) reply ∙ rw (s .answer) (s .compared);
+        differs = rw (reply, s .answer) (s .differs);
       }
 
   -- that read has not happened: the run leaves what the bytes before it leave

@@ -29,10 +29,20 @@ module _ (trace : List ℕ) where
   unknown-stops at w c (noKind p q r s) = kind-unknown trace at _ w c p q r s
   unknown-stops at w c (loaded k p) = kind-4-loaded trace at _ w c k p
 
+  -- the read at an offset is taken, no dummy, and answers another byte; the reads before it are done
+  pub record ReadStop (at : ℕ) (c : Chip) (number offset : ℕ) (d : Chip) : Type 0 where
+    pub kind : kindOf (drop at trace) ≡ 3
+    pub stops : StopsAt theChip readAs trace (at + headerSize) (at + headerSize + lengthOf (drop at trace)) c number offset d
+    pub after : After
+    pub answer : step dataRead (d .registers) (d .memory) .answer ≡ Taken after
+    pub compared : after .dummy ≡ false
+    pub differs : after .byte ≡ getD trace offset 0 → ⊥
+    pub ten : number ≡ readDiffers
+
   pub data RecordStop (at : ℕ) (c : Chip) (number offset : ℕ) (d : Chip) : Type 0 where
     atHeader : Unknown (kindOf (drop at trace)) (lengthOf (drop at trace)) → number ≡ kindUnknown → offset ≡ at → RecordStop at c number offset d
     atEvent : taken < number → number ≤ columnAbove → RecordStop at c number offset d
-    atRead : kindOf (drop at trace) ≡ 3 → StopsAt theChip readAs trace (at + headerSize) (at + headerSize + lengthOf (drop at trace)) c number offset d → (after : After) → step dataRead (d .registers) (d .memory) .answer ≡ Taken after → after .dummy ≡ false → (after .byte ≡ getD trace offset 0 → ⊥) → number ≡ readDiffers → RecordStop at c number offset d
+    atRead : ReadStop at c number offset d → RecordStop at c number offset d
 
   module _ (at : ℕ) (c : Chip) (number offset : ℕ) (d : Chip) (w : whole (drop at trace) ≡ true) (h : playRecord theChip (recordAt at (drop at trace)) c ≡ stopped number offset d) where
     front : frontOf (drop at trace) ≡ Whole (record { kind = kindOf (drop at trace); length = lengthOf (drop at trace) })
@@ -49,7 +59,7 @@ module _ (trace : List ℕ) where
     compared s k (own p q) = atEvent p q
     compared s k (differing byte after r a b f n) =
         let same : getD trace offset 0 ≡ byte = cc in
-        atRead k s after a b (λ e. f (e ∙ same)) n
+        atRead (record { kind = k; stops = s; after = after; answer = a; compared = b; differs = λ e. f (e ∙ same); ten = n })
 
     pub record-stop : {result : Result (List Recorded)} → Kind (kindOf (drop at trace)) (payloadOf (drop at trace)) result → RecordStop at c number offset d
     unfolding replay happened step resetPin

@@ -1,34 +1,31 @@
 -- How a run of the chip stops: at a header that is cut or of no kind, or at an event of a record, after whole records that are taken.
 -- Assumes nothing.
 use mathlib.Core.Path.{_≡_, refl, sym, _∙_, ap, subst}
-use mathlib.Core.Bool.{true, false}
+use mathlib.Core.Bool.{true}
 use mathlib.Core.List.{List, []}
-use Prim.Native.Nat.{ℕ, _+_, _≤_}
+use Prim.Native.Nat.{ℕ, _≤_}
 use native.Mathlib.Omega.{arith}
-use lib.ListN.{length, getD, take, drop}
+use lib.ListN.{length, take, drop}
 use lib.Seq.{length-take-le}
-use Rattle.bus.specs.Numbers.{taken, columnAbove, headerCut, kindUnknown, readDiffers}
-use Rattle.bus.specs.Machine.{Chip, dataRead, step}
+use Rattle.bus.specs.Numbers.{taken, columnAbove, headerCut, kindUnknown}
+use Rattle.bus.specs.Machine.{Chip}
 use Rattle.bus.specs.Image.{asked}
 use Rattle.bus.specs.declared.registers.Registers.{Registers}
-use Rattle.bus.specs.declared.answer.After.{After}
-use Rattle.bus.specs.declared.answer.Answer.the-variants.{Taken}
 use Rattle.bus.specs.declared.image.Asked.the-variants.{Found}
 use Rattle.bus.proofs.Asking.{OneOrTwo, asked-refusal}
-use Rattle.trace.specs.Records.{headerSize, lengthOf, kindOf, whole, split}
+use Rattle.trace.specs.Records.{whole, split}
 use Rattle.trace.specs.Play.{Played, played, playFrom, play}
-use Rattle.trace.specs.Chip.{readAs, chipOf, theChip}
+use Rattle.trace.specs.Chip.{chipOf, theChip}
 use Rattle.trace.specs.Run.{Ran, ranOf, run}
 use Rattle.trace.specs.Given.{HeaderAt, HeaderCut, KindUnknown}
 use Rattle.trace.proofs.Rest.{rest}
 use Rattle.trace.proofs.Joined.{taken-offset}
 use Rattle.trace.proofs.First.{Reached, First, all, cutAt, stopAt, first, from-there}
-use Rattle.trace.proofs.Turn.{StopsAt}
 use Rattle.trace.proofs.Payloads.{by-kind}
 use Rattle.trace.proofs.Sound.{the-chip-sound}
 use Rattle.trace.proofs.Runs.{run-found, by-asking, refused-run, refused-taken}
 use Rattle.trace.proofs.Fronts.{tests-cut}
-use Rattle.trace.proofs.RecordStops.{RecordStop, atHeader, atEvent, atRead, record-stop}
+use Rattle.trace.proofs.RecordStops.{ReadStop, RecordStop, atHeader, atEvent, atRead, record-stop}
 
 as-played : {S : Type 0} (p : Played S) {number offset : ℕ} → p .number ≡ number → p .offset ≡ offset → p ≡ played number offset (p .count) (p .state)
 as-played p a b = rw (← a, ← b)
@@ -68,7 +65,7 @@ module _ (state memory trace : List ℕ) where
     small : number ≤ columnAbove → RunStop number offset
     whereCut : HeaderCut state memory trace offset → number ≡ headerCut → RunStop number offset
     atItsKind : KindUnknown state memory trace offset → number ≡ kindUnknown → RunStop number offset
-    atItsRead : (at : ℕ) (here : Standing at) (d : Chip) → whole (drop at trace) ≡ true → kindOf (drop at trace) ≡ 3 → StopsAt theChip readAs trace (at + headerSize) (at + headerSize + lengthOf (drop at trace)) (here .chip) number offset d → (after : After) → step dataRead (d .registers) (d .memory) .answer ≡ Taken after → after .dummy ≡ false → (after .byte ≡ getD trace offset 0 → ⊥) → number ≡ readDiffers → RunStop number offset
+    atItsRead : (at : ℕ) (here : Standing at) (d : Chip) → whole (drop at trace) ≡ true → ReadStop trace at (here .chip) number offset d → RunStop number offset
 
   pub header-at : (at : ℕ) → Standing at → HeaderAt state memory trace at
   unfolding ranOf
@@ -77,7 +74,7 @@ module _ (state memory trace : List ℕ) where
   from-record : (at : ℕ) (here : Standing at) (number offset : ℕ) (d : Chip) → whole (drop at trace) ≡ true → RecordStop trace at (here .chip) number offset d → RunStop number offset
   from-record at here number offset d w (atHeader u n o) = atItsKind (rw o (record { header = header-at at here; complete = w; unknown = u })) n
   from-record at here number offset d w (atEvent p q) = small q
-  from-record at here number offset d w (atRead k s after a b f n) = atItsRead at here d w k s after a b f n
+  from-record at here number offset d w (atRead s) = atItsRead at here d w s
 
   from-first : (r : Registers) → asked state memory ≡ Found r → {p : Played Chip} → First theChip trace (chipOf r memory) p → RunStop (p .number) (p .offset)
   from-first r e (all n) = small (omega arith)
