@@ -37,7 +37,7 @@ use Rattle.codes.specs.declared.Operand.{Operand}
 use Rattle.codes.specs.declared.Operand.the-variants.{Contrast, Multiplex, HeldByte, IndicatorMode, Offset, FramePhases, NotAllowed, NotAwaited}
 use Rattle.codes.proofs.Tests.{chosen}
 use Rattle.bus.specs.Sizes.{lastColumn, pages, memorySize}
-use Rattle.bus.specs.Numbers.{taken, columnAbove}
+use Rattle.bus.specs.Numbers.{taken, outOfRange, columnAbove}
 use Rattle.bus.specs.Events.{numberOf, byteOf, dummyOf, obeyed, supplied, command, access, write, read, resetPin}
 use Rattle.bus.specs.Machine.{Event, commandByte, dataWritten, dataRead, resetPulse, step}
 use Rattle.bus.specs.Given.{numberOfCommand, numberOfOperand, numberOfEvent, isRead}
@@ -55,29 +55,30 @@ StandsFor number (Refused refusal) = (number ≡ refusal) × (taken < refusal) �
 abbrev pub Silent : Answer → Type 0
 Silent answer = (byteOf answer ≡ 0) × (dummyOf answer ≡ false)
 
-obeyed-answers : (named : Command) (r : Registers) → StandsFor (numberOfCommand named) (obeyed named r) × Silent (obeyed named r)
+-- a command answers the number that the table gives, which is never 2
+pub obeyed-answers : (named : Command) (r : Registers) → StandsFor (numberOfCommand named) (obeyed named r) × Silent (obeyed named r) × (eqb (numberOfCommand named) outOfRange ≡ false)
 unfolding obeyed byteOf dummyOf
-obeyed-answers (ColumnLow low) r = (refl, (refl, refl))
-obeyed-answers (ColumnHigh high) r = (refl, (refl, refl))
-obeyed-answers (ResistorRatio ratio) r = (refl, (refl, refl))
-obeyed-answers (PowerControl power) r = (refl, (refl, refl))
-obeyed-answers (StartLine line) r = (refl, (refl, refl))
-obeyed-answers (ColumnDirection direction) r = (refl, (refl, refl))
-obeyed-answers (Bias bias) r = (refl, (refl, refl))
-obeyed-answers (EntireOn entire) r = (refl, (refl, refl))
-obeyed-answers (Reverse reverse) r = (refl, (refl, refl))
-obeyed-answers (QuarterBias bias) r = (refl, (refl, refl))
-obeyed-answers IndicatorOff r = (refl, (refl, refl))
-obeyed-answers (DisplayOn on) r = (refl, (refl, refl))
-obeyed-answers (Page page) r = (refl, (refl, refl))
-obeyed-answers NoPage r = ((refl, lit≤ tt, lit≤ tt), (refl, refl))
-obeyed-answers (RowDirection direction) r = (refl, (refl, refl))
-obeyed-answers EnterReadModifyWrite r = (refl, (refl, refl))
-obeyed-answers SoftwareReset r = (refl, (refl, refl))
-obeyed-answers Nothing r = (refl, (refl, refl))
-obeyed-answers LeaveReadModifyWrite r = (refl, (refl, refl))
-obeyed-answers (Await code) r = (refl, (refl, refl))
-obeyed-answers Outside r = ((refl, lit≤ tt, lit≤ tt), (refl, refl))
+obeyed-answers (ColumnLow low) r = (refl, (refl, refl), refl)
+obeyed-answers (ColumnHigh high) r = (refl, (refl, refl), refl)
+obeyed-answers (ResistorRatio ratio) r = (refl, (refl, refl), refl)
+obeyed-answers (PowerControl power) r = (refl, (refl, refl), refl)
+obeyed-answers (StartLine line) r = (refl, (refl, refl), refl)
+obeyed-answers (ColumnDirection direction) r = (refl, (refl, refl), refl)
+obeyed-answers (Bias bias) r = (refl, (refl, refl), refl)
+obeyed-answers (EntireOn entire) r = (refl, (refl, refl), refl)
+obeyed-answers (Reverse reverse) r = (refl, (refl, refl), refl)
+obeyed-answers (QuarterBias bias) r = (refl, (refl, refl), refl)
+obeyed-answers IndicatorOff r = (refl, (refl, refl), refl)
+obeyed-answers (DisplayOn on) r = (refl, (refl, refl), refl)
+obeyed-answers (Page page) r = (refl, (refl, refl), refl)
+obeyed-answers NoPage r = ((refl, lit≤ tt, lit≤ tt), (refl, refl), refl)
+obeyed-answers (RowDirection direction) r = (refl, (refl, refl), refl)
+obeyed-answers EnterReadModifyWrite r = (refl, (refl, refl), refl)
+obeyed-answers SoftwareReset r = (refl, (refl, refl), refl)
+obeyed-answers Nothing r = (refl, (refl, refl), refl)
+obeyed-answers LeaveReadModifyWrite r = (refl, (refl, refl), refl)
+obeyed-answers (Await code) r = (refl, (refl, refl), refl)
+obeyed-answers Outside r = ((refl, lit≤ tt, lit≤ tt), (refl, refl), refl)
 
 supplied-answers : (operand : Operand) (r : Registers) → StandsFor (numberOfOperand operand) (supplied operand r) × Silent (supplied operand r)
 unfolding supplied byteOf dummyOf

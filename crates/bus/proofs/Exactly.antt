@@ -1,22 +1,26 @@
 -- Document 01, "Numbers given": a single event's call gives each number exactly when the table says so, with the byte and the dummy mark that it says.
 -- Assumes nothing.
-use mathlib.Core.Path.{_≡_, refl, _∙_, ap, subst}
-use mathlib.Core.Bool.{Bool, true, false, cond, not, _&&_}
-use mathlib.Core.Logic.{_↔_}
-use mathlib.Core.List.{List}
+use mathlib.Core.Path.{_≡_, refl, sym, _∙_, ap, subst}
+use mathlib.Core.Bool.{Bool, true, false, cond, not, _&&_, false≢true}
+use mathlib.Core.Logic.{_↔_, ⊎-elim}
+use mathlib.Core.List.{List, [], _∷_}
 use Prim.Native.Nat.{ℕ, _<_}
 use native.Mathlib.Omega.{arith}
-use lib.Dec.{eqb, lit<}
+use lib.Dec.{leb, eqb, lit<}
 use lib.ListN.{length, getD}
-use borrow.Author.Tests.{le-ltb, lt-ltb, eqb-true, not-false}
-use Rattle.bus.specs.Sizes.{pages, memorySize}
+use borrow.Author.Tests.{le-ltb, lt-ltb, eqb-true, eqb-false, not-false}
+use Rattle.codes.specs.OneOf.{oneOf}
+use Rattle.codes.specs.Table.{table, offsetOf, framePhasesOf, commandOf, operandBy, operandOf}
+use Rattle.codes.specs.declared.Operand.{Operand}
+use Rattle.codes.proofs.Tests.{chosen, either}
+use Rattle.bus.specs.Sizes.{lastColumn, pages, memorySize}
 use Rattle.bus.specs.Numbers.{taken, tooShort, outOfRange}
 use Rattle.bus.specs.Registers.{largestValues, registersOf}
 use Rattle.bus.specs.Memory.{address, kept}
 use Rattle.bus.specs.Events.{numberOf, byteOf, dummyOf, access, dummyRead, byteRead, read}
 use Rattle.bus.specs.Machine.{Event, commandByte, dataWritten, dataRead, resetPulse, step}
-use Rattle.bus.specs.Image.{short, legal, asked}
-use Rattle.bus.specs.Given.{numberOfEvent, asksRanges, numberGiven, isRead, replyWith, replyGiven}
+use Rattle.bus.specs.Image.{awaitedCodes, short, legal, asked}
+use Rattle.bus.specs.Given.{numberOfOperand, numberOfEvent, asksRanges, numberGiven, isRead, replyWith, replyGiven}
 use Rattle.bus.specs.Calls.{replyOf, concluded, refused, askedBefore, callOn, call}
 use Rattle.bus.specs.declared.registers.Registers.{Registers}
 use Rattle.bus.specs.declared.answer.After.{After}
@@ -28,7 +32,7 @@ use Rattle.bus.specs.declared.calls.Reply.{Reply}
 use Rattle.bus.proofs.Legal.{long}
 use Rattle.bus.proofs.Kept.{bound, state-facts}
 use Rattle.bus.proofs.Asking.{OneOrTwo, before-refusal}
-use Rattle.bus.proofs.Answers.{StandsFor, Silent, metBy, step-answers, step-silent, its-number, was-taken}
+use Rattle.bus.proofs.Answers.{obeyed-answers, StandsFor, Silent, metBy, step-answers, step-silent, its-number, was-taken}
 
 -- the reply to an event by the number that it meets
 read-reply : (r : Registers) (memory : List ℕ) → replyOf (read r memory) ≡ replyWith (access r (length memory)) dataRead r memory
@@ -105,6 +109,51 @@ reply-given event state memory = rw (asked-table event state memory) (by (short 
 -- so is its number
 pub number-given : (event : Event) (state memory : List ℕ) → call event state memory .reply .number ≡ numberGiven event state memory
 number-given event state memory = ap (λ (reply : Reply). reply .number) (reply-given event state memory)
+
+-- what holds at each number of a list holds of one of them
+abbrev Each : (ℕ → Type 0) → List ℕ → Type 0
+Each P [] = Unit {0}
+Each P (m ∷ ms) = P m × Each P ms
+
+one-of-each : (P : ℕ → Type 0) (ms : List ℕ) (n : ℕ) → Each P ms → oneOf ms n ≡ true → P n
+one-of-each P [] n p e = absurd (false≢true e)
+one-of-each P (m ∷ ms) n p e = ⊎-elim (λ q. subst P (sym (eqb-true n m q)) (p .0)) (one-of-each P ms n (p .1)) (either (eqb n m) (oneOf ms n) e)
+
+abbrev NotTwo : Operand → Type 0
+NotTwo operand = eqb (numberOfOperand operand) outOfRange ≡ false
+
+-- a code that may be awaited has its n
+operand-number : (code n : ℕ) → oneOf awaitedCodes code ≡ true → eqb code 0 ≡ false → eqb (numberOfOperand (operandOf code n)) outOfRange ≡ false
+unfolding awaitedCodes operandOf operandBy table offsetOf framePhasesOf
+operand-number code n h none =
+    one-of-each (λ code. eqb code 0 ≡ false → eqb (numberOfOperand (operandOf code n)) outOfRange ≡ false) awaitedCodes code
+    (λ z. absurd (false≢true (sym z)), (λ z. refl, (λ z. refl, (λ z. refl, (λ z. refl, (λ z. chosen NotTwo (leb n 0x3F) _ _ (λ e. refl) (λ e. refl), (λ z. chosen NotTwo (oneOf (0x00 ∷ 0x10 ∷ 0x20 ∷ 0x30 ∷ []) n) _ _ (λ e. refl) (λ e. refl), tt)))))))
+    h none
+
+-- where it is not refused with 1 or 2 before, no event meets 2
+data-not-two : (r : Registers) → eqb (numberOfEvent dataRead r) outOfRange ≡ false
+data-not-two r =
+    chosen (λ number. eqb number outOfRange ≡ false) (eqb (r .awaited) 0) _ _
+    (λ e. chosen (λ number. eqb number outOfRange ≡ false) (leb (r .column) lastColumn) _ _ (λ e. refl) (λ e. refl))
+    (λ e. refl)
+
+not-two : (event : Event) (state memory : List ℕ) → short state memory ≡ false → asksRanges event && not (legal state) ≡ false → eqb (numberOfEvent event (registersOf state)) outOfRange ≡ false
+not-two (commandByte b) state memory p q =
+    let r = registersOf state in
+    let l = state-facts state (long state memory p .0) (not-false (legal state) q) in
+    chosen (λ number. eqb number outOfRange ≡ false) (eqb (r .awaited) 0) _ _ (λ e. obeyed-answers (commandOf b) r .2) (operand-number (r .awaited) b (l .code))
+not-two (dataWritten b) state memory p q = data-not-two (registersOf state)
+not-two dataRead state memory p q = data-not-two (registersOf state)
+not-two resetPulse state memory p q = refl
+
+-- 2 is given exactly when the image is out of its ranges, where 1 does not go first; it is not asked at the reset pin
+pub two-given : (event : Event) (state memory : List ℕ) → call event state memory .reply .number ≡ outOfRange ↔ (short state memory ≡ false) × (asksRanges event && not (legal state) ≡ true)
+two-given event state memory = rw (number-given event state memory) (by (short state memory) (asksRanges event && not (legal state)) refl refl)
+  where
+    by : (s t : Bool) → short state memory ≡ s → asksRanges event && not (legal state) ≡ t → cond s tooShort (cond t outOfRange (numberOfEvent event (registersOf state))) ≡ outOfRange ↔ (s ≡ false) × (t ≡ true)
+    by true t p q = (λ e. absurd (omega (arith, e)), λ h. absurd (false≢true (sym (h .0))))
+    by false true p q = (λ e. (refl, refl), λ h. refl)
+    by false false p q = (λ e. absurd (eqb-false _ _ (not-two event state memory p q) e), λ h. absurd (false≢true (h .1)))
 
 -- an event is taken: what is asked before it finds registers, and its step from them is taken
 pub record IsTaken (event : Event) (state memory : List ℕ) : Type 0 where
