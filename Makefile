@@ -7,6 +7,8 @@
 # x86-64 by a cross compiler and run by an emulator; host/cross.sh sees that
 # they are there.
 
+SHELL  := /bin/bash
+
 MODEL  ?= proved
 SEED   ?= 1
 TIMES  ?= 1
@@ -50,7 +52,7 @@ SAMPLES  := $(OUT)/samples
 HEADER   := $(OUT)/header
 BENCH    := $(OUT)/bench/bench
 
-.PHONY: tool show test compare calls check-tool check-traces sanitize mutants \
+.PHONY: tool show test compare reread calls check-tool check-traces sanitize mutants \
         bench instructions traces oracle cross clean help
 .DELETE_ON_ERROR:
 
@@ -64,11 +66,12 @@ help:
 	@echo 'make show          a screen: TRACE=FILE for another trace'
 	@echo 'make test          all tests of the C side'
 	@echo 'make compare       the library beside the oracle; SEED=2 TIMES=10 for more'
+	@echo 'make reread        the oracle beside the second reading, likewise'
 	@echo 'make sanitize      the same tests with address and undefined-behaviour checks'
 	@echo 'make mutants       damaged plain C, which the comparison must catch'
 	@echo 'make bench         the library beside plain C: time'
 	@echo 'make instructions  the library beside plain C: executed instructions'
-	@echo 'make traces        makes traces/*.trace and *.list again from their sources'
+	@echo 'make traces        makes traces/*.trace, *.list and the pack of crates/lists again'
 	@echo 'make clean         removes what was made'
 	@echo 'MODEL=plain        with any of these: plain C in place of the library'
 
@@ -77,6 +80,12 @@ test: compare calls check-tool check-traces
 
 compare: $(COMPARE) oracle
 	host/compare/compare.sh $(ORACLE) $(SEED) $(TIMES) -- $(RUN) $(COMPARE)
+
+# The oracle beside the second reading of documents 00 and 01.
+reread: oracle
+	cargo build --quiet --release --manifest-path reread/Cargo.toml
+	set -o pipefail; oracle/stream.sh $(ORACLE) $(SEED) $(TIMES) \
+	  | reread/target/release/reread
 
 calls: $(CALLS) $(SAMPLES) $(HEADER)
 	$(RUN) $(CALLS)
@@ -114,6 +123,7 @@ instructions: $(BENCH)
 traces: oracle
 	traces/make.py
 	traces/list.sh $(ORACLE)
+	traces/pack.py
 
 oracle:
 	cargo build --quiet --release --manifest-path oracle/Cargo.toml

@@ -4,7 +4,8 @@
 # registers that it leaves.  A NAME.list beside a NAME.trace is compared too;
 # only a trace in recorded/ may be without one.  In refusals/ a trace is refused
 # with the number that its name begins with; in the other folders, recorded/
-# apart, all is taken, compared reads too.
+# apart, all is taken, compared reads too.  Traces, listings and the stored run
+# of crates/lists must be what make.py and pack.py make.
 #
 #   check.sh ORACLE TOOL...      TOOL... is the command that runs the tool
 set -euo pipefail
@@ -73,6 +74,7 @@ done < <(find "$traces" -name '*.trace' | sort)
 
 if command -v python3 > /dev/null; then
   "$traces/make.py" --check || failed=$((failed + 1))
+  "$traces/pack.py" --check || failed=$((failed + 1))
 fi
 
 echo "traces: $count compared, $failed differences"

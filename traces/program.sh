@@ -1,14 +1,17 @@
 #!/usr/bin/env bash
-# program.sh LIST ORACLE: the listing program on every stored trace, and on inputs about the limit of 65,536 bytes.
-# What it must print is what the second program prints.
+# program.sh LIST LISTS ORACLE: the listing program on every stored trace, and on inputs about the limit of 65,536 bytes.
+# What it must print is what the second program prints. Then both programs on standard input that cannot be read and
+# standard output that cannot be written: one line on standard error, and nothing listed.
 set -euo pipefail
 list=$1
-oracle=$2
+lists=$2
+oracle=$3
 cd "$(dirname "$0")/.."
 
 found=$(mktemp)
 wanted=$(mktemp)
-trap 'rm -f "$found" "$wanted"' EXIT
+said=$(mktemp)
+trap 'rm -f "$found" "$wanted" "$said"' EXIT
 compared=0
 wrong=0
 
@@ -37,6 +40,42 @@ done
 whole() { for _ in $(seq 256); do printf '\0\0\1\0%.0s' $(seq 64); done; }
 compare '65,536 bytes of empty records' < <(whole)
 compare '65,537 bytes' < <(whole; printf '\0')
+
+# tells LINE: what the last program wrote to $said is this line, and to $found nothing.
+tells() {
+    compared=$((compared + 1))
+    if [ -s "$found" ] || [ "$(cat "$said")" != "$1" ]; then
+        wrong=$((wrong + 1))
+        echo "not told, or listed all the same: $1" >&2
+        head -n 3 "$said" "$found" >&2
+    fi
+}
+
+# A whole trace, or pack, from a connection that then breaks off: the read after it fails, and the one after that is the end.
+breaks_off() {
+    python3 -c '
+import socket, subprocess, sys
+here, there = socket.socketpair()
+here.send(b"unread")
+there.sendall(open(sys.argv[2], "rb").read())
+there.close()
+subprocess.run(sys.argv[1:2], stdin=here, check=True)' "$@"
+}
+
+for program in "$list" "$lists"; do
+    name=$(basename "$program")
+    "$program" <&- >"$found" 2>"$said"
+    tells "$name: standard input cannot be read"
+    "$program" </ >"$found" 2>"$said"
+    tells "$name: standard input cannot be read"
+    breaks_off "$program" "crates/$name/stdin" >"$found" 2>"$said"
+    tells "$name: standard input cannot be read"
+    : >"$found"
+    "$program" <"crates/$name/stdin" >/dev/full 2>"$said"
+    tells "$name: standard output cannot be written"
+    "$program" <"crates/$name/stdin" >&- 2>"$said"
+    tells "$name: standard output cannot be written"
+done
 
 echo "list: $compared inputs, $wrong differences"
 [ "$wrong" -eq 0 ]

@@ -10,8 +10,8 @@ use lib.Dec.{leb, eqb, lit<}
 use lib.ListN.{length, getD}
 use borrow.Author.Tests.{le-ltb, lt-ltb, eqb-true, eqb-false, not-false}
 use Rattle.codes.specs.OneOf.{oneOf}
-use Rattle.codes.specs.Table.{table, offsetOf, framePhasesOf, commandOf, operandBy, operandOf}
-use Rattle.codes.specs.declared.Operand.{Operand}
+use Rattle.codes.specs.Table.{Row, one, two, table, offsetOf, framePhasesOf, commandBy, commandOf, operandBy, operandOf, meaningOf}
+use Rattle.codes.specs.declared.Command.{Command}
 use Rattle.codes.proofs.Tests.{chosen, either}
 use Rattle.bus.specs.Sizes.{lastColumn, pages, memorySize}
 use Rattle.bus.specs.Numbers.{taken, tooShort, outOfRange}
@@ -20,7 +20,7 @@ use Rattle.bus.specs.Memory.{address, kept}
 use Rattle.bus.specs.Events.{numberOf, byteOf, dummyOf, access, dummyRead, byteRead, read}
 use Rattle.bus.specs.Machine.{Event, commandByte, dataWritten, dataRead, resetPulse, step}
 use Rattle.bus.specs.Image.{awaitedCodes, short, legal, asked}
-use Rattle.bus.specs.Given.{numberOfOperand, numberOfEvent, asksRanges, numberGiven, isRead, replyWith, replyGiven}
+use Rattle.bus.specs.Given.{numberOfCommand, numberOfEvent, asksRanges, numberGiven, isRead, replyWith, replyGiven}
 use Rattle.bus.specs.Calls.{replyOf, concluded, refused, askedBefore, callOn, call}
 use Rattle.bus.specs.declared.registers.Registers.{Registers}
 use Rattle.bus.specs.declared.answer.After.{After}
@@ -32,7 +32,7 @@ use Rattle.bus.specs.declared.calls.Reply.{Reply}
 use Rattle.bus.proofs.Legal.{long}
 use Rattle.bus.proofs.Kept.{bound, state-facts}
 use Rattle.bus.proofs.Asking.{OneOrTwo, before-refusal}
-use Rattle.bus.proofs.Answers.{obeyed-answers, StandsFor, Silent, metBy, step-answers, step-silent, its-number, was-taken}
+use Rattle.bus.proofs.Answers.{StandsFor, Silent, metBy, step-answers, step-silent, was-taken}
 
 -- the reply to an event by the number that it meets
 read-reply : (r : Registers) (memory : List ℕ) → replyOf (read r memory) ≡ replyWith (access r (length memory)) dataRead r memory
@@ -48,8 +48,9 @@ read-reply r memory = by (access r (length memory)) (eqb (access r (length memor
     by number false fresh e = refl
 
 silent-reply : (number : ℕ) (answer : Answer) → StandsFor number answer → Silent answer → replyOf answer ≡ record { number = number; byte = 0; dummy = false }
-unfolding replyOf
-silent-reply number answer n s = rw (its-number number answer n, s .0, s .1)
+unfolding replyOf numberOf byteOf dummyOf
+silent-reply number (Taken after) n s = rw (n, s .0, s .1)
+silent-reply number (Refused refusal) n s = rw (n .0)
 
 step-reply : (event : Event) (r : Registers) (memory : List ℕ) → replyOf (step event r memory .answer) ≡ replyWith (metBy event r (length memory)) event r memory
 unfolding step
@@ -119,16 +120,32 @@ one-of-each : (P : ℕ → Type 0) (ms : List ℕ) (n : ℕ) → Each P ms → o
 one-of-each P [] n p e = absurd (false≢true e)
 one-of-each P (m ∷ ms) n p e = ⊎-elim (λ q. subst P (sym (eqb-true n m q)) (p .0)) (one-of-each P ms n (p .1)) (either (eqb n m) (oneOf ms n) e)
 
-abbrev NotTwo : Operand → Type 0
-NotTwo operand = eqb (numberOfOperand operand) outOfRange ≡ false
+abbrev NotTwo : Command → Type 0
+NotTwo named = eqb (numberOfCommand named) outOfRange ≡ false
 
 -- a code that may be awaited has its n
-operand-number : (code n : ℕ) → oneOf awaitedCodes code ≡ true → eqb code 0 ≡ false → eqb (numberOfOperand (operandOf code n)) outOfRange ≡ false
+operand-number : (code n : ℕ) → oneOf awaitedCodes code ≡ true → eqb code 0 ≡ false → NotTwo (operandOf code n)
 unfolding awaitedCodes operandOf operandBy table offsetOf framePhasesOf
 operand-number code n h none =
-    one-of-each (λ code. eqb code 0 ≡ false → eqb (numberOfOperand (operandOf code n)) outOfRange ≡ false) awaitedCodes code
+    one-of-each (λ code. eqb code 0 ≡ false → NotTwo (operandOf code n)) awaitedCodes code
     (λ z. absurd (false≢true (sym z)), (λ z. refl, (λ z. refl, (λ z. refl, (λ z. refl, (λ z. chosen NotTwo (leb n 0x3F) _ _ (λ e. refl) (λ e. refl), (λ z. chosen NotTwo (oneOf (0x00 ∷ 0x10 ∷ 0x20 ∷ 0x30 ∷ []) n) _ _ (λ e. refl) (λ e. refl), tt)))))))
     h none
+
+-- no command of the table is refused with 2
+abbrev EachRow : List Row → Type 0
+EachRow [] = Unit {0}
+EachRow (one first last means ∷ rows) = ((b : ℕ) → NotTwo (means b)) × EachRow rows
+EachRow (two code gives ∷ rows) = EachRow rows
+
+command-by : (rows : List Row) (b : ℕ) → EachRow rows → NotTwo (commandBy rows b)
+unfolding commandBy
+command-by [] b s = refl
+command-by (one first last means ∷ rows) b s = chosen NotTwo (leb first b && leb b last) _ _ (λ e. s .0 b) (λ e. command-by rows b (s .1))
+command-by (two code gives ∷ rows) b s = chosen NotTwo (eqb b code) _ _ (λ e. refl) (λ e. command-by rows b s)
+
+command-number : (b : ℕ) → NotTwo (commandOf b)
+unfolding commandOf table
+command-number b = command-by table b (λ b. refl, (λ b. refl, (λ b. refl, (λ b. refl, (λ b. refl, (λ b. refl, (λ b. refl, (λ b. refl, (λ b. refl, (λ b. refl, (λ b. refl, (λ b. refl, (λ b. refl, (λ b. refl, (λ b. refl, (λ b. refl, (λ b. refl, (λ b. refl, (λ b. refl, (λ b. refl, tt))))))))))))))))))))
 
 -- where it is not refused with 1 or 2 before, no event meets 2
 data-not-two : (r : Registers) → eqb (numberOfEvent dataRead r) outOfRange ≡ false
@@ -138,10 +155,11 @@ data-not-two r =
     (λ e. refl)
 
 not-two : (event : Event) (state memory : List ℕ) → short state memory ≡ false → asksRanges event && not (legal state) ≡ false → eqb (numberOfEvent event (registersOf state)) outOfRange ≡ false
+unfolding meaningOf
 not-two (commandByte b) state memory p q =
     let r = registersOf state in
     let l = state-facts state (long state memory p .0) (not-false (legal state) q) in
-    chosen (λ number. eqb number outOfRange ≡ false) (eqb (r .awaited) 0) _ _ (λ e. obeyed-answers (commandOf b) r .2) (operand-number (r .awaited) b (l .code))
+    chosen NotTwo (eqb (r .awaited) 0) _ _ (λ e. command-number b) (operand-number (r .awaited) b (l .code))
 not-two (dataWritten b) state memory p q = data-not-two (registersOf state)
 not-two dataRead state memory p q = data-not-two (registersOf state)
 not-two resetPulse state memory p q = refl

@@ -10,8 +10,8 @@ use lib.Dec.{leb, eqb, lit≤}
 use lib.ListN.{length, getD, drop, set}
 use borrow.Author.Tests.{le-leb, leb-true, eqb-true}
 use Rattle.codes.specs.OneOf.{oneOf}
-use Rattle.codes.specs.Table.{table, commandOf, operandOf}
-use Rattle.codes.specs.Values.{codesOf, CommandInRange, OperandInRange}
+use Rattle.codes.specs.Table.{table, meaningOf}
+use Rattle.codes.specs.Values.{codesOf, CommandInRange}
 use Rattle.codes.specs.declared.Command.{Command}
 use Rattle.codes.specs.declared.Command.the-variants.{
   ColumnLow,
@@ -19,41 +19,47 @@ use Rattle.codes.specs.declared.Command.the-variants.{
   ResistorRatio,
   PowerControl,
   StartLine,
+  Contrast,
   ColumnDirection,
   Bias,
   EntireOn,
   Reverse,
+  Multiplex,
+  HeldByte,
   QuarterBias,
   IndicatorOff,
+  IndicatorMode,
   DisplayOn,
   Page,
   NoPage,
   RowDirection,
+  Offset,
+  FramePhases,
   EnterReadModifyWrite,
   SoftwareReset,
   Nothing,
   LeaveReadModifyWrite,
   Await,
+  NotAllowed,
+  NotAwaited,
   Outside,
 }
-use Rattle.codes.specs.declared.Operand.{Operand}
-use Rattle.codes.specs.declared.Operand.the-variants.{Contrast, Multiplex, HeldByte, IndicatorMode, Offset, FramePhases, NotAllowed, NotAwaited}
 use Rattle.codes.proofs.Tests.{both, chosen, one-of-at-most}
-use Rattle.codes.proofs.InRange.{command-in-range, operand-in-range}
+use Rattle.codes.proofs.InRange.{meaning-in-range}
 use Rattle.bus.specs.Sizes.{imageSize}
 use Rattle.bus.specs.Numbers.{taken}
 use Rattle.bus.specs.Places.{page, column, start, offset, multiplex, contrast, ratio, power, bias, quarter, held, phases, mirrored, rows, entire, reverse, on, indicator, mode, awaited, modify, saved, fresh}
 use Rattle.bus.specs.Registers.{largestValues, imageOf, registersOf, _with_≔_, powerOn}
 use Rattle.bus.specs.Memory.{onward}
-use Rattle.bus.specs.Events.{done, given, enter, leave, softwareReset, obeyed, supplied, command, access, moved, write, read, resetPin}
+use Rattle.bus.specs.Events.{done, enter, leave, softwareReset, obeyed, command, access, moved, write, read, resetPin}
 use Rattle.bus.specs.Machine.{Event, commandByte, dataWritten, dataRead, resetPulse, step}
 use Rattle.bus.specs.Image.{within, awaitedCodes, legal, asked}
 use Rattle.bus.specs.declared.image.Asked.the-variants.{Found}
+use Rattle.bus.proofs.Legal.{long}
 use Rattle.bus.specs.declared.registers.Registers.{Registers}
 use Rattle.bus.specs.declared.answer.Answer.{Answer}
 use Rattle.bus.specs.declared.answer.Answer.the-variants.{Taken, Refused}
 use Rattle.bus.proofs.Access.{opened}
-use Rattle.bus.proofs.Legal.{long}
 use Rattle.bus.proofs.Asking.{found-legal}
 use Rattle.bus.proofs.ThereAndBack.{image-registers, image-with}
 
@@ -198,16 +204,22 @@ obeyed-keeps (ColumnHigh high) r h l = done-keeps _ (set-plain r column _ l (ome
 obeyed-keeps (ResistorRatio value) r h l = done-keeps _ (set-plain r ratio value l (omega arith) refl refl refl)
 obeyed-keeps (PowerControl value) r h l = done-keeps _ (set-plain r power value l (omega arith) refl refl refl)
 obeyed-keeps (StartLine value) r h l = done-keeps _ (set-plain r start value l (omega arith) refl refl refl)
+obeyed-keeps (Contrast value) r h l = done-keeps _ (set-plain r contrast value l (omega arith) refl refl refl)
 obeyed-keeps (ColumnDirection value) r h l = done-keeps _ (set-plain r mirrored value l (omega arith) refl refl refl)
 obeyed-keeps (Bias value) r h l = done-keeps _ (set-plain r bias value l (omega arith) refl refl refl)
 obeyed-keeps (EntireOn value) r h l = done-keeps _ (set-plain r entire value l (omega arith) refl refl refl)
 obeyed-keeps (Reverse value) r h l = done-keeps _ (set-plain r reverse value l (omega arith) refl refl refl)
+obeyed-keeps (Multiplex value) r h l = done-keeps _ (set-plain r multiplex value l (omega arith) refl refl refl)
+obeyed-keeps (HeldByte value) r h l = done-keeps _ (set-plain r held value l (omega arith) refl refl refl)
 obeyed-keeps (QuarterBias value) r h l = done-keeps _ (set-plain r quarter value l (omega arith) refl refl refl)
 obeyed-keeps IndicatorOff r h l = done-keeps _ (set-plain _ mode 0 (set-plain r indicator 0 l (omega arith) refl refl refl) (omega arith) refl refl refl)
+obeyed-keeps (IndicatorMode value) r h l = done-keeps _ (set-plain _ mode value (set-plain r indicator 1 l (omega arith) refl refl refl) (omega arith) refl refl refl)
 obeyed-keeps (DisplayOn value) r h l = done-keeps _ (set-plain r on value l (omega arith) refl refl refl)
 obeyed-keeps (Page value) r h l = done-keeps _ (set-plain r page value l (omega arith) refl refl refl)
 obeyed-keeps NoPage r h l = tt
 obeyed-keeps (RowDirection value) r h l = done-keeps _ (set-plain r rows value l (omega arith) refl refl refl)
+obeyed-keeps (Offset value) r h l = done-keeps _ (set-plain r offset value l (omega arith) refl refl refl)
+obeyed-keeps (FramePhases value) r h l = done-keeps _ (set-plain r phases value l (omega arith) refl refl refl)
 obeyed-keeps EnterReadModifyWrite r h l = done-keeps _ (enter-keeps r l)
 obeyed-keeps SoftwareReset r h l = done-keeps _ (software-reset-keeps r l)
 obeyed-keeps Nothing r h l = done-keeps r l
@@ -215,27 +227,18 @@ obeyed-keeps LeaveReadModifyWrite r h l = done-keeps _ (leave-keeps r l)
 obeyed-keeps (Await code) r h l =
     done-keeps _
     (record { inRanges = put r awaited code (l .inRanges) (one-of-at-most 255 (codesOf table) code refl h); code = code-legal code h; savedZero = l .savedZero })
+obeyed-keeps NotAllowed r h l = tt
+obeyed-keeps NotAwaited r h l = tt
 obeyed-keeps Outside r h l = tt
 
-given-keeps : (r : Registers) → LegalRegisters r → Keeps (given r)
+-- registers that await no code any more
+unawaiting : (r : Registers) → LegalRegisters r → LegalRegisters (r with awaited ≔ 0)
 unfolding largestValues awaitedCodes
-given-keeps r l = done-keeps _ (record { inRanges = put r awaited 0 (l .inRanges) (lit≤ tt); code = refl; savedZero = l .savedZero })
-
-supplied-keeps : (operand : Operand) (r : Registers) → OperandInRange operand → LegalRegisters r → Keeps (supplied operand r)
-unfolding supplied largestValues
-supplied-keeps (Contrast value) r h l = given-keeps _ (set-plain r contrast value l (omega arith) refl refl refl)
-supplied-keeps (Multiplex value) r h l = given-keeps _ (set-plain r multiplex value l (omega arith) refl refl refl)
-supplied-keeps (HeldByte value) r h l = given-keeps _ (set-plain r held value l (omega arith) refl refl refl)
-supplied-keeps (IndicatorMode value) r h l =
-    given-keeps _ (set-plain _ mode value (set-plain r indicator 1 l (omega arith) refl refl refl) (omega arith) refl refl refl)
-supplied-keeps (Offset value) r h l = given-keeps _ (set-plain r offset value l (omega arith) refl refl refl)
-supplied-keeps (FramePhases value) r h l = given-keeps _ (set-plain r phases value l (omega arith) refl refl refl)
-supplied-keeps NotAllowed r h l = tt
-supplied-keeps NotAwaited r h l = tt
+unawaiting r l = record { inRanges = put r awaited 0 (l .inRanges) (lit≤ tt); code = refl; savedZero = l .savedZero }
 
 command-keeps : (b : ℕ) (r : Registers) → b < 256 → LegalRegisters r → Keeps (command b r)
 unfolding command
-command-keeps b r h l = chosen Keeps (eqb (r .awaited) 0) _ _ (λ e. obeyed-keeps (commandOf b) r (command-in-range b) l) (λ e. supplied-keeps (operandOf (r .awaited) b) r (operand-in-range (r .awaited) b h) l)
+command-keeps b r h l = obeyed-keeps (meaningOf (r .awaited) b) _ (meaning-in-range (r .awaited) b h) (unawaiting r l)
 
 onward-bound : (column : ℕ) → column ≤ 131 → onward column ≤ 255
 unfolding onward

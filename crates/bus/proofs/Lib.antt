@@ -10,3 +10,4 @@ pub mod Settled
 pub mod Ranges
 pub mod Exactly
 pub mod Stored
+pub mod Waiting

@@ -4,7 +4,7 @@ use mathlib.Core.Bool.{Bool, true, false, cond}
 use mathlib.Core.List.{List}
 use lib.Dec.{leb, ltb, eqb}
 use lib.ListN.{length, getD, set}
-use Rattle.codes.specs.Table.{commandOf, operandOf}
+use Rattle.codes.specs.Table.{meaningOf}
 use Rattle.codes.specs.declared.Command.{Command}
 use Rattle.codes.specs.declared.Command.the-variants.{
   ColumnLow,
@@ -12,25 +12,31 @@ use Rattle.codes.specs.declared.Command.the-variants.{
   ResistorRatio,
   PowerControl,
   StartLine,
+  Contrast,
   ColumnDirection,
   Bias,
   EntireOn,
   Reverse,
+  Multiplex,
+  HeldByte,
   QuarterBias,
   IndicatorOff,
+  IndicatorMode,
   DisplayOn,
   Page,
   NoPage,
   RowDirection,
+  Offset,
+  FramePhases,
   EnterReadModifyWrite,
   SoftwareReset,
   Nothing,
   LeaveReadModifyWrite,
   Await,
+  NotAllowed,
+  NotAwaited,
   Outside,
 }
-use Rattle.codes.specs.declared.Operand.{Operand}
-use Rattle.codes.specs.declared.Operand.the-variants.{Contrast, Multiplex, HeldByte, IndicatorMode, Offset, FramePhases, NotAllowed, NotAwaited}
 use Rattle.bus.specs.Sizes.{lastColumn, pages, memorySize}
 use Rattle.bus.specs.Numbers.{taken, tooShort, outOfRange, outsideTable, noPage, notAllowed, codeAwaited, columnAbove}
 use Rattle.bus.specs.Places.{page, column, start, offset, multiplex, contrast, ratio, power, bias, quarter, held, phases, mirrored, rows, entire, reverse, on, indicator, mode, awaited, modify, saved, fresh}
@@ -74,48 +80,41 @@ enter r = cond (eqb (r .modify) 1) r (r with modify ≔ 1 with saved ≔ r .colu
 abbrev pub leave : Registers → Registers
 leave r = cond (eqb (r .modify) 1) (r with modify ≔ 0 with column ≔ r .saved with saved ≔ 0) r
 
--- A command where no code is awaited.
+-- What each command does, in the table's order; an n where the code is none of the seven is out of range, which a call has asked before.
 unfoldable pub obeyed : Command → Registers → Answer
 obeyed (ColumnLow low) r = done (r with column ≔ r .column / 16 * 16 + low)
 obeyed (ColumnHigh high) r = done (r with column ≔ high * 16 + r .column % 16)
 obeyed (ResistorRatio value) r = done (r with ratio ≔ value)
 obeyed (PowerControl value) r = done (r with power ≔ value)
 obeyed (StartLine value) r = done (r with start ≔ value)
+obeyed (Contrast value) r = done (r with contrast ≔ value)
 obeyed (ColumnDirection value) r = done (r with mirrored ≔ value)
 obeyed (Bias value) r = done (r with bias ≔ value)
 obeyed (EntireOn value) r = done (r with entire ≔ value)
 obeyed (Reverse value) r = done (r with reverse ≔ value)
+obeyed (Multiplex value) r = done (r with multiplex ≔ value)
+obeyed (HeldByte value) r = done (r with held ≔ value)
 obeyed (QuarterBias value) r = done (r with quarter ≔ value)
 obeyed IndicatorOff r = done (r with indicator ≔ 0 with mode ≔ 0)
+obeyed (IndicatorMode value) r = done (r with indicator ≔ 1 with mode ≔ value)
 obeyed (DisplayOn value) r = done (r with on ≔ value)
 obeyed (Page value) r = done (r with page ≔ value)
 obeyed NoPage r = Refused noPage
 obeyed (RowDirection value) r = done (r with rows ≔ value)
+obeyed (Offset value) r = done (r with offset ≔ value)
+obeyed (FramePhases value) r = done (r with phases ≔ value)
 obeyed EnterReadModifyWrite r = done (enter r)
 obeyed SoftwareReset r = done (softwareReset r)
 obeyed Nothing r = done r
 obeyed LeaveReadModifyWrite r = done (leave r)
 obeyed (Await code) r = done (r with awaited ≔ code)
+obeyed NotAllowed r = Refused notAllowed
+obeyed NotAwaited r = Refused outOfRange
 obeyed Outside r = Refused outsideTable
 
--- Once n is taken the awaited code is 00 again.
-abbrev pub given : Registers → Answer
-given r = done (r with awaited ≔ 0)
-
--- The n of the awaited code; a code that is none of the seven is out of its range, which a call has asked before.
-unfoldable pub supplied : Operand → Registers → Answer
-supplied (Contrast value) r = given (r with contrast ≔ value)
-supplied (Multiplex value) r = given (r with multiplex ≔ value)
-supplied (HeldByte value) r = given (r with held ≔ value)
-supplied (IndicatorMode value) r = given (r with indicator ≔ 1 with mode ≔ value)
-supplied (Offset value) r = given (r with offset ≔ value)
-supplied (FramePhases value) r = given (r with phases ≔ value)
-supplied NotAllowed r = Refused notAllowed
-supplied NotAwaited r = Refused outOfRange
-
--- A command byte: a command, or n where a code is awaited, even if it looks like a command.
+-- A command byte: once it is taken the awaited code is 00, as it was where none was awaited, unless the byte itself is a code that awaits n.
 unfoldable pub command : ℕ → Registers → Answer
-command b r = cond (eqb (r .awaited) 0) (obeyed (commandOf b) r) (supplied (operandOf (r .awaited) b) r)
+command b r = obeyed (meaningOf (r .awaited) b) (r with awaited ≔ 0)
 
 -- What a data write or read meets, at a memory of so many bytes: 1 and, of the page, 2, which a call has asked before; then 6 while a code is awaited; then 7 with the column above 131.
 unfoldable pub access : Registers → ℕ → ℕ

@@ -4,7 +4,7 @@ use mathlib.Core.Bool.{Bool, true, false, cond, not, _&&_}
 use mathlib.Core.List.{List}
 use lib.Dec.{leb, eqb}
 use lib.ListN.{getD}
-use Rattle.codes.specs.Table.{commandOf, operandOf}
+use Rattle.codes.specs.Table.{meaningOf}
 use Rattle.codes.specs.declared.Command.{Command}
 use Rattle.codes.specs.declared.Command.the-variants.{
   ColumnLow,
@@ -12,25 +12,31 @@ use Rattle.codes.specs.declared.Command.the-variants.{
   ResistorRatio,
   PowerControl,
   StartLine,
+  Contrast,
   ColumnDirection,
   Bias,
   EntireOn,
   Reverse,
+  Multiplex,
+  HeldByte,
   QuarterBias,
   IndicatorOff,
+  IndicatorMode,
   DisplayOn,
   Page,
   NoPage,
   RowDirection,
+  Offset,
+  FramePhases,
   EnterReadModifyWrite,
   SoftwareReset,
   Nothing,
   LeaveReadModifyWrite,
   Await,
+  NotAllowed,
+  NotAwaited,
   Outside,
 }
-use Rattle.codes.specs.declared.Operand.{Operand}
-use Rattle.codes.specs.declared.Operand.the-variants.{Contrast, Multiplex, HeldByte, IndicatorMode, Offset, FramePhases, NotAllowed, NotAwaited}
 use Rattle.bus.specs.Sizes.{lastColumn}
 use Rattle.bus.specs.Numbers.{taken, tooShort, outOfRange, outsideTable, noPage, notAllowed, codeAwaited, columnAbove}
 use Rattle.bus.specs.Registers.{registersOf}
@@ -40,44 +46,41 @@ use Rattle.bus.specs.Image.{short, legal}
 use Rattle.bus.specs.declared.registers.Registers.{Registers}
 use Rattle.bus.specs.declared.calls.Reply.{Reply}
 
--- 3 for a byte outside the table, 4 for B9-BF
+-- 3 for a byte outside the table, 4 for B9-BF, 5 for an n that is not allowed
 abbrev pub numberOfCommand : Command → ℕ
-numberOfCommand (ColumnLow low) = taken
-numberOfCommand (ColumnHigh high) = taken
-numberOfCommand (ResistorRatio ratio) = taken
-numberOfCommand (PowerControl power) = taken
-numberOfCommand (StartLine line) = taken
-numberOfCommand (ColumnDirection direction) = taken
-numberOfCommand (Bias bias) = taken
-numberOfCommand (EntireOn entire) = taken
-numberOfCommand (Reverse reverse) = taken
-numberOfCommand (QuarterBias bias) = taken
+numberOfCommand (ColumnLow value) = taken
+numberOfCommand (ColumnHigh value) = taken
+numberOfCommand (ResistorRatio value) = taken
+numberOfCommand (PowerControl value) = taken
+numberOfCommand (StartLine value) = taken
+numberOfCommand (Contrast value) = taken
+numberOfCommand (ColumnDirection value) = taken
+numberOfCommand (Bias value) = taken
+numberOfCommand (EntireOn value) = taken
+numberOfCommand (Reverse value) = taken
+numberOfCommand (Multiplex value) = taken
+numberOfCommand (HeldByte value) = taken
+numberOfCommand (QuarterBias value) = taken
 numberOfCommand IndicatorOff = taken
-numberOfCommand (DisplayOn on) = taken
-numberOfCommand (Page page) = taken
+numberOfCommand (IndicatorMode value) = taken
+numberOfCommand (DisplayOn value) = taken
+numberOfCommand (Page value) = taken
 numberOfCommand NoPage = noPage
-numberOfCommand (RowDirection direction) = taken
+numberOfCommand (RowDirection value) = taken
+numberOfCommand (Offset value) = taken
+numberOfCommand (FramePhases value) = taken
 numberOfCommand EnterReadModifyWrite = taken
 numberOfCommand SoftwareReset = taken
 numberOfCommand Nothing = taken
 numberOfCommand LeaveReadModifyWrite = taken
-numberOfCommand (Await code) = taken
+numberOfCommand (Await value) = taken
+numberOfCommand NotAllowed = notAllowed
+numberOfCommand NotAwaited = outOfRange
 numberOfCommand Outside = outsideTable
-
--- 5 for an n that is not allowed
-abbrev pub numberOfOperand : Operand → ℕ
-numberOfOperand (Contrast value) = taken
-numberOfOperand (Multiplex value) = taken
-numberOfOperand (HeldByte value) = taken
-numberOfOperand (IndicatorMode value) = taken
-numberOfOperand (Offset value) = taken
-numberOfOperand (FramePhases value) = taken
-numberOfOperand NotAllowed = notAllowed
-numberOfOperand NotAwaited = outOfRange
 
 -- what the registers of a legal state meet: 3, 4 or 5 of a command byte, 6 before 7 of a data event, nothing of the reset pin
 abbrev pub numberOfEvent : Event → Registers → ℕ
-numberOfEvent (commandByte b) r = cond (eqb (r .awaited) 0) (numberOfCommand (commandOf b)) (numberOfOperand (operandOf (r .awaited) b))
+numberOfEvent (commandByte b) r = numberOfCommand (meaningOf (r .awaited) b)
 numberOfEvent (dataWritten b) r = cond (eqb (r .awaited) 0) (cond (leb (r .column) lastColumn) taken columnAbove) codeAwaited
 numberOfEvent dataRead r = cond (eqb (r .awaited) 0) (cond (leb (r .column) lastColumn) taken columnAbove) codeAwaited
 numberOfEvent resetPulse r = taken

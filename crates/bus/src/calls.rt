@@ -1,6 +1,6 @@
-// The four event calls, lent the state image and the display memory.
+// The event calls, lent the state image and the display memory; a command byte's is `trace::command`.
 ghost use mathlib.Core.Path.{_≡_};
-ghost use Rattle.bus.specs.Machine.{commandByte, dataWritten, dataRead, resetPulse};
+ghost use Rattle.bus.specs.Machine.{dataWritten, dataRead, resetPulse};
 ghost use Rattle.bus.specs.Calls.{called, replyOf, stateAfter, call};
 use crate::answer::Answer;
 use crate::image::Asked;
@@ -15,16 +15,6 @@ pub struct Reply {
     pub number: u8,
     pub byte: u8,
     pub dummy: bool,
-}
-
-// A command byte.
-pub fn command(state: &mut [u8], memory: &[u8], byte: u8) -> Reply
-    ensures { λ r. ⌜ called r (now (state .exit)) (now (memory .entry)) ≡ call (commandByte byte) (now (state .entry)) (now (memory .entry)) ⌝ }
-{
-    match ask(state, memory) {
-        Asked::Found(registers) => conclude(registers.command(byte), state),
-        Asked::Refused(number) => refuse(number),
-    }
 }
 
 // A data byte written.
@@ -59,7 +49,7 @@ pub fn reset_pin(state: &mut [u8], memory: &[u8]) -> Reply
 }
 
 // Stores the registers of a taken event, and says its number, byte and dummy mark.
-fn conclude(answer: Answer, state: &mut [u8]) -> Reply
+pub fn conclude(answer: Answer, state: &mut [u8]) -> Reply
     ensures { λ r. ⌜ (r ≡ replyOf answer) × (now (state .exit) ≡ stateAfter answer (now (state .entry))) ⌝ }
 {
     match answer {
@@ -77,7 +67,7 @@ fn conclude(answer: Answer, state: &mut [u8]) -> Reply
 }
 
 // The reply of a refusal.
-fn refuse(number: u8) -> Reply
+pub fn refuse(number: u8) -> Reply
     ensures { λ r. ⌜ r ≡ replyOf (Answer.Refused number) ⌝ }
 {
     Reply {

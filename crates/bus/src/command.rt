@@ -1,7 +1,9 @@
 // The command byte and the reset pin.
 ghost use mathlib.Core.Path.{_≡_};
 ghost use Rattle.codes.specs.Values.{CommandInRange};
-ghost use Rattle.bus.specs.Events.{command, obeyed, supplied, enter, leave, softwareReset, resetPin};
+ghost use Rattle.bus.specs.Registers.{_with_≔_};
+ghost use Rattle.bus.specs.Places as places;
+ghost use Rattle.bus.specs.Events.{command, obeyed, enter, leave, softwareReset, resetPin};
 use crate::answer::After;
 use crate::answer::Answer;
 use crate::refusal::NO_PAGE;
@@ -10,20 +12,14 @@ use crate::refusal::OUT_OF_RANGE;
 use crate::refusal::OUTSIDE_TABLE;
 use crate::registers::Registers;
 use codes::Command;
-use codes::Operand;
 
 impl Registers {
     // A command byte: a command where no code is awaited, else the n of the awaited code.
     pub fn command(self, byte: u8) -> Answer
         ensures { λ r. ⌜ r ≡ command byte self ⌝ }
     {
-        let awaited = self.awaited;
-        if awaited == 0 {
-            let named = codes::command_of(byte);
-            return self.obey(named);
-        }
-        let operand = codes::operand_of(awaited, byte);
-        self.supply(operand)
+        let named = codes::meaning_of(self.awaited, byte);
+        self.obey(named)
     }
 
     // A pulse on the reset pin: the power-on state, whatever the state was.
@@ -38,32 +34,41 @@ impl Registers {
         })
     }
 
-    // Obeys a command where no code is awaited; every command byte taken sets fresh to 1.
+    // Obeys a command; no code is awaited then but one that this byte is, and every command byte taken sets fresh to 1.
     fn obey(mut self, named: Command) -> Answer
         requires { ⌜ CommandInRange named ⌝ }
-        ensures { λ r. ⌜ r ≡ obeyed named self ⌝ }
+        ensures { λ r. ⌜ r ≡ obeyed named (self with places.awaited ≔ 0) ⌝ }
     {
+        self.awaited = 0;
         match named {
             Command::ColumnLow(low) => self.column = self.column / 16 * 16 + low,
             Command::ColumnHigh(high) => self.column = high * 16 + self.column % 16,
             Command::ResistorRatio(ratio) => self.ratio = ratio,
             Command::PowerControl(power) => self.power = power,
             Command::StartLine(line) => self.start = line,
+            Command::Contrast(contrast) => self.contrast = contrast,
             Command::ColumnDirection(direction) => self.mirrored = direction,
             Command::Bias(bias) => self.bias = bias,
             Command::EntireOn(entire) => self.entire = entire,
             Command::Reverse(reverse) => self.reverse = reverse,
+            Command::Multiplex(multiplex) => self.multiplex = multiplex,
+            Command::HeldByte(byte) => self.held = byte,
             Command::QuarterBias(bias) => self.quarter = bias,
-            Command::IndicatorOff => self = self.with_indicator(0).with_mode(0),
+            Command::IndicatorOff => self = self.indicated(0, 0),
+            Command::IndicatorMode(mode) => self = self.indicated(1, mode),
             Command::DisplayOn(on) => self.on = on,
             Command::Page(page) => self.page = page,
             Command::NoPage => return Answer::Refused(NO_PAGE),
             Command::RowDirection(direction) => self.rows = direction,
+            Command::Offset(offset) => self.offset = offset,
+            Command::FramePhases(phases) => self.phases = phases,
             Command::EnterReadModifyWrite => self = self.enter(),
             Command::SoftwareReset => self = self.software_reset(),
             Command::Nothing => {}
             Command::LeaveReadModifyWrite => self = self.leave(),
             Command::Await(code) => self.awaited = code,
+            Command::NotAllowed => return Answer::Refused(NOT_ALLOWED),
+            Command::NotAwaited => return Answer::Refused(OUT_OF_RANGE),
             Command::Outside => return Answer::Refused(OUTSIDE_TABLE),
         }
         self.fresh = 1;
@@ -74,27 +79,13 @@ impl Registers {
         })
     }
 
-    // Takes the n of the awaited code, or refuses it; a code that is none of the seven is out of its range.
-    fn supply(mut self, operand: Operand) -> Answer
-        ensures { λ r. ⌜ r ≡ supplied operand self ⌝ }
+    // AC and AD: the indicator off or on, and its mode.
+    fn indicated(mut self, indicator: u8, mode: u8) -> Registers
+        ensures { λ r. ⌜ r ≡ (self with places.indicator ≔ indicator with places.mode ≔ mode) ⌝ }
     {
-        match operand {
-            Operand::Contrast(contrast) => self.contrast = contrast,
-            Operand::Multiplex(multiplex) => self.multiplex = multiplex,
-            Operand::HeldByte(byte) => self.held = byte,
-            Operand::IndicatorMode(mode) => self = self.with_indicator(1).with_mode(mode),
-            Operand::Offset(offset) => self.offset = offset,
-            Operand::FramePhases(phases) => self.phases = phases,
-            Operand::NotAllowed => return Answer::Refused(NOT_ALLOWED),
-            Operand::NotAwaited => return Answer::Refused(OUT_OF_RANGE),
-        }
-        self.awaited = 0;
-        self.fresh = 1;
-        Answer::Taken(After {
-            registers: self,
-            byte: 0,
-            dummy: false,
-        })
+        self.indicator = indicator;
+        self.mode = mode;
+        self
     }
 
     // E0: read-modify-write is entered and the column saved, unless it is entered already.

@@ -1,7 +1,7 @@
 // The registers of document 01, in its order.
 ghost use mathlib.Core.Path.{_≡_};
 ghost use Rattle.bus.specs.Registers.{powerOn, powerState, _with_≔_};
-ghost use Rattle.bus.specs.Places.{column, fresh, indicator, mode};
+ghost use Rattle.bus.specs.Places.{column, fresh};
 
 pub struct Registers {
     pub page: u8,
@@ -102,20 +102,6 @@ impl Registers {
         ensures { λ r. ⌜ r ≡ (self with column ≔ value) ⌝ }
     {
         self.column = value;
-        self
-    }
-
-    pub fn with_indicator(mut self, value: u8) -> Registers
-        ensures { λ r. ⌜ r ≡ (self with indicator ≔ value) ⌝ }
-    {
-        self.indicator = value;
-        self
-    }
-
-    pub fn with_mode(mut self, value: u8) -> Registers
-        ensures { λ r. ⌜ r ≡ (self with mode ≔ value) ⌝ }
-    {
-        self.mode = value;
         self
     }
 

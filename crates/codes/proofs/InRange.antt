@@ -1,4 +1,4 @@
--- What a command or an operand carries is in its range: each row of the table sees to it.
+-- What a command carries is in its range: each row of the table sees to it.
 -- Assumes nothing.
 use mathlib.Core.Path.{_≡_, refl}
 use mathlib.Core.Bool.{true, _&&_}
@@ -8,9 +8,9 @@ use native.Mathlib.Omega.{arith}
 use lib.Dec.{leb, eqb}
 use borrow.Author.Tests.{leb-true, eqb-true}
 use Rattle.codes.proofs.Tests.{both, chosen, one-of-at-most}
-use Rattle.codes.specs.Table.{Row, one, two, table, commandBy, commandOf, operandBy, operandOf, offsetOf, framePhasesOf}
+use Rattle.codes.specs.Table.{Row, one, two, table, commandBy, commandOf, operandBy, operandOf, meaningOf, offsetOf, framePhasesOf}
 use Rattle.codes.specs.OneOf.{oneOf}
-use Rattle.codes.specs.Values.{codesOf, CommandInRange, OperandInRange}
+use Rattle.codes.specs.Values.{codesOf, CommandInRange}
 
 -- each row of one byte carries what it should, and each code of two is among the codes
 abbrev Sound : List Row → Type 0
@@ -32,7 +32,7 @@ unfolding table codesOf
 sound =
     (λ b low high. omega arith, (λ b low high. omega arith, (λ b low high. omega arith, (λ b low high. omega arith, (λ b low high. omega arith, (refl, (λ b low high. omega arith, (λ b low high. omega arith, (λ b low high. omega arith, (λ b low high. omega arith, (refl, (refl, (λ b low high. omega arith, (λ b low high. tt, (refl, (λ b low high. omega arith, (λ b low high. omega arith, (λ b low high. tt, (λ b low high. omega arith, (λ b low high. omega arith, (refl, (refl, (λ b low high. tt, (λ b low high. tt, (λ b low high. tt, (λ b low high. tt, tt))))))))))))))))))))))))))
 
-pub command-in-range : (b : ℕ) → CommandInRange (commandOf b)
+command-in-range : (b : ℕ) → CommandInRange (commandOf b)
 unfolding commandOf
 command-in-range b = carried-by table b sound
 
@@ -40,29 +40,33 @@ command-in-range b = carried-by table b sound
 abbrev SoundOperands : List Row → Type 0
 SoundOperands [] = Unit {0}
 SoundOperands (one first last means ∷ rows) = SoundOperands rows
-SoundOperands (two code gives ∷ rows) = ((n : ℕ) → n < 256 → OperandInRange (gives n)) × SoundOperands rows
+SoundOperands (two code gives ∷ rows) = ((n : ℕ) → n < 256 → CommandInRange (gives n)) × SoundOperands rows
 
-given-by : (rows : List Row) (code n : ℕ) → n < 256 → SoundOperands rows → OperandInRange (operandBy rows code n)
+given-by : (rows : List Row) (code n : ℕ) → n < 256 → SoundOperands rows → CommandInRange (operandBy rows code n)
 unfolding operandBy
 given-by [] code n h s = tt
 given-by (one first last means ∷ rows) code n h s = given-by rows code n h s
-given-by (two awaited gives ∷ rows) code n h s = chosen OperandInRange (eqb code awaited) (gives n) (operandBy rows code n) (λ e. s .0 n h) (λ e. given-by rows code n h (s .1))
+given-by (two awaited gives ∷ rows) code n h s = chosen CommandInRange (eqb code awaited) (gives n) (operandBy rows code n) (λ e. s .0 n h) (λ e. given-by rows code n h (s .1))
 
-offset-given : (n : ℕ) → OperandInRange (offsetOf n)
+offset-given : (n : ℕ) → CommandInRange (offsetOf n)
 unfolding offsetOf
-offset-given n = chosen OperandInRange (leb n 0x3F) _ _ (λ e. omega (arith, leb-true n 0x3F e)) (λ e. tt)
+offset-given n = chosen CommandInRange (leb n 0x3F) _ _ (λ e. omega (arith, leb-true n 0x3F e)) (λ e. tt)
 
-phases-given : (n : ℕ) → OperandInRange (framePhasesOf n)
+phases-given : (n : ℕ) → CommandInRange (framePhasesOf n)
 unfolding framePhasesOf
 phases-given n =
     let phases : List ℕ = 0x00 ∷ 0x10 ∷ 0x20 ∷ 0x30 ∷ [] in
-    chosen OperandInRange (oneOf phases n) _ _ (λ e. omega (arith, one-of-at-most 0x30 phases n refl e)) (λ e. tt)
+    chosen CommandInRange (oneOf phases n) _ _ (λ e. omega (arith, one-of-at-most 0x30 phases n refl e)) (λ e. tt)
 
 sound-operands : SoundOperands table
 unfolding table
 sound-operands =
     (λ n h. omega arith, (λ n h. omega arith, (λ n h. h, (λ n h. omega arith, (λ n h. offset-given n, (λ n h. phases-given n, tt))))))
 
-pub operand-in-range : (code n : ℕ) → n < 256 → OperandInRange (operandOf code n)
+operand-in-range : (code n : ℕ) → n < 256 → CommandInRange (operandOf code n)
 unfolding operandOf
 operand-in-range code n h = given-by table code n h sound-operands
+
+pub meaning-in-range : (awaited b : ℕ) → b < 256 → CommandInRange (meaningOf awaited b)
+unfolding meaningOf
+meaning-in-range awaited b h = chosen CommandInRange (eqb awaited 0) _ _ (λ e. command-in-range b) (λ e. operand-in-range awaited b h)

@@ -7,13 +7,12 @@ use Prim.Native.Nat.{ℕ, _+_, _≤_}
 use native.Mathlib.Nat.{le-antisymm}
 use native.Mathlib.Omega.{arith}
 use lib.Dec.{leb, ltb, eqb}
-use lib.ListN.{take, drop, take-append-drop}
+use lib.ListN.{length, take, drop, take-append-drop}
 use borrow.Author.Tests.{le-leb, leb-true, ltb-true, eqb-true}
 use Rattle.codes.proofs.Tests.{refuted, both}
 use Rattle.codes.specs.Table.{Row, one, two, table, commandBy, commandOf, operandBy, operandOf}
 use Rattle.codes.specs.declared.Command.{Command}
-use Rattle.codes.specs.declared.Command.the-variants.{Outside}
-use Rattle.codes.specs.declared.Operand.the-variants.{NotAwaited}
+use Rattle.codes.specs.declared.Command.the-variants.{NotAwaited, Outside}
 
 -- no row of the list has the byte
 abbrev pub Apart : List Row → ℕ → Type 0
@@ -25,9 +24,25 @@ Apart (two code gives ∷ rows) b = (b ≡ code → ⊥) × Apart rows b
 pub other : (code b : ℕ) → (b ≡ code → ⊥) → code ≤ b → b ≤ code → ⊥
 other code b h low high = h (le-antisymm high low)
 
--- a byte that is at least a code and is another is past it
-pub past-code : (code b : ℕ) → code ≤ b → (b ≡ code → ⊥) → code + 1 ≤ b
-past-code code b low h = omega arith
+-- the byte is none of the codes
+abbrev pub None : List ℕ → ℕ → Type 0
+None [] b = Unit {0}
+None (code ∷ codes) b = (b ≡ code → ⊥) × None codes b
+
+-- the codes follow one another from x
+abbrev pub follow : ℕ → List ℕ → Bool
+follow x [] = true
+follow x (code ∷ codes) = eqb code x && follow (x + 1) codes
+
+-- a byte from x on that is none of the codes is past them
+pub past-codes : (codes : List ℕ) (x b : ℕ) → follow x codes ≡ true → x ≤ b → None codes b → x + length codes ≤ b
+past-codes [] x b e low none = omega arith
+past-codes (code ∷ codes) x b e low none =
+    let halves = both (eqb code x) (follow (x + 1) codes) e in
+    omega (arith, past-codes codes (x + 1) b (halves .1) (next (eqb-true code x (halves .0)) (none .0)) (none .1))
+  where
+    next : code ≡ x → (b ≡ code → ⊥) → x + 1 ≤ b
+    next same other = omega arith
 
 -- every row of the list ends below x
 abbrev pub below : ℕ → List Row → Bool

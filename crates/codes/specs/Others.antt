@@ -10,21 +10,29 @@ use Rattle.codes.specs.declared.Command.the-variants.{
   ResistorRatio,
   PowerControl,
   StartLine,
+  Contrast,
   ColumnDirection,
   Bias,
   EntireOn,
   Reverse,
+  Multiplex,
+  HeldByte,
   QuarterBias,
   IndicatorOff,
+  IndicatorMode,
   DisplayOn,
   Page,
   NoPage,
   RowDirection,
+  Offset,
+  FramePhases,
   EnterReadModifyWrite,
   SoftwareReset,
   Nothing,
   LeaveReadModifyWrite,
   Await,
+  NotAllowed,
+  NotAwaited,
   Outside,
 }
 
@@ -43,19 +51,27 @@ isOutside (ColumnHigh high) = false
 isOutside (ResistorRatio ratio) = false
 isOutside (PowerControl power) = false
 isOutside (StartLine line) = false
+isOutside (Contrast contrast) = false
 isOutside (ColumnDirection direction) = false
 isOutside (Bias bias) = false
 isOutside (EntireOn entire) = false
 isOutside (Reverse reverse) = false
+isOutside (Multiplex multiplex) = false
+isOutside (HeldByte byte) = false
 isOutside (QuarterBias bias) = false
 isOutside IndicatorOff = false
+isOutside (IndicatorMode mode) = false
 isOutside (DisplayOn on) = false
 isOutside (Page page) = false
 isOutside NoPage = false
 isOutside (RowDirection direction) = false
+isOutside (Offset offset) = false
+isOutside (FramePhases phases) = false
 isOutside EnterReadModifyWrite = false
 isOutside SoftwareReset = false
 isOutside Nothing = false
 isOutside LeaveReadModifyWrite = false
 isOutside (Await code) = false
+isOutside NotAllowed = false
+isOutside NotAwaited = false
 isOutside Outside = true

@@ -11,37 +11,43 @@ use Rattle.codes.specs.declared.Command.the-variants.{
   ResistorRatio,
   PowerControl,
   StartLine,
+  Contrast,
   ColumnDirection,
   Bias,
   EntireOn,
   Reverse,
+  Multiplex,
+  HeldByte,
   QuarterBias,
   IndicatorOff,
+  IndicatorMode,
   DisplayOn,
   Page,
   NoPage,
   RowDirection,
+  Offset,
+  FramePhases,
   EnterReadModifyWrite,
   SoftwareReset,
   Nothing,
   LeaveReadModifyWrite,
   Await,
+  NotAllowed,
+  NotAwaited,
   Outside,
 }
-use Rattle.codes.specs.declared.Operand.{Operand}
-use Rattle.codes.specs.declared.Operand.the-variants.{Contrast, Multiplex, HeldByte, IndicatorMode, Offset, FramePhases, NotAllowed, NotAwaited}
 
 -- A row of the table: a command of one byte, any of those from the first to the last, or a command of two, a code and the n after it.
 pub data Row : Type 0 where
   one : (first last : ℕ) → (ℕ → Command) → Row
-  two : (code : ℕ) → (ℕ → Operand) → Row
+  two : (code : ℕ) → (ℕ → Command) → Row
 
 -- D3 takes an n of at most 3F.
-unfoldable pub offsetOf : ℕ → Operand
+unfoldable pub offsetOf : ℕ → Command
 offsetOf n = cond (leb n 0x3F) (Offset n) NotAllowed
 
 -- D4 takes 00, 10, 20 or 30.
-unfoldable pub framePhasesOf : ℕ → Operand
+unfoldable pub framePhasesOf : ℕ → Command
 framePhasesOf n = cond (oneOf (0x00 ∷ 0x10 ∷ 0x20 ∷ 0x30 ∷ []) n) (FramePhases (n / 16)) NotAllowed
 
 -- The table of document 01 in its order; b is the command byte, n the byte after it.
@@ -82,7 +88,7 @@ commandBy (one first last means ∷ rows) b = cond (leb first b && leb b last) (
 commandBy (two code gives ∷ rows) b = cond (eqb b code) (Await b) (commandBy rows b)
 
 -- What n gives by the first row of two bytes that has the code; a code in no such row awaits no n.
-unfoldable pub operandBy : List Row → ℕ → ℕ → Operand
+unfoldable pub operandBy : List Row → ℕ → ℕ → Command
 operandBy [] code n = NotAwaited
 operandBy (one first last means ∷ rows) code n = operandBy rows code n
 operandBy (two awaited gives ∷ rows) code n = cond (eqb code awaited) (gives n) (operandBy rows code n)
@@ -90,5 +96,9 @@ operandBy (two awaited gives ∷ rows) code n = cond (eqb code awaited) (gives n
 unfoldable pub commandOf : ℕ → Command
 commandOf = commandBy table
 
-unfoldable pub operandOf : ℕ → ℕ → Operand
+unfoldable pub operandOf : ℕ → ℕ → Command
 operandOf = operandBy table
+
+-- What a command byte is: a command where no code is awaited, else the n of the awaited code, even if it looks like a command.
+unfoldable pub meaningOf : ℕ → ℕ → Command
+meaningOf awaited b = cond (eqb awaited 0) (commandOf b) (operandOf awaited b)

@@ -1,4 +1,4 @@
--- The range of the value that a named command or operand carries.
+-- The range of the value that a named command carries.
 use Prim.Native.Nat.{ℕ, _<_}
 use mathlib.Core.Path.{_≡_}
 use mathlib.Core.Bool.{true}
@@ -12,25 +12,31 @@ use Rattle.codes.specs.declared.Command.the-variants.{
   ResistorRatio,
   PowerControl,
   StartLine,
+  Contrast,
   ColumnDirection,
   Bias,
   EntireOn,
   Reverse,
+  Multiplex,
+  HeldByte,
   QuarterBias,
   IndicatorOff,
+  IndicatorMode,
   DisplayOn,
   Page,
   NoPage,
   RowDirection,
+  Offset,
+  FramePhases,
   EnterReadModifyWrite,
   SoftwareReset,
   Nothing,
   LeaveReadModifyWrite,
   Await,
+  NotAllowed,
+  NotAwaited,
   Outside,
 }
-use Rattle.codes.specs.declared.Operand.{Operand}
-use Rattle.codes.specs.declared.Operand.the-variants.{Contrast, Multiplex, HeldByte, IndicatorMode, Offset, FramePhases, NotAllowed, NotAwaited}
 
 -- The codes of the table's rows of two bytes.
 unfoldable pub codesOf : List Row → List ℕ
@@ -45,30 +51,27 @@ CommandInRange (ColumnHigh high) = high < 16
 CommandInRange (ResistorRatio ratio) = ratio < 8
 CommandInRange (PowerControl power) = power < 8
 CommandInRange (StartLine line) = line < 64
+CommandInRange (Contrast contrast) = contrast < 64
 CommandInRange (ColumnDirection direction) = direction < 2
 CommandInRange (Bias bias) = bias < 2
 CommandInRange (EntireOn entire) = entire < 2
 CommandInRange (Reverse reverse) = reverse < 2
+CommandInRange (Multiplex multiplex) = multiplex < 64
+CommandInRange (HeldByte byte) = byte < 256
 CommandInRange (QuarterBias bias) = bias < 2
 CommandInRange IndicatorOff = Unit {0}
+CommandInRange (IndicatorMode mode) = mode < 4
 CommandInRange (DisplayOn on) = on < 2
 CommandInRange (Page page) = page < 9
 CommandInRange NoPage = Unit {0}
 CommandInRange (RowDirection direction) = direction < 2
+CommandInRange (Offset offset) = offset < 64
+CommandInRange (FramePhases phases) = phases < 4
 CommandInRange EnterReadModifyWrite = Unit {0}
 CommandInRange SoftwareReset = Unit {0}
 CommandInRange Nothing = Unit {0}
 CommandInRange LeaveReadModifyWrite = Unit {0}
 CommandInRange (Await code) = oneOf (codesOf table) code ≡ true
+CommandInRange NotAllowed = Unit {0}
+CommandInRange NotAwaited = Unit {0}
 CommandInRange Outside = Unit {0}
-
--- An operand carries a value in its range.
-abbrev pub OperandInRange : Operand → Type 0
-OperandInRange (Contrast contrast) = contrast < 64
-OperandInRange (Multiplex multiplex) = multiplex < 64
-OperandInRange (HeldByte byte) = byte < 256
-OperandInRange (IndicatorMode mode) = mode < 4
-OperandInRange (Offset offset) = offset < 64
-OperandInRange (FramePhases phases) = phases < 4
-OperandInRange NotAllowed = Unit {0}
-OperandInRange NotAwaited = Unit {0}

@@ -1,51 +1,60 @@
 // Layer 1, command codes: which command of document 01's table a command byte is, and what the byte after an awaiting code gives.
 ghost use mathlib.Core.Path.{_≡_};
-ghost use Rattle.codes.specs.Table.{commandOf, operandOf, offsetOf, framePhasesOf};
+ghost use Rattle.codes.specs.Table.{meaningOf, commandOf, operandOf, offsetOf, framePhasesOf};
 
-// A command byte, named, with the value that it carries.
+// A command byte, named, with the value that it carries: a command, or the n of a command of two bytes.
 pub enum Command {
     ColumnLow(u8),
     ColumnHigh(u8),
     ResistorRatio(u8),
     PowerControl(u8),
     StartLine(u8),
+    Contrast(u8),
     ColumnDirection(u8),
     Bias(u8),
     EntireOn(u8),
     Reverse(u8),
+    Multiplex(u8),
+    HeldByte(u8),
     QuarterBias(u8),
     IndicatorOff,
+    IndicatorMode(u8),
     DisplayOn(u8),
     Page(u8),
     // B9 to BF, which name no page.
     NoPage,
     RowDirection(u8),
+    Offset(u8),
+    FramePhases(u8),
     EnterReadModifyWrite,
     SoftwareReset,
     Nothing,
     LeaveReadModifyWrite,
     // The first byte of a command of two: it is held as the awaited code.
     Await(u8),
+    // An n that D3 or D4 does not allow.
+    NotAllowed,
+    // An n where the code is none that awaits n.
+    NotAwaited,
     // A byte outside the table: reserved, test or not modelled.
     Outside,
 }
 
-// The byte n after an awaited code, named, with the value that it gives.
-pub enum Operand {
-    Contrast(u8),
-    Multiplex(u8),
-    HeldByte(u8),
-    IndicatorMode(u8),
-    Offset(u8),
-    FramePhases(u8),
-    // An n that D3 or D4 does not allow.
-    NotAllowed,
-    // The code is none that awaits n.
-    NotAwaited,
+// What a command byte is where `awaited` is the awaited code; no code that awaits n is below 81.
+pub fn meaning_of(awaited: u8, byte: u8) -> Command
+    ensures { λ r. ⌜ r ≡ meaningOf awaited byte ⌝ }
+{
+    if awaited < 0x81 {
+        if awaited == 0 {
+            return command_of(byte);
+        }
+        return Command::NotAwaited;
+    }
+    operand_of(awaited, byte)
 }
 
 // The command that a byte is where no code is awaited.
-pub fn command_of(byte: u8) -> Command
+fn command_of(byte: u8) -> Command
     ensures { λ r. ⌜ r ≡ commandOf byte ⌝ }
 {
     match byte {
@@ -55,16 +64,22 @@ pub fn command_of(byte: u8) -> Command
         0x28..=0x2F => Command::PowerControl(byte % 8),
         0x40..=0x7F => Command::StartLine(byte % 64),
         0x81 => Command::Await(byte),
-        0xA0..=0xA1 => Command::ColumnDirection(byte % 2),
-        0xA2..=0xA3 => Command::Bias(byte % 2),
-        0xA4..=0xA5 => Command::EntireOn(byte % 2),
-        0xA6..=0xA7 => Command::Reverse(byte % 2),
+        0xA0 => Command::ColumnDirection(0),
+        0xA1 => Command::ColumnDirection(1),
+        0xA2 => Command::Bias(0),
+        0xA3 => Command::Bias(1),
+        0xA4 => Command::EntireOn(0),
+        0xA5 => Command::EntireOn(1),
+        0xA6 => Command::Reverse(0),
+        0xA7 => Command::Reverse(1),
         0xA8 => Command::Await(byte),
         0xA9 => Command::Await(byte),
-        0xAA..=0xAB => Command::QuarterBias(byte % 2),
+        0xAA => Command::QuarterBias(0),
+        0xAB => Command::QuarterBias(1),
         0xAC => Command::IndicatorOff,
         0xAD => Command::Await(byte),
-        0xAE..=0xAF => Command::DisplayOn(byte % 2),
+        0xAE => Command::DisplayOn(0),
+        0xAF => Command::DisplayOn(1),
         0xB0..=0xB8 => Command::Page(byte % 16),
         0xB9..=0xBF => Command::NoPage,
         0xC0..=0xC7 => Command::RowDirection(0),
@@ -82,40 +97,40 @@ pub fn command_of(byte: u8) -> Command
 }
 
 // What n gives where `code` is awaited.
-pub fn operand_of(code: u8, n: u8) -> Operand
+fn operand_of(code: u8, n: u8) -> Command
     ensures { λ r. ⌜ r ≡ operandOf code n ⌝ }
 {
     match code {
-        0x81 => Operand::Contrast(n % 64),
-        0xA8 => Operand::Multiplex(n % 64),
-        0xA9 => Operand::HeldByte(n),
-        0xAD => Operand::IndicatorMode(n % 4),
+        0x81 => Command::Contrast(n % 64),
+        0xA8 => Command::Multiplex(n % 64),
+        0xA9 => Command::HeldByte(n),
+        0xAD => Command::IndicatorMode(n % 4),
         0xD3 => offset_of(n),
         0xD4 => frame_phases_of(n),
-        _ => Operand::NotAwaited,
+        _ => Command::NotAwaited,
     }
 }
 
 // The n of D3: an offset of at most 3F.
-fn offset_of(n: u8) -> Operand
+fn offset_of(n: u8) -> Command
     ensures { λ r. ⌜ r ≡ offsetOf n ⌝ }
 {
     if n <= 0x3F {
-        Operand::Offset(n)
+        Command::Offset(n)
     } else {
-        Operand::NotAllowed
+        Command::NotAllowed
     }
 }
 
 // The n of D4: 00, 10, 20 or 30.
-fn frame_phases_of(n: u8) -> Operand
+fn frame_phases_of(n: u8) -> Command
     ensures { λ r. ⌜ r ≡ framePhasesOf n ⌝ }
 {
     match n {
-        0x00 => Operand::FramePhases(0),
-        0x10 => Operand::FramePhases(1),
-        0x20 => Operand::FramePhases(2),
-        0x30 => Operand::FramePhases(3),
-        _ => Operand::NotAllowed,
+        0x00 => Command::FramePhases(0),
+        0x10 => Command::FramePhases(1),
+        0x20 => Command::FramePhases(2),
+        0x30 => Command::FramePhases(3),
+        _ => Command::NotAllowed,
     }
 }

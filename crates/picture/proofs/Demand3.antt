@@ -15,7 +15,7 @@ use lib.Pow.{pow-lt}
 use lib.ListN.{length, getD, set, replicate, length-set, length-replicate, getD-replicate, List·getD-eq-default}
 use lib.Seq.{getD-set-same, getD-set-other}
 use Rattle.bus.specs.Sizes.{width, memorySize}
-use Rattle.codes.specs.Table.{table, commandBy, commandOf}
+use Rattle.codes.specs.Table.{table, commandBy, commandOf, meaningOf}
 use Rattle.bus.specs.Registers.{largestValues, powerOn}
 use Rattle.bus.specs.Memory.{address}
 use Rattle.bus.specs.Events.{obeyed, command}
@@ -241,7 +241,7 @@ module _ (r s : Registers) (b : Bounds r) (d : Bounds s) (same : (memory : List 
 
 -- the demand is not empty: after AF from power-on the chip is set so
 pub full-once-on : Full (run (commandByte 0xAF ∷ []) .registers)
-unfolding largestValues powerOn within awaitedCodes legal table commandBy commandOf obeyed command step registersAfter chipAfter after
+unfolding largestValues powerOn within awaitedCodes legal table commandBy commandOf obeyed command step registersAfter chipAfter after meaningOf
 full-once-on = record { inRange = refl; allRows = refl; on = refl; notLit = refl }
 
 pub demand3 : Demand3

@@ -9,3 +9,4 @@ pub mod Full
 pub mod Flip
 pub mod Bits
 pub mod Ignored
+pub mod Lit

@@ -14,10 +14,10 @@ use Rattle.picture.specs.Frame.{lighted, segment, grid, frame}
 use Rattle.picture.specs.declared.rows.RamRow.{RamRow}
 use Rattle.picture.specs.declared.rows.Shown.the-variants.{Dark, Ram}
 use Rattle.picture.proofs.Lines.{grid-same}
-use Rattle.codes.specs.Table.{table, offsetOf, framePhasesOf, commandBy, operandBy, commandOf, operandOf}
+use Rattle.codes.specs.Table.{table, offsetOf, framePhasesOf, commandBy, operandBy, commandOf, operandOf, meaningOf}
 use Rattle.bus.specs.Registers.{ranges, powerOn}
 use Rattle.bus.specs.Memory.{kept, onward}
-use Rattle.bus.specs.Events.{numberOf, obeyed, supplied, command, access, write, written}
+use Rattle.bus.specs.Events.{numberOf, obeyed, command, access, write, written}
 use Rattle.bus.specs.Machine.{step, registersAfter, chipAfter}
 use native.Mathlib.Omega.{arith}
 use Rattle.picture.specs.Rows.{panelRow, ramRow, comOf, used, ramRowOf, panelShows, rowShows}
@@ -46,7 +46,7 @@ sixteen-lit r memory on entire offset multiplex = grid-same width frameRows _ _ 
         rw e (shade r memory (ramRow height) x on entire true)
 
 pub samples : Samples
-unfolding comOf used ramRowOf panelShows rowShows picture ranges powerOn kept onward numberOf obeyed supplied command access write written step registersAfter chipAfter after gives table offsetOf framePhasesOf commandBy operandBy commandOf operandOf
+unfolding comOf used ramRowOf panelShows rowShows picture ranges powerOn kept onward numberOf obeyed command access write written step registersAfter chipAfter after gives table offsetOf framePhasesOf commandBy operandBy commandOf operandOf meaningOf
 samples = record {
   sample1 = (refl, refl);
   sample2 = (refl, refl, refl, refl);

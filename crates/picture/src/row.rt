@@ -13,7 +13,7 @@ use crate::rows::row_shows;
 use crate::sizes::WIDTH;
 use bus::registers::Registers;
 
-// Draws one row of the frame into its own 132 bytes.
+// Draws one row of the frame into its own 132 bytes; where all 64 rows are in use, entire on lights every one.
 pub fn draw_row(registers: Registers, memory: &[u8], row: PanelRow, places: &mut [u8])
     requires { ⌜ (row .0 < frameRows) × (memorySize ≤ length (now memory)) × (length (now places) ≡ width) ⌝ }
     ensures { λ _. ⌜ now (places .exit) ≡ line width (segment width registers (now (memory .entry)) (rowShows height registers row)) ⌝ }
@@ -21,6 +21,12 @@ pub fn draw_row(registers: Registers, memory: &[u8], row: PanelRow, places: &mut
     if registers.on == 0 {
         fill(places, 0);
         return;
+    }
+    if registers.entire == 1 {
+        if registers.multiplex == 63 {
+            fill(places, 1);
+            return;
+        }
     }
     match row_shows(registers, row) {
         Shown::Dark => fill(places, 0),

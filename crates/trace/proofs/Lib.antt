@@ -21,3 +21,4 @@ pub mod ByCalls
 pub mod RecordStops
 pub mod RunStops
 pub mod Exactly
+pub mod Alone

@@ -4,12 +4,12 @@ use mathlib.Core.Path.{_≡_, refl}
 use mathlib.Core.List.{List, [], _∷_, map}
 use Prim.Native.Nat.{ℕ}
 use lib.ListN.{take, replicate, set}
-use Rattle.codes.specs.Table.{table, commandBy, commandOf, operandBy, operandOf}
+use Rattle.codes.specs.Table.{table, commandBy, commandOf, operandBy, operandOf, meaningOf}
 use Rattle.bus.specs.Sizes.{memorySize}
 use Rattle.bus.specs.Registers.{largestValues, powerOn, imageOf, _with_≔_}
 use Rattle.bus.specs.Places.{column, on, fresh}
 use Rattle.bus.specs.Memory.{kept, onward}
-use Rattle.bus.specs.Events.{command, obeyed, supplied, access, write, written, read, resetPin}
+use Rattle.bus.specs.Events.{command, obeyed, access, write, written, read, resetPin}
 use Rattle.bus.specs.Machine.{step}
 use Rattle.bus.specs.Image.{within, awaitedCodes, legal, short, asked, stored}
 use Rattle.trace.specs.Records.{splitFrom, split}
@@ -45,7 +45,7 @@ Outcomes =
     []
 
 outcomes : Outcomes
-unfolding powerOn largestValues run runOn ranOf asked short legal within awaitedCodes stored split splitFrom playFrom playRecord playEvents eventsOf replay happened compared step command obeyed write written read access kept onward commandOf commandBy table
+unfolding powerOn largestValues run runOn ranOf asked short legal within awaitedCodes stored split splitFrom playFrom playRecord playEvents eventsOf replay happened compared step command obeyed write written read access kept onward commandOf commandBy meaningOf table
 outcomes = refl
 
 -- A trace and what it must answer.
@@ -99,5 +99,5 @@ abbrev Answers : Type 0
 Answers = map (λ s. fromStart (s .trace) .stop) samples ≡ map (λ s. stopOf (s .number) (s .offset) (s .count)) samples
 
 answers : Answers
-unfolding powerOn largestValues run runOn ranOf asked short legal within awaitedCodes split splitFrom playFrom playRecord playEvents eventsOf replay happened compared step command obeyed supplied write written read resetPin access kept onward commandOf commandBy operandOf operandBy table Rattle.codes.specs.Table.offsetOf
+unfolding powerOn largestValues run runOn ranOf asked short legal within awaitedCodes split splitFrom playFrom playRecord playEvents eventsOf replay happened compared step command obeyed write written read resetPin access kept onward commandOf commandBy meaningOf operandOf operandBy table Rattle.codes.specs.Table.offsetOf
 answers = refl

@@ -10,24 +10,29 @@ ghost use Rattle.bus.specs.Events.{numberOf};
 ghost use Rattle.bus.specs.Machine.{resetPulse};
 ghost use Rattle.trace.specs.Play.{playEvents};
 ghost use Rattle.trace.specs.Chip.{event, command, write, readAs, theChip, chipOf};
-ghost use Rattle.trace.specs.Code.{endingOf};
+ghost use Rattle.trace.specs.Code.{endingOf, haltedOf};
 use bus::answer::After;
 use bus::answer::Answer;
 use bus::refusal::READ_DIFFERS;
 use bus::refusal::TAKEN;
 use bus::registers::Registers;
 
-// The first refused event of a record: its number, its byte's offset, and the registers that are left.
+// The first refused event of a record: its number, and its byte's offset.
 pub struct Halt {
     pub number: u8,
     pub offset: usize,
-    pub registers: Registers,
 }
 
 // How a record's events end: all are done, or one is refused.
-pub enum Progress {
-    Done(Registers),
+pub enum Ended {
+    Done,
     Stopped(Halt),
+}
+
+// The registers that a record's events leave, and how they end.
+pub struct Progress {
+    pub registers: Registers,
+    pub ended: Ended,
 }
 
 // The command bytes from one offset of the trace to another.
@@ -44,7 +49,10 @@ pub fn commands(mut registers: Registers, trace: &[u8], from: usize, to: usize) 
         registers = after.registers;
         at += 1;
     }
-    Progress::Done(registers)
+    Progress {
+        registers,
+        ended: Ended::Done,
+    }
 }
 
 // The data bytes written, from one offset of the trace to another.
@@ -67,7 +75,10 @@ pub fn writes(
         registers = after.registers;
         at += 1;
     }
-    Progress::Done(registers)
+    Progress {
+        registers,
+        ended: Ended::Done,
+    }
 }
 
 // The data bytes read and compared, from one offset of the trace to another.
@@ -92,14 +103,13 @@ pub fn reads(
             registers = left;
             at += 1;
         } else {
-            return Progress::Stopped(Halt {
-                number: READ_DIFFERS,
-                offset: at,
-                registers,
-            });
+            return halted(READ_DIFFERS, at, registers);
         }
     }
-    Progress::Done(registers)
+    Progress {
+        registers,
+        ended: Ended::Done,
+    }
 }
 
 // A pulse on the reset pin, by the record whose payload would begin at an offset.
@@ -111,7 +121,10 @@ pub fn reset_pin(registers: Registers, from: usize) -> Progress
         return stopped(answer, from, registers);
     };
     let restarted = after.registers;
-    Progress::Done(restarted)
+    Progress {
+        registers: restarted,
+        ended: Ended::Done,
+    }
 }
 
 // Whether a read is as the firmware read it; a dummy read is not compared.
@@ -127,18 +140,20 @@ fn agrees(after: After, byte: u8) -> bool
 
 // An event that was refused: a refusal has the number of its answer.
 fn stopped(answer: Answer, offset: usize, registers: Registers) -> Progress
-    ensures { λ r. ⌜ r ≡ Progress.Stopped (record { number = numberOf answer; offset = offset; registers = registers }) ⌝ }
+    ensures { λ r. ⌜ r ≡ haltedOf (numberOf answer) offset registers ⌝ }
 {
     match answer {
-        Answer::Taken(_) => Progress::Stopped(Halt {
-            number: TAKEN,
-            offset,
-            registers,
-        }),
-        Answer::Refused(number) => Progress::Stopped(Halt {
-            number,
-            offset,
-            registers,
-        }),
+        Answer::Taken(_) => halted(TAKEN, offset, registers),
+        Answer::Refused(number) => halted(number, offset, registers),
+    }
+}
+
+// Stopped with a number at an offset; the registers stand.
+pub fn halted(number: u8, offset: usize, registers: Registers) -> Progress
+    ensures { λ r. ⌜ r ≡ haltedOf number offset registers ⌝ }
+{
+    Progress {
+        registers,
+        ended: Ended::Stopped(Halt { number, offset }),
     }
 }

@@ -1,4 +1,5 @@
-// The run of a recorded trace over the bus.
+// The run of a recorded trace over the bus, and a command byte by itself, which is run as a record of one byte.
+pub mod command;
 mod events;
 pub mod reader;
 mod record;

@@ -1,17 +1,14 @@
 // One record: its header is checked before its payload acts.
 ghost use mathlib.Core.Path.{_≡_};
-ghost use mathlib.Core.List.{List};
-ghost use Prim.Native.Nat.{ℕ};
 ghost use lib.ListN.{drop};
-ghost use Rattle.bus.specs.Numbers.{kindUnknown};
 ghost use Rattle.trace.specs.Records.{recordAt};
 ghost use Rattle.trace.specs.Front.{frontOf};
-ghost use Rattle.trace.specs.Play.{Ending, playRecord};
+ghost use Rattle.trace.specs.Play.{playRecord};
 ghost use Rattle.trace.specs.Chip.{theChip, chipOf};
 ghost use Rattle.trace.specs.Code.{endingOf};
-use crate::events::Halt;
 use crate::events::Progress;
 use crate::events::commands;
+use crate::events::halted;
 use crate::events::reads;
 use crate::events::reset_pin;
 use crate::events::writes;
@@ -43,19 +40,8 @@ pub fn obey(
             if length == 0 {
                 return reset_pin(registers, from);
             }
-            unknown(at, registers)
+            halted(KIND_UNKNOWN, at, registers)
         }
-        _ => unknown(at, registers),
+        _ => halted(KIND_UNKNOWN, at, registers),
     }
-}
-
-// A record of no known kind, refused at its first byte.
-fn unknown(at: usize, registers: Registers) -> Progress
-    ensures { λ r. ⌜ ((memory : List ℕ) → endingOf r memory ≡ Ending.stopped kindUnknown at (chipOf registers memory)) ⌝ }
-{
-    Progress::Stopped(Halt {
-        number: KIND_UNKNOWN,
-        offset: at,
-        registers,
-    })
 }

@@ -5,7 +5,7 @@ ghost use Rattle.trace.specs.Play.{play};
 ghost use Rattle.trace.specs.Chip.{theChip, chipOf};
 ghost use Rattle.trace.specs.Code.{playedOf};
 ghost use Rattle.trace.specs.Run.{ran, run};
-use crate::events::Progress;
+use crate::events::Ended;
 use crate::reader::read_at;
 use crate::record::obey;
 use crate::records::Front;
@@ -48,7 +48,7 @@ pub fn run(state: &mut [u8], memory: &mut [u8], trace: &[u8]) -> Stop
 }
 
 // Plays the records of a trace from given registers and memory.
-fn play(mut registers: Registers, memory: &mut [u8], trace: &[u8]) -> Finish
+pub fn play(mut registers: Registers, memory: &mut [u8], trace: &[u8]) -> Finish
     ensures { λ r. ⌜ playedOf r (now (memory .exit)) ≡ play theChip (split (now (trace .entry))) (chipOf registers (now (memory .entry))) ⌝ }
 {
     let mut at = 0;
@@ -57,17 +57,21 @@ fn play(mut registers: Registers, memory: &mut [u8], trace: &[u8]) -> Finish
         match read_at(trace, at) {
             Front::Nothing => return end(TAKEN, at, count, registers),
             Front::Cut => return end(HEADER_CUT, at, count, registers),
-            Front::Whole(header) => match obey(header, registers, memory, trace, at) {
-                Progress::Done(left) => {
-                    registers = left;
-                    at = at + 4 + header.length;
-                    count += 1;
+            Front::Whole(header) => {
+                let progress = obey(header, registers, memory, trace, at);
+                let left = progress.registers;
+                let ended = progress.ended;
+                match ended {
+                    Ended::Done => {
+                        registers = left;
+                        at = at + 4 + header.length;
+                        count += 1;
+                    }
+                    Ended::Stopped(halt) => {
+                        return end(halt.number, halt.offset, count, left);
+                    }
                 }
-                Progress::Stopped(halt) => {
-                    let left = halt.registers;
-                    return end(halt.number, halt.offset, count, left);
-                }
-            },
+            }
         }
     }
 }

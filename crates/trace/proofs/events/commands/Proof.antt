@@ -9,7 +9,7 @@ use Rattle.trace.specs.Chip.{command, theChip, chipOf}
 use denote.Ref.{now}
 use Rattle.bus.specs.Events.{numberOf}
 use Rattle.bus.specs.Machine.{commandByte, step}
-use Rattle.trace.specs.Code.{endingOf}
+use Rattle.trace.specs.Code.{endedAt}
 use Rattle.trace.proofs.Turn.{playBytes, none-left, turn-refused, turn-given}
 use Rattle.trace.proofs.Replayed.{event-taken, event-refused}
 use borrow.Author.Needs.{needs}
@@ -41,7 +41,7 @@ stopped-requires : tie.Need-stopped-requires Inv-loop μ-loop
 stopped-requires c κs = search needs
 
 returns : tie.Need-returns Inv-loop μ-loop
-unfolding step endingOf numberOf
+unfolding step endedAt numberOf
 returns c =
     let d = c .before .before .before in
     let trace = now (d .before .before .before .before .before .args .trace) in
@@ -69,7 +69,7 @@ loop-again c =
     )
 
 returns-2 : tie.Need-returns-2 Inv-loop μ-loop
-unfolding endingOf
+unfolding endedAt
 returns-2 c =
     let loop = c .before .loop in
     let args = c .before .before .before .args in

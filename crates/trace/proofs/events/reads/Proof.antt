@@ -11,7 +11,7 @@ use lib.ListN.{length}
 use Rattle.bus.specs.Events.{numberOf}
 use Rattle.bus.specs.Machine.{step}
 use Rattle.trace.specs.Chip.{readAs, theChip, chipOf}
-use Rattle.trace.specs.Code.{endingOf}
+use Rattle.trace.specs.Code.{endedAt}
 use Rattle.trace.proofs.Replayed.{read-agrees, read-differs, read-refused}
 use Rattle.trace.proofs.Turn.{playBytes, none-left, turn-refused, turn-given}
 
@@ -37,7 +37,7 @@ stopped-requires : tie.Need-stopped-requires Inv-loop μ-loop
 stopped-requires c κs = search needs
 
 returns : tie.Need-returns Inv-loop μ-loop
-unfolding step endingOf numberOf
+unfolding step endedAt numberOf
 returns c =
     let d = c .before .before .before in
     let loop = d .before .before .loop in
@@ -65,16 +65,20 @@ loop-again c =
     let args = d .before .before .before .before .before .args in
     (omega arith, omega arith, loop .inv .2 ∙ turn-given theChip readAs (now (args .trace)) (loop .at) (args .to) _ _ (omega arith) (omega arith) (read-agrees _ _ _ (d .read .ensures) (c .before .before .before .before .before .answer .given .1) (sym (c .before .agrees .ensures) ∙ c .if1 .taken)))
 
+halted-requires : tie.Need-halted-requires Inv-loop μ-loop
+halted-requires c κs = search needs
+
 returns-2 : tie.Need-returns-2 Inv-loop μ-loop
-unfolding step endingOf
+unfolding step endedAt
 returns-2 c =
-    let d = c .before .before .before .before .before .before .before in
+    let d = c .before .before .before .before .before .before .before .before in
     let loop = d .before .before .loop in
     let args = d .before .before .before .before .before .args in
-    sym (loop .inv .2 ∙ turn-refused theChip readAs (now (args .trace)) (loop .at) (args .to) _ _ (omega arith) (omega arith) (read-differs _ _ _ (d .read .ensures) (c .before .before .before .before .before .answer .given .1) (sym (c .before .agrees .ensures) ∙ c .if1 .left)))
+    rw (c .halted .ensures)
+    (sym (loop .inv .2 ∙ turn-refused theChip readAs (now (args .trace)) (loop .at) (args .to) _ _ (omega arith) (omega arith) (read-differs _ _ _ (d .read .ensures) (c .before .before .before .before .before .before .answer .given .1) (sym (c .before .before .agrees .ensures) ∙ c .before .if1 .left))))
 
 returns-3 : tie.Need-returns-3 Inv-loop μ-loop
-unfolding endingOf
+unfolding endedAt
 returns-3 c =
     let loop = c .before .loop in
     let args = c .before .before .before .before .args in
@@ -98,5 +102,6 @@ reads-spec =
     add-at
     loop-less
     loop-again
+    halted-requires
     returns-2
     returns-3)

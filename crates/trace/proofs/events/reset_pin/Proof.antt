@@ -7,7 +7,7 @@ use mathlib.Core.Path.{refl, sym}
 use Rattle.bus.specs.Events.{numberOf}
 use Rattle.bus.specs.Machine.{resetPulse, step}
 use Rattle.trace.specs.Chip.{event, theChip}
-use Rattle.trace.specs.Code.{endingOf}
+use Rattle.trace.specs.Code.{endedAt}
 use Rattle.trace.proofs.Turn.{one-refused, one-given}
 use Rattle.trace.proofs.Replayed.{event-taken, event-refused}
 
@@ -24,11 +24,11 @@ stopped-requires : tie.Need-stopped-requires
 stopped-requires c κs = search needs
 
 returns : tie.Need-returns
-unfolding step endingOf numberOf
+unfolding step endedAt numberOf
 returns c = λ memory. rw (c .stopped .ensures, c .before .enum-told .given .1) (sym (one-refused theChip (event resetPulse) _ _ _ (event-refused resetPulse _ _ (c .before .before .before .reset-pin .ensures) (c .before .enum-told .given .1))))
 
 returns-2 : tie.Need-returns-2
-unfolding step endingOf
+unfolding step endedAt
 returns-2 c = λ memory. sym (one-given theChip (event resetPulse) _ _ _ (event-taken resetPulse _ _ (c .before .before .before .before .reset-pin .ensures) refl (c .before .before .answer .given .1)))
 
 pub reset-pin-spec : {M : Type 1} → statement M

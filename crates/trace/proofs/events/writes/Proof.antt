@@ -9,7 +9,7 @@ use lib.ListN.{length}
 use Rattle.bus.specs.Events.{numberOf}
 use Rattle.bus.specs.Machine.{dataWritten, step}
 use Rattle.trace.specs.Chip.{write, theChip, chipOf}
-use Rattle.trace.specs.Code.{endingOf}
+use Rattle.trace.specs.Code.{endedAt}
 use Rattle.bus.proofs.Untouched.{refused-leaves}
 use Rattle.trace.proofs.Replayed.{event-taken, event-refused}
 use Rattle.trace.proofs.Turn.{playBytes, none-left, turn-refused, turn-given}
@@ -45,7 +45,7 @@ same-length : tie.Need-same-length Inv-loop μ-loop
 same-length c = c .before .before .before .before .before .write .kept .1 .0 ∙ c .before .before .before .before .before .before .before .before .before .loop .inv .2
 
 returns : tie.Need-returns Inv-loop μ-loop
-unfolding step endingOf numberOf
+unfolding step endedAt numberOf
 returns c =
     let d = c .before .before .before .before .before in
     let loop = d .before .before .before .before .loop in
@@ -73,7 +73,7 @@ same-length-2 : tie.Need-same-length-2 Inv-loop μ-loop
 same-length-2 c = search needs
 
 returns-2 : tie.Need-returns-2 Inv-loop μ-loop
-unfolding endingOf
+unfolding endedAt
 returns-2 c =
     let loop = c .before .loop in
     let args = c .before .before .before .before .args in

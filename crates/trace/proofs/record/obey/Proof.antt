@@ -1,14 +1,14 @@
+-- `trace::record::obey` meets its contract: the record that stands there, by its kind.
+-- Assumes nothing.
 use borrow.Author.Needs.{needs}
 use Rattle.trace.proofs.record.obey.Statement.{statement}
 use Rattle.trace.proofs.record.obey.Tie as tie
 use mathlib.Core.Path.{sym, _∙_}
 use native.Mathlib.Omega.{arith}
 use denote.Ref.{now}
+use Rattle.trace.specs.Code.{endedAt}
 use Rattle.trace.proofs.Standing.{within-trace}
 use Rattle.trace.proofs.ByKind.{kind-1, kind-2, kind-3, kind-4, kind-4-loaded, kind-unknown}
-
--- `trace::record::obey` meets its contract: the record that stands there, by its kind.
--- Assumes nothing.
 
 add-from : tie.Need-add-from
 add-from c = let args = c .before .before .args in omega (arith, within-trace (now (args .trace)) (args .at) (args .header) (c .before .before .pre))
@@ -31,11 +31,11 @@ reset-pin-requires c κs = search needs
 returns : tie.Need-returns
 returns c = let d = c .before .before .before .before .before in c .reset-pin .ensures _ ∙ sym (kind-4 (now (d .args .trace)) (d .args .at) (d .args .header) (d .pre) _ (c .before .before .match .keys4) (c .before .if1 .taken))
 
-unknown-requires : tie.Need-unknown-requires
-unknown-requires c κs = search needs
+halted-requires : tie.Need-halted-requires
+halted-requires c κs = search needs
 
-unknown-requires-2 : tie.Need-unknown-requires-2
-unknown-requires-2 c κs = search needs
+halted-requires-2 : tie.Need-halted-requires-2
+halted-requires-2 c κs = search needs
 
 returns-2 : tie.Need-returns-2
 returns-2 c = let d = c .before .before .before .before in c .commands .ensures _ ∙ sym (kind-1 (now (d .args .trace)) (d .args .at) (d .args .header) (d .pre) _ (c .before .match .keys1))
@@ -53,13 +53,17 @@ returns-4 : tie.Need-returns-4
 returns-4 c = let d = c .before .before .before .before .before in c .reads .ensures ∙ sym (kind-3 (now (d .args .trace)) (d .args .at) (d .args .header) (d .pre) _ (c .before .before .match .keys3))
 
 returns-5 : tie.Need-returns-5
-returns-5 c = let d = c .before .before .before .before .before in c .unknown .ensures _ ∙ sym (kind-4-loaded (now (d .args .trace)) (d .args .at) (d .args .header) (d .pre) _ (c .before .before .match .keys4) (c .before .if1 .left))
+unfolding endedAt
+returns-5 c =
+    let d = c .before .before .before .before .before in
+    rw (c .halted .ensures) (sym (kind-4-loaded (now (d .args .trace)) (d .args .at) (d .args .header) (d .pre) _ (c .before .before .match .keys4) (c .before .if1 .left)))
 
 returns-6 : tie.Need-returns-6
+unfolding endedAt
 returns-6 c =
     let d = c .before .before .before .before in
     let other = c .before .match .rest in
-    c .unknown2 .ensures _ ∙ sym (kind-unknown (now (d .args .trace)) (d .args .at) (d .args .header) (d .pre) _ (other .0 .0 .0 .1) (other .0 .0 .1) (other .0 .1) (other .1))
+    rw (c .halted2 .ensures) (sym (kind-unknown (now (d .args .trace)) (d .args .at) (d .args .header) (d .pre) _ (other .0 .0 .0 .1) (other .0 .0 .1) (other .0 .1) (other .1)))
 
 pub obey-spec : {M : Type 1} → statement M
 obey-spec =
@@ -72,8 +76,8 @@ obey-spec =
     reads-requires
     reset-pin-requires
     returns
-    unknown-requires
-    unknown-requires-2
+    halted-requires
+    halted-requires-2
     returns-2
     same-length
     returns-3

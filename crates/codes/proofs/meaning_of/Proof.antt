@@ -1,0 +1,30 @@
+-- `codes::meaning_of` meets its contract: 0 is told from the codes that await n, and no other below 81 is one of them.
+-- Assumes nothing.
+use borrow.Author.Needs.{needs}
+use borrow.Author.Tests.{eq-eqb, ne-eqb}
+use native.Mathlib.Omega.{arith}
+use Rattle.codes.specs.Table.{table, meaningOf}
+use Rattle.codes.proofs.Rows.{unawaited}
+use Rattle.codes.proofs.meaning_of.Statement.{statement}
+use Rattle.codes.proofs.meaning_of.Tie as tie
+
+command-of-requires : tie.Need-command-of-requires
+command-of-requires c κs = search needs
+
+returns : tie.Need-returns
+unfolding meaningOf
+returns c = rw (eq-eqb _ _ (c .before .if2 .taken)) (c .command-of .ensures)
+
+returns-2 : tie.Need-returns-2
+unfolding meaningOf table
+returns-2 c = rw (ne-eqb _ _ (c .if2 .left)) (unawaited _ _ (omega arith, (omega arith, (omega arith, (omega arith, (omega arith, (omega arith, tt)))))))
+
+operand-of-requires : tie.Need-operand-of-requires
+operand-of-requires c κs = search needs
+
+returns-3 : tie.Need-returns-3
+unfolding meaningOf
+returns-3 c = rw (ne-eqb (c .before .before .args .awaited) 0 (λ none. omega arith)) (c .operand-of .ensures)
+
+pub meaning-of-spec : {M : Type 1} → statement M
+meaning-of-spec = tie.close (tie.spec command-of-requires returns returns-2 operand-of-requires returns-3)

@@ -1,3 +1,0 @@
-pub mod Listings
-pub mod Own
-pub mod SameSizes
