@@ -1,6 +1,6 @@
 -- The event calls on a lent state and memory: the whole outcome as one function of what is lent.
 use Prim.Native.Nat.{ℕ}
-use mathlib.Core.Bool.{Bool, false, cond}
+use mathlib.Core.Bool.{cond}
 use mathlib.Core.List.{List}
 use Rattle.bus.specs.Numbers.{tooShort}
 use Rattle.bus.specs.Registers.{registersOf}

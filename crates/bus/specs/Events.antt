@@ -43,7 +43,6 @@ use Rattle.bus.specs.Places.{page, column, start, offset, multiplex, con
 use Rattle.bus.specs.Registers.{_with_≔_, powerOn}
 use Rattle.bus.specs.Memory.{address, kept, onward}
 use Rattle.bus.specs.declared.registers.Registers.{Registers}
-use Rattle.bus.specs.declared.answer.After.{After}
 use Rattle.bus.specs.declared.answer.Answer.{Answer}
 use Rattle.bus.specs.declared.answer.Answer.the-variants.{Taken, Refused}
 

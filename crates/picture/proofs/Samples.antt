@@ -16,7 +16,7 @@ use Rattle.picture.specs.declared.rows.Shown.the-variants.{Dark, Ram}
 use Rattle.picture.proofs.Lines.{grid-same}
 use Rattle.codes.specs.Table.{table, offsetOf, framePhasesOf, commandBy, operandBy, commandOf, operandOf, meaningOf}
 use Rattle.bus.specs.Registers.{ranges, powerOn}
-use Rattle.bus.specs.Memory.{address, kept, onward}
+use Rattle.bus.specs.Memory.{kept, onward}
 use Rattle.bus.specs.Events.{numberOf, obeyed, command, access, write, written}
 use Rattle.bus.specs.Machine.{step, registersAfter, chipAfter}
 use native.Mathlib.Omega.{arith}

@@ -4,5 +4,6 @@ pub mod Play
 pub mod Chip
 pub mod Code
 pub mod Run
+pub mod Given
 pub mod OneByOne
 pub mod ByCalls

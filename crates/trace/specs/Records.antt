@@ -1,5 +1,5 @@
 -- Document 01, "The trace": a trace's bytes split into records. It knows nothing of the chip.
-use Prim.Native.Nat.{ℕ, zero, suc, _+_, _*_}
+use Prim.Native.Nat.{ℕ, zero, suc, _+_, _*_, _/_, _%_}
 use mathlib.Core.Bool.{Bool, cond, _&&_}
 use mathlib.Core.List.{List, [], _∷_}
 use lib.Dec.{leb}
@@ -35,6 +35,10 @@ kindOf bytes = number bytes 2
 -- The payload follows its header.
 abbrev pub payloadOf : List ℕ → List ℕ
 payloadOf bytes = take (lengthOf bytes) (drop headerSize bytes)
+
+-- A record's bytes: payload length, kind, payload.
+abbrev pub written : ℕ → List ℕ → List ℕ
+written kind payload = length payload % 256 ∷ length payload / 256 ∷ kind % 256 ∷ kind / 256 ∷ payload
 
 -- A whole record stands first among the bytes: its header is not cut, and its payload not past the end.
 abbrev pub whole : List ℕ → Bool
