@@ -45,7 +45,7 @@ use Rattle.codes.proofs.Tests.{chosen}
 use Rattle.bus.specs.Sizes.{lastColumn, pages, memorySize}
 use Rattle.bus.specs.Numbers.{taken, columnAbove}
 use Rattle.bus.specs.Events.{numberOf, obeyed, command, access, write, read, resetPin}
-use Rattle.bus.specs.Machine.{Event, commandByte, dataWritten, dataRead, resetPulse, step}
+use Rattle.bus.specs.Chip.{Event, commandByte, dataWritten, dataRead, resetPulse, step}
 use Rattle.bus.specs.Given.{numberOfCommand, numberOfEvent, isRead}
 use Rattle.bus.specs.declared.registers.Registers.{Registers}
 use Rattle.bus.specs.declared.answer.After.{After}

@@ -9,7 +9,7 @@ use lib.Dec.{lit≤}
 use Rattle.codes.proofs.Tests.{chosen}
 use Rattle.bus.specs.Numbers.{taken, tooShort, outOfRange}
 use Rattle.bus.specs.Registers.{registersOf}
-use Rattle.bus.specs.Machine.{Event, commandByte, dataWritten, dataRead, resetPulse}
+use Rattle.bus.specs.Chip.{Event, commandByte, dataWritten, dataRead, resetPulse}
 use Rattle.bus.specs.Image.{short, legal, asked}
 use Rattle.bus.specs.Calls.{askedBefore}
 use Rattle.bus.specs.declared.registers.Registers.{Registers}

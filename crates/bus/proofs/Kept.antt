@@ -52,7 +52,7 @@ use Rattle.bus.specs.Places.{page, column, start, offset, multiplex, con
 use Rattle.bus.specs.Registers.{largestValues, imageOf, registersOf, _with_≔_, powerOn}
 use Rattle.bus.specs.Memory.{onward}
 use Rattle.bus.specs.Events.{done, enter, leave, softwareReset, obeyed, command, access, moved, write, read, resetPin}
-use Rattle.bus.specs.Machine.{Event, commandByte, dataWritten, dataRead, resetPulse, step}
+use Rattle.bus.specs.Chip.{Event, commandByte, dataWritten, dataRead, resetPulse, step}
 use Rattle.bus.specs.Image.{within, awaitedCodes, legal, asked}
 use Rattle.bus.specs.declared.image.Asked.the-variants.{Found}
 use Rattle.bus.proofs.Legal.{long}

@@ -9,7 +9,7 @@ use lib.ListN.{length, drop}
 use Rattle.bus.specs.Sizes.{imageSize, memorySize}
 use Rattle.bus.specs.Registers.{largestValues, imageOf, registersOf}
 use Rattle.bus.specs.Image.{within, legal, short, asked, stored}
-use Rattle.bus.specs.Machine.{Event, commandByte, dataWritten, dataRead, resetPulse, step}
+use Rattle.bus.specs.Chip.{Event, commandByte, dataWritten, dataRead, resetPulse, step}
 use Rattle.bus.specs.Calls.{concluded, askedBefore, callOn, call}
 use Rattle.bus.specs.declared.registers.Registers.{Registers}
 use Rattle.bus.specs.declared.image.Asked.the-variants.{Found}

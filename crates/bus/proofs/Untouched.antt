@@ -14,7 +14,7 @@ use Rattle.bus.specs.Sizes.{imageSize, memorySize}
 use Rattle.bus.specs.Numbers.{taken}
 use Rattle.bus.specs.Memory.{address, kept}
 use Rattle.bus.specs.Events.{numberOf, access, write, written}
-use Rattle.bus.specs.Machine.{Event, commandByte, dataWritten, dataRead, resetPulse, step}
+use Rattle.bus.specs.Chip.{Event, commandByte, dataWritten, dataRead, resetPulse, step}
 use Rattle.bus.specs.Image.{stored}
 use Rattle.bus.specs.Calls.{replyOf, stateAfter, concluded, refused, askedBefore, callOn, call}
 use Rattle.bus.specs.declared.registers.Registers.{Registers}

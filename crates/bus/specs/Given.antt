@@ -41,7 +41,7 @@ use Rattle.bus.specs.Sizes.{lastColumn}
 use Rattle.bus.specs.Numbers.{taken, tooShort, outOfRange, outsideTable, noPage, notAllowed, codeAwaited, columnAbove}
 use Rattle.bus.specs.Registers.{registersOf}
 use Rattle.bus.specs.Memory.{address, kept}
-use Rattle.bus.specs.Machine.{Event, commandByte, dataWritten, dataRead, resetPulse}
+use Rattle.bus.specs.Chip.{Event, commandByte, dataWritten, dataRead, resetPulse}
 use Rattle.bus.specs.Image.{short, legal}
 use Rattle.bus.specs.declared.registers.Registers.{Registers}
 use Rattle.bus.specs.declared.calls.Reply.{Reply}

@@ -78,7 +78,7 @@ pub record Range : Type 0 where
   pub atPowerOn : ℕ
 
 abbrev pub range : ℕ → ℕ → ℕ → Range
-range register most first = record { place = register; largest = most; atPowerOn = first }
+range register most start = record { place = register; largest = most; atPowerOn = start }
 
 -- The ranges in the image's order; Image.antt has what more is asked of the awaited code and the saved column.
 unfoldable pub ranges : List Range

@@ -16,7 +16,7 @@ use Rattle.bus.proofs.Kept.{legal-facts, bound}
 use Rattle.bus.specs.declared.registers.Registers.{Registers}
 use Rattle.picture.specs.Sizes.{height, frameRows}
 use Rattle.picture.specs.Rows.{panelRow, ramRow, rowsInUse, comOf, used, ramRowOf, panelShows, rowShows}
-use Rattle.picture.specs.Frame.{bit, columnOf, turned, bits, frame, placeOf}
+use Rattle.picture.specs.Frame.{bit, columnOf, turned, shownBit, frame, placeOf}
 use Rattle.picture.specs.Demand3.{Full, scroll}
 use Rattle.picture.specs.declared.rows.Shown.the-variants.{Ram}
 use Rattle.codes.proofs.Tests.{chosen}
@@ -121,5 +121,5 @@ module _ (r : Registers) (b : Bounds r) where
 
   -- what stands at a place
   pub place-shows : (memory : List ℕ) (y x : ℕ) → y < frameRows → x < width → placeOf y x (frame r memory) ≡ turned (r .reverse) (bit memory (ramRow (ramOf r y)) (columnOf width r x))
-  unfolding bits
+  unfolding shownBit
   place-shows memory y x l k = frame-place r memory y x l k ∙ rw (row-shows y l) (bits-show r memory (ramRow (ramOf r y)) x (b .on) (b .entire))

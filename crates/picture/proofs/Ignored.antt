@@ -13,7 +13,7 @@ use Rattle.bus.specs.Memory.{address}
 use Rattle.bus.specs.declared.registers.Registers.{Registers}
 use Rattle.picture.specs.Sizes.{height, frameRows}
 use Rattle.picture.specs.Rows.{panelRow, comOf, used, ramRowOf, panelShows, rowShows}
-use Rattle.picture.specs.Frame.{bit, columnOf, bits, lighted, segment, frame}
+use Rattle.picture.specs.Frame.{bit, columnOf, shownBit, whileOn, segment, frame}
 use Rattle.picture.specs.Ignored.{drawNothing, DrawAlike, SameBits}
 use Rattle.picture.specs.declared.rows.RamRow.{RamRow}
 use Rattle.picture.specs.declared.rows.Shown.{Shown}
@@ -44,7 +44,7 @@ seen-alike r s a =
 
 -- drawing asks no other
 segment-seen : (r : Registers) (memory : List ℕ) (shown : Shown) (x : ℕ) → segment width r memory shown x ≡ segment width (seen r) memory shown x
-unfolding segment lighted bits columnOf
+unfolding segment whileOn shownBit columnOf
 segment-seen r memory Dark x = refl
 segment-seen r memory (Ram row) x = refl
 
@@ -69,7 +69,7 @@ bit-same memory other e row column l k = by (decLt (row .0) height)
 
 -- memories with the same bits are drawn as the same frame by every setting
 pub rest-ignored : (r : Registers) (memory other : List ℕ) → SameBits memory other → frame r memory ≡ frame r other
-unfolding frame segment lighted bits
+unfolding frame segment whileOn shownBit
 rest-ignored r memory other e = grid-same width frameRows _ _ (λ y x l k. place y x k (rowShows height r (panelRow y)) refl)
   where
     place : (y x : ℕ) → x < width → (shown : Shown) → rowShows height r (panelRow y) ≡ shown → segment width r memory (rowShows height r (panelRow y)) x ≡ segment width r other (rowShows height r (panelRow y)) x

@@ -11,7 +11,7 @@ use lib.ListN.{length}
 use Rattle.bus.specs.Sizes.{imageSize, memorySize}
 use Rattle.bus.specs.Numbers.{taken, readDiffers}
 use Rattle.bus.specs.Events.{numberOf, byteOf, dummyOf}
-use Rattle.bus.specs.Machine.{dataRead, step}
+use Rattle.bus.specs.Chip.{dataRead, step}
 use Rattle.bus.specs.Image.{asked, stored}
 use Rattle.bus.specs.Calls.{replyOf, stateAfter, concluded, call}
 use Rattle.bus.specs.declared.registers.Registers.{Registers}
@@ -24,7 +24,7 @@ use Rattle.bus.proofs.Untouched.{step-length}
 use Rattle.bus.proofs.Stored.{stored-own, stored-again, call-stored}
 use Rattle.trace.specs.Records.{Trace, ended, cut, _then_, headerSize, split}
 use Rattle.trace.specs.Play.{Result, refuses, gives, onResult, played}
-use Rattle.trace.specs.Chip.{Recorded, event, readAs, chipOf, happened, compared, replay, theChip}
+use Rattle.trace.specs.Kinds.{Recorded, event, readAs, chipOf, happened, compared, replay, theChip}
 use Rattle.trace.specs.OneByOne.{Placed, placed, Script, script, scriptFrom, applied}
 use Rattle.trace.specs.ByCalls.{calledBy, meets, byCalls, runByCalls}
 use Rattle.trace.specs.Run.{ran, stopOf, ranOf, run}

@@ -10,15 +10,15 @@ use borrow.Author.Tests.{ne-eqb}
 use lib.ListN.{length, getD, take, drop}
 use lib.Seq.{slice}
 use Rattle.bus.specs.Numbers.{taken, headerCut, kindUnknown, readDiffers}
-use Rattle.bus.specs.Machine.{Chip, dataRead, step}
+use Rattle.bus.specs.Chip.{Chip, dataRead, step}
 use Rattle.bus.specs.Events.{numberOf, byteOf, dummyOf}
 use Rattle.bus.specs.Calls.{Called, replyOf, concluded, call}
 use Rattle.bus.specs.declared.calls.Reply.{Reply}
 use Rattle.bus.proofs.Answers.{step-answers, was-taken}
 use Rattle.bus.proofs.Stored.{call-stored}
-use Rattle.trace.specs.Records.{headerSize, lengthOf, written, recordAt, splitFrom, split}
+use Rattle.trace.specs.Records.{headerSize, lengthOf, recordBytes, recordAt, splitFrom, split}
 use Rattle.trace.specs.Play.{refuses, Ending, stopped, done, played, onEnding, playEvents, playRecord, playFrom, play}
-use Rattle.trace.specs.Chip.{eventsOf, readAs, replay, chipOf, theChip}
+use Rattle.trace.specs.Kinds.{eventsOf, readAs, replay, chipOf, theChip}
 use Rattle.trace.specs.Run.{Ran, ran, stopOf, ranOf, run}
 use Rattle.trace.specs.Given.{stoppedAfter, HeaderCut, KindUnknown, ranBefore, readThere, ReadDiffers}
 use Rattle.trace.proofs.Rest.{rest, plays-cut, plays-stop}
@@ -90,14 +90,14 @@ module _ (state memory trace : List ℕ) where
     early = playEvents theChip (map readAs part) headerSize (here .chip)
 
     -- the record cut there, alone
-    alone : play theChip (split (written 3 part)) (here .chip) ≡ onEnding early (λ n o t. played n o 0 t) (λ t. played taken (headerSize + length part + 0) 1 t)
+    alone : play theChip (split (recordBytes 3 part)) (here .chip) ≡ onEnding early (λ n o t. played n o 0 t) (λ t. played taken (headerSize + length part + 0) 1 t)
     unfolding split splitFrom playFrom playRecord eventsOf
-    alone = ap (λ b. play theChip (split b) (here .chip)) (sym (append-nil (written 3 part))) ∙ rw (split-written 3 part [])
+    alone = ap (λ b. play theChip (split b) (here .chip)) (sym (append-nil (recordBytes 3 part))) ∙ rw (split-written 3 part [])
 
     before-is : ranBefore state memory trace at offset ≡ ranOf (further at (here .count) (onEnding early (λ n o t. played n o 0 t) (λ t. played taken (headerSize + length part + 0) 1 t))) state
     before-is =
-        run-found state memory (here .registers) (here .found) (take at trace ++ written 3 part) ∙
-        ap (λ p. ranOf p state) (joined theChip the-chip-sound (take at trace) (written 3 part) (chipOf (here .registers) memory) (ap (λ p. p .number) (here .reached)) ∙ rw (here .reached, alone))
+        run-found state memory (here .registers) (here .found) (take at trace ++ recordBytes 3 part) ∙
+        ap (λ p. ranOf p state) (joined theChip the-chip-sound (take at trace) (recordBytes 3 part) (chipOf (here .registers) memory) (ap (λ p. p .number) (here .reached)) ∙ rw (here .reached, alone))
 
     same-reads : playBytes theChip readAs trace (at + headerSize) offset (here .chip) ≡ endingFurther at early
     same-reads = events-further theChip at (map readAs part) headerSize (here .chip)

@@ -8,13 +8,13 @@ use lib.Dec.{eqb}
 use lib.ListN.{length, drop}
 use Rattle.codes.proofs.Tests.{chosen}
 use Rattle.bus.specs.Sizes.{memorySize}
-use Rattle.bus.specs.Machine.{Chip, dataRead}
+use Rattle.bus.specs.Chip.{Chip, dataRead}
 use Rattle.bus.specs.declared.answer.Answer.{Answer}
 use Rattle.bus.specs.declared.answer.Answer.the-variants.{Taken, Refused}
 use Rattle.bus.proofs.Kept.{LegalRegisters, Keeps, IsByte, step-keeps}
 use Rattle.bus.proofs.Untouched.{step-length, memory-past}
 use Rattle.trace.specs.Play.{Result}
-use Rattle.trace.specs.Chip.{Recorded, event, readAs, command, write, happened, compared, replay, eventsOf}
+use Rattle.trace.specs.Kinds.{Recorded, event, readAs, command, write, happened, compared, replay, eventsOf}
 use Rattle.trace.proofs.Kept.{All, Bytes, Gives}
 use Rattle.trace.proofs.Payloads.{Kind, commands, writes, reads, reset, none, by-kind}
 

@@ -9,10 +9,10 @@ use lib.Dec.{eqb}
 use lib.ListN.{length}
 use Rattle.codes.proofs.Tests.{chosen}
 use Rattle.bus.specs.Numbers.{kindUnknown}
-use Rattle.bus.specs.Machine.{resetPulse}
+use Rattle.bus.specs.Chip.{resetPulse}
 use Rattle.trace.specs.Play.{Result, refuses, gives}
 use Rattle.trace.specs.Given.{Unknown, noKind, loaded}
-use Rattle.trace.specs.Chip.{Recorded, event, command, write, readAs, eventsOf}
+use Rattle.trace.specs.Kinds.{Recorded, event, command, write, readAs, eventsOf}
 
 pub data Kind (kind : ℕ) (payload : List ℕ) : Result (List Recorded) → Type 0 where
   commands : kind ≡ 1 → Kind kind payload (gives (map command payload))

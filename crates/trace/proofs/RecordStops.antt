@@ -7,14 +7,14 @@ use Prim.Native.Nat.{ℕ, _+_, _≤_, _<_}
 use native.Mathlib.Omega.{arith}
 use lib.ListN.{length, getD, drop}
 use Rattle.bus.specs.Numbers.{taken, columnAbove, kindUnknown, readDiffers}
-use Rattle.bus.specs.Machine.{Chip, Event, commandByte, dataWritten, resetPulse, dataRead, step}
+use Rattle.bus.specs.Chip.{Chip, Event, commandByte, dataWritten, resetPulse, dataRead, step}
 use Rattle.bus.specs.Events.{resetPin}
 use Rattle.bus.specs.declared.answer.After.{After}
 use Rattle.bus.specs.declared.answer.Answer.the-variants.{Taken}
 use Rattle.trace.specs.Records.{headerSize, lengthOf, kindOf, payloadOf, whole, recordAt}
 use Rattle.trace.specs.Front.{frontOf}
 use Rattle.trace.specs.Play.{Result, stopped, playRecord}
-use Rattle.trace.specs.Chip.{Recorded, event, readAs, command, write, happened, replay, theChip}
+use Rattle.trace.specs.Kinds.{Recorded, event, readAs, command, write, happened, replay, theChip}
 use Rattle.trace.specs.Given.{Unknown, noKind, loaded}
 use Rattle.trace.specs.declared.records.Front.the-variants.{Whole}
 use Rattle.trace.proofs.ByKind.{kind-1, kind-2, kind-3, kind-4, kind-4-loaded, kind-unknown}

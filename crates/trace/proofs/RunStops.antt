@@ -8,14 +8,14 @@ use native.Mathlib.Omega.{arith}
 use lib.ListN.{length, take, drop}
 use lib.Seq.{length-take-le}
 use Rattle.bus.specs.Numbers.{taken, columnAbove, headerCut, kindUnknown}
-use Rattle.bus.specs.Machine.{Chip}
+use Rattle.bus.specs.Chip.{Chip}
 use Rattle.bus.specs.Image.{asked}
 use Rattle.bus.specs.declared.registers.Registers.{Registers}
 use Rattle.bus.specs.declared.image.Asked.the-variants.{Found}
 use Rattle.bus.proofs.Asking.{OneOrTwo, asked-refusal}
 use Rattle.trace.specs.Records.{whole, split}
 use Rattle.trace.specs.Play.{Played, played, playFrom, play}
-use Rattle.trace.specs.Chip.{chipOf, theChip}
+use Rattle.trace.specs.Kinds.{chipOf, theChip}
 use Rattle.trace.specs.Run.{Ran, ranOf, run}
 use Rattle.trace.specs.Given.{HeaderAt, HeaderCut, KindUnknown}
 use Rattle.trace.proofs.Rest.{rest}

@@ -16,7 +16,7 @@ use Rattle.bus.proofs.Kept.{asked-legal}
 use Rattle.bus.proofs.Stored.{Sized, sized, stored-own, stored-again, stored-past, asked-stored}
 use Rattle.trace.specs.Records.{splitFrom, split}
 use Rattle.trace.specs.Play.{playFrom, play}
-use Rattle.trace.specs.Chip.{chipOf, theChip}
+use Rattle.trace.specs.Kinds.{chipOf, theChip}
 use Rattle.trace.specs.Run.{Ran, ran, stopOf, ranOf, runOn, run}
 use Rattle.trace.specs.declared.run.Stop.{Stop}
 use Rattle.trace.proofs.Joined.{taken-offset, joined}

@@ -8,13 +8,13 @@ use native.Mathlib.Omega.{arith}
 use borrow.Author.Tests.{eqb-false}
 use lib.Dec.{eqb}
 use Rattle.bus.specs.Numbers.{taken, columnAbove, kindUnknown, readDiffers}
-use Rattle.bus.specs.Machine.{Chip, dataRead, step}
+use Rattle.bus.specs.Chip.{Chip, dataRead, step}
 use Rattle.bus.specs.declared.answer.After.{After}
 use Rattle.bus.specs.declared.answer.Answer.{Answer}
 use Rattle.bus.specs.declared.answer.Answer.the-variants.{Taken, Refused}
 use Rattle.bus.proofs.Answers.{StandsFor, step-answers}
 use Rattle.trace.specs.Play.{Result, refuses, gives}
-use Rattle.trace.specs.Chip.{Recorded, event, readAs, chipOf, happened, compared, replay, theChip}
+use Rattle.trace.specs.Kinds.{Recorded, event, readAs, chipOf, happened, compared, replay, theChip}
 use Rattle.trace.proofs.Payloads.{Kind, commands, writes, reads, reset, none, by-kind}
 use Rattle.trace.proofs.Joined.{Sound}
 

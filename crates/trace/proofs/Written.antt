@@ -8,7 +8,7 @@ use native.Mathlib.Omega.{arith}
 use borrow.Author.Tests.{le-leb}
 use lib.ListN.{length, drop, length-append}
 use lib.Seq.{take-append-seam, drop-append-seam}
-use Rattle.trace.specs.Records.{Trace, _then_, headerSize, written, whole, split}
+use Rattle.trace.specs.Records.{Trace, _then_, headerSize, recordBytes, whole, split}
 use Rattle.trace.proofs.Further.{traceFurther, split-further}
 use Rattle.trace.proofs.Rest.{split-whole}
 
@@ -17,7 +17,7 @@ two-bytes n = omega arith
 
 module _ (kind : ℕ) (payload rest : List ℕ) where
   abbrev bytes : List ℕ
-  bytes = written kind payload ++ rest
+  bytes = recordBytes kind payload ++ rest
 
   is-whole : whole bytes ≡ true
   is-whole = rw (two-bytes (length payload), length-append payload rest, le-leb headerSize (suc (suc (suc (suc (length payload + length rest))))) (omega arith), le-leb (headerSize + length payload) (suc (suc (suc (suc (length payload + length rest))))) (omega arith))

@@ -7,10 +7,10 @@ use mathlib.Core.List.{List, _++_}
 use lib.ListN.{length, getD, take, drop}
 use lib.Seq.{slice}
 use Rattle.bus.specs.Numbers.{taken}
-use Rattle.bus.specs.Machine.{dataRead}
+use Rattle.bus.specs.Chip.{dataRead}
 use Rattle.bus.specs.Calls.{call}
 use Rattle.bus.specs.declared.calls.Reply.{Reply}
-use Rattle.trace.specs.Records.{headerSize, lengthOf, kindOf, whole, written}
+use Rattle.trace.specs.Records.{headerSize, lengthOf, kindOf, whole, recordBytes}
 use Rattle.trace.specs.Run.{Ran, ran, stopOf, run}
 
 -- A header should stand at an offset: the bytes before it run, and all are taken.
@@ -44,7 +44,7 @@ pub record KindUnknown (state memory trace : List ℕ) (offset : ℕ) : Type 0 w
 
 -- The run of what stands before an offset in the payload of a record of reads: the bytes before the record, and the record as if its payload ended there.
 abbrev pub ranBefore : List ℕ → List ℕ → List ℕ → ℕ → ℕ → Ran
-ranBefore state memory trace place offset = run state memory (take place trace ++ written 3 (slice (place + headerSize) offset trace))
+ranBefore state memory trace place offset = run state memory (take place trace ++ recordBytes 3 (slice (place + headerSize) offset trace))
 
 -- What a read replies then.
 abbrev pub readThere : List ℕ → List ℕ → List ℕ → ℕ → ℕ → Reply

@@ -1,7 +1,7 @@
 pub mod Records
 pub mod Front
 pub mod Play
-pub mod Chip
+pub mod Kinds
 pub mod Code
 pub mod Run
 pub mod Given
