@@ -5,42 +5,11 @@
 set -euo pipefail
 
 tool=("$@")
-here=$(mktemp -d)
-trap 'rm -rf "$here"' EXIT
-failed=0
-made=0
+# shellcheck source=host/test/checks.sh
+. "$(dirname "$0")/checks.sh"
 
-# Runs the tool on what stands on standard input; keeps all that it answers.
-run() {
-  status=0
-  "${tool[@]}" "$@" > "$here/out" 2> "$here/err" || status=$?
-}
-
-# check WHAT CONDITION...: a condition that must hold.
-check() {
-  local what=$1
-  shift
-  made=$((made + 1))
-  if ! "$@"; then
-    failed=$((failed + 1))
-    echo "tool: not so: $what" >&2
-    head -c 2000 "$here/out" | LC_ALL=C cat -v | sed 's/^/  out: /' >&2
-    sed 's/^/  err: /' "$here/err" >&2
-  fi
-}
-
-status_is() { [ "$status" -eq "$1" ]; }
-out_is() { [ "$(cat "$here/out")" = "$1" ]; }
-out_has() { grep -qxF -- "$1" "$here/out"; }
-line_is() { [ "$(sed -n "$1p" "$here/out")" = "$2" ]; }
-err_has() { grep -qF -- "$1" "$here/err"; }
-nothing_on() { [ ! -s "$here/$1" ]; }
-
-# bytes HEX...: those bytes.
-bytes() {
-  local byte
-  for byte in "$@"; do printf '%b' "\\x$byte"; done
-}
+# Runs the tool on what stands on standard input.
+run() { ran "${tool[@]}" "$@"; }
 
 sample=(01 00 01 00 AF 02 00 02 00 03 01)
 
@@ -178,5 +147,4 @@ if [ -e /dev/full ]; then
   check 'output that fails: said' err_has 'cannot write standard output'
 fi
 
-echo "tool: $made checks, $failed failed"
-[ "$made" -gt 0 ] && [ "$failed" -eq 0 ]
+checks_end tool
