@@ -26,7 +26,7 @@ differ() {
 # and from the tool's `state`, in one form.
 oracle_outcome() { sed -n '1p; s/^state //p' "$1"; }
 tool_outcome() {
-  sed -nE 's/^run +([0-9]+) at ([0-9]+), whole records ([0-9]+)$/\1 \2 \3/p' "$1"
+  sed -nE 's/^run +[a-z]+, number ([0-9]+) at ([0-9]+), whole records ([0-9]+)$/\1 \2 \3/p' "$1"
   sed -nE 's/^image +//p' "$1"
 }
 
