@@ -91,6 +91,9 @@ calls: $(CALLS) $(SAMPLES) $(HEADER)
 	$(RUN) $(CALLS)
 	$(RUN) $(SAMPLES)
 	$(RUN) $(HEADER)
+ifeq ($(MODEL),proved)
+	CC=$(CC) NM=$(CROSS)nm host/test/library.sh $(LIBRARY) $(RUN)
+endif
 
 check-tool: $(TOOL)
 	host/test/tool.sh $(RUN) $(TOOL)
