@@ -106,6 +106,7 @@ check-tool: $(TOOL)
 
 check-traces: $(TOOL) oracle
 	traces/check.sh $(ORACLE) $(RUN) $(TOOL)
+	traces/test.sh $(ORACLE) $(RUN) $(TOOL)
 
 # The library itself is not compiled with these checks; its steps outside what
 # it is lent are seen by the rooms of host/compare/room.h.  Off x86-64 the

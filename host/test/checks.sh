@@ -8,8 +8,8 @@ trap 'rm -rf "$here"' EXIT
 : > "$here/out"
 : > "$here/err"
 status=0
-failed=0
-made=0
+checks_failed=0
+checks_made=0
 
 # ran COMMAND...: runs it on what stands on standard input; keeps all that it
 # answers.
@@ -22,9 +22,9 @@ ran() {
 check() {
   local what=$1
   shift
-  made=$((made + 1))
+  checks_made=$((checks_made + 1))
   if ! "$@"; then
-    failed=$((failed + 1))
+    checks_failed=$((checks_failed + 1))
     echo "not so: $what" >&2
     head -c 2000 "$here/out" | LC_ALL=C cat -v | sed 's/^/  out: /' >&2
     sed 's/^/  err: /' "$here/err" >&2
@@ -48,6 +48,6 @@ bytes() {
 
 # checks_end NAME: a line that says how it went, and the script's status.
 checks_end() {
-  echo "$1: $made checks, $failed failed"
-  [ "$made" -gt 0 ] && [ "$failed" -eq 0 ]
+  echo "$1: $checks_made checks, $checks_failed failed"
+  [ "$checks_made" -gt 0 ] && [ "$checks_failed" -eq 0 ]
 }
