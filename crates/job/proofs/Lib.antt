@@ -1,3 +1,4 @@
 pub mod Listings
 pub mod Sample
+pub mod Seen
 pub mod Spread
