@@ -7,6 +7,8 @@
 # x86-64 by a cross compiler and run by an emulator; host/cross.sh sees that
 # they are there.
 
+SHELL  := /bin/bash
+
 MODEL  ?= proved
 SEED   ?= 1
 TIMES  ?= 1
@@ -50,7 +52,7 @@ SAMPLES  := $(OUT)/samples
 HEADER   := $(OUT)/header
 BENCH    := $(OUT)/bench/bench
 
-.PHONY: tool show test compare calls check-tool check-traces sanitize mutants \
+.PHONY: tool show test compare reread calls check-tool check-traces sanitize mutants \
         bench instructions traces spread oracle cross clean help
 .DELETE_ON_ERROR:
 
@@ -64,6 +66,7 @@ help:
 	@echo 'make show          a screen: TRACE=FILE for another trace'
 	@echo 'make test          all tests of the C side'
 	@echo 'make compare       the library beside the oracle; SEED=2 TIMES=10 for more'
+	@echo 'make reread        the oracle beside the second reading, likewise'
 	@echo 'make sanitize      the same tests with address and undefined-behaviour checks'
 	@echo 'make mutants       damaged plain C, which the comparison must catch'
 	@echo 'make bench         the library beside plain C: time'
@@ -78,6 +81,12 @@ test: compare calls check-tool check-traces
 
 compare: $(COMPARE) oracle
 	host/compare/compare.sh $(ORACLE) $(SEED) $(TIMES) -- $(RUN) $(COMPARE)
+
+# The oracle beside the second reading of documents 00 and 01.
+reread: oracle
+	cargo build --quiet --release --manifest-path reread/Cargo.toml
+	set -o pipefail; oracle/stream.sh $(ORACLE) $(SEED) $(TIMES) \
+	  | reread/target/release/reread
 
 calls: $(CALLS) $(SAMPLES) $(HEADER)
 	$(RUN) $(CALLS)

@@ -478,16 +478,16 @@ use Rattle.bus.specs.Sizes.{width, memorySize}
 use Rattle.bus.specs.Registers.{largestValues, powerOn, registersOf}
 use Rattle.bus.specs.Memory.{kept, onward}
 use Rattle.bus.specs.Events.{numberOf, byteOf, dummyOf, obeyed, command, access, write, written, read, resetPin}
-use Rattle.bus.specs.Machine.{Event, commandByte, dataWritten, dataRead, resetPulse, step}
+use Rattle.bus.specs.Chip.{Event, commandByte, dataWritten, dataRead, resetPulse, step}
 use Rattle.bus.specs.Image.{within, awaitedCodes, legal, short, asked, stored}
 use Rattle.bus.specs.Calls.{Called, called, replyOf, refused, stateAfter, concluded, askedBefore, callOn, call}
 use Rattle.trace.specs.Records.{splitFrom, split}
 use Rattle.trace.specs.Play.{playEvents, playRecord, playFrom}
-use Rattle.trace.specs.Chip.{eventsOf, happened, compared, replay}
+use Rattle.trace.specs.Kinds.{eventsOf, happened, compared, replay}
 use Rattle.trace.specs.Run.{Ran, ran, stopOf, ranOf, runOn, run}
 use Rattle.picture.specs.Sizes.{frameRows, frameSize}
 use Rattle.picture.specs.Rows.{comOf, used, ramRowOf, panelShows, rowShows}
-use Rattle.picture.specs.Frame.{bit, columnOf, turned, bits, lighted, segment, line as Frame·line, frame, rowOf as Frame·rowOf}
+use Rattle.picture.specs.Frame.{bit, columnOf, turned, shownBit, whileOn, segment, line as Frame·line, frame, rowOf as Frame·rowOf}
 use Rattle.picture.specs.Draw.{drawOn, draw}
 use Rattle.listing.specs.Ascii.{ascii}
 use Rattle.listing.specs.Decimal.{digits, decimal}
@@ -611,7 +611,7 @@ EVENTS = ("largestValues asked short legal within awaitedCodes stored powerOn st
           "table offsetOf framePhasesOf commandBy operandBy commandOf operandOf meaningOf")
 CALLS = f"{EVENTS} numberOf byteOf dummyOf replyOf refused stateAfter concluded askedBefore callOn call"
 RUNS = f"{EVENTS} split splitFrom playFrom playRecord playEvents eventsOf happened compared replay ranOf runOn run"
-SEGMENTS = "comOf used ramRowOf panelShows rowShows bit columnOf turned bits lighted segment Frame·line"
+SEGMENTS = "comOf used ramRowOf panelShows rowShows bit columnOf turned shownBit whileOn segment Frame·line"
 DRAWINGS = "largestValues asked short legal within awaitedCodes drawOn draw"
 STOPS = "ascii digits decimal refusedText"
 LISTINGS = f"{STOPS} lit anyLit leading runsFrom Runs·runs runText runsText line rowOf lines frameText listingOf"

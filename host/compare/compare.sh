@@ -4,7 +4,7 @@
 #   compare.sh ORACLE [SEED [TIMES]] -- COMPARE...
 #
 # COMPARE... is the command that runs the compare program.  TIMES makes the
-# stream that many times longer; 1 has a million events and 20,000 frames.
+# stream that many times longer.
 set -euo pipefail
 
 oracle=$1
@@ -15,10 +15,7 @@ if [ "$1" != -- ]; then seed=$1; shift; fi
 if [ "$1" != -- ]; then times=$1; shift; fi
 shift
 
-cases=("$oracle" cases --seed "$seed"
-  --singles $((200000 * times)) --events $((1000000 * times))
-  --runs $((5000 * times)) --draws $((27000 * times))
-  --listings $((500 * times)))
+stream=(oracle/stream.sh "$oracle" "$seed" "$times")
 
-"${cases[@]}" | "$@" --shown-by "${cases[*]} | $oracle show" \
+"${stream[@]}" | "$@" --shown-by "${stream[*]} | $oracle show" \
   --at-least $((1200000 * times)) $((20000 * times))

@@ -1,10 +1,10 @@
 -- How a call ends: with what its event gives where state and memory are legal, and with a refusal where they are not.
 -- Assumes nothing.
-use mathlib.Core.Path.{_≡_, refl, sym, _∙_, ap}
+use mathlib.Core.Path.{_≡_, sym, _∙_, ap}
 use mathlib.Core.List.{List}
 use Prim.Native.Nat.{ℕ}
-use Rattle.bus.specs.Machine.{Event, Outcome, step}
-use Rattle.bus.specs.Calls.{Called, called, replyOf, stateAfter, refused, concluded, askedBefore, callOn, call}
+use Rattle.bus.specs.Chip.{Event, Outcome, step}
+use Rattle.bus.specs.Calls.{called, replyOf, stateAfter, refused, concluded, askedBefore, callOn, call}
 use Rattle.bus.specs.declared.registers.Registers.{Registers}
 use Rattle.bus.specs.declared.answer.Answer.{Answer}
 use Rattle.bus.specs.declared.answer.Answer.the-variants.{Refused}

@@ -1,140 +1,192 @@
--- Document 01, "Numbers given": a single event's call gives each number exactly when the table says so.
+-- Document 01, "Numbers given": a single event's call gives each number exactly when the table says so, with the byte and the dummy mark that it says.
 -- Assumes nothing.
-use mathlib.Core.Path.{_≡_, refl, sym, _∙_}
-use mathlib.Core.Bool.{Bool, true, false, cond, not, _&&_}
-use mathlib.Core.List.{List}
-use Prim.Native.Nat.{ℕ, _≤_, _<_}
+use mathlib.Core.Path.{_≡_, refl, sym, _∙_, ap, subst}
+use mathlib.Core.Bool.{Bool, true, false, cond, not, _&&_, false≢true}
+use mathlib.Core.Logic.{_↔_, ⊎-elim}
+use mathlib.Core.List.{List, [], _∷_}
+use Prim.Native.Nat.{ℕ, _<_}
 use native.Mathlib.Omega.{arith}
 use lib.Dec.{leb, eqb, lit<}
-use lib.ListN.{length}
-use borrow.Author.Tests.{le-ltb, lt-ltb, eqb-true}
-use Rattle.codes.specs.Table.{meaningOf}
+use lib.ListN.{length, getD}
+use borrow.Author.Tests.{le-ltb, lt-ltb, eqb-true, eqb-false, not-false}
+use Rattle.codes.specs.OneOf.{oneOf}
+use Rattle.codes.specs.Table.{Row, one, two, table, offsetOf, framePhasesOf, commandBy, commandOf, operandBy, operandOf, meaningOf}
 use Rattle.codes.specs.declared.Command.{Command}
-use Rattle.codes.specs.declared.Command.the-variants.{
-  ColumnLow,
-  ColumnHigh,
-  ResistorRatio,
-  PowerControl,
-  StartLine,
-  Contrast,
-  ColumnDirection,
-  Bias,
-  EntireOn,
-  Reverse,
-  Multiplex,
-  HeldByte,
-  QuarterBias,
-  IndicatorOff,
-  IndicatorMode,
-  DisplayOn,
-  Page,
-  NoPage,
-  RowDirection,
-  Offset,
-  FramePhases,
-  EnterReadModifyWrite,
-  SoftwareReset,
-  Nothing,
-  LeaveReadModifyWrite,
-  Await,
-  NotAllowed,
-  NotAwaited,
-  Outside,
-}
+use Rattle.codes.proofs.Tests.{chosen, either}
 use Rattle.bus.specs.Sizes.{lastColumn, pages, memorySize}
-use Rattle.bus.specs.Numbers.{taken, tooShort, outOfRange, outsideTable, noPage, notAllowed, codeAwaited, columnAbove}
+use Rattle.bus.specs.Numbers.{taken, tooShort, outOfRange}
 use Rattle.bus.specs.Registers.{largestValues, registersOf}
-use Rattle.bus.specs.Events.{numberOf, obeyed, command, access, write, dummyRead, byteRead, read, resetPin}
-use Rattle.bus.specs.Machine.{Event, commandByte, dataWritten, dataRead, resetPulse, step}
-use Rattle.bus.specs.Image.{short, legal, asked}
-use Rattle.bus.specs.Given.{numberOfCommand, numberOfEvent, numberGiven}
+use Rattle.bus.specs.Memory.{address, kept}
+use Rattle.bus.specs.Events.{numberOf, byteOf, dummyOf, access, dummyRead, byteRead, read}
+use Rattle.bus.specs.Chip.{Event, commandByte, dataWritten, dataRead, resetPulse, step}
+use Rattle.bus.specs.Image.{awaitedCodes, short, legal, asked}
+use Rattle.bus.specs.Given.{numberOfCommand, numberOfEvent, asksRanges, numberGiven, isRead, replyWith, replyGiven}
 use Rattle.bus.specs.Calls.{replyOf, concluded, refused, askedBefore, callOn, call}
 use Rattle.bus.specs.declared.registers.Registers.{Registers}
+use Rattle.bus.specs.declared.answer.After.{After}
 use Rattle.bus.specs.declared.answer.Answer.{Answer}
 use Rattle.bus.specs.declared.answer.Answer.the-variants.{Taken, Refused}
 use Rattle.bus.specs.declared.image.Asked.{Asked}
 use Rattle.bus.specs.declared.image.Asked.the-variants.{Found}
+use Rattle.bus.specs.declared.calls.Reply.{Reply}
 use Rattle.bus.proofs.Legal.{long}
 use Rattle.bus.proofs.Kept.{bound, state-facts}
+use Rattle.bus.proofs.Asking.{OneOrTwo, before-refusal}
+use Rattle.bus.proofs.Answers.{StandsFor, Silent, metBy, step-answers, step-silent, was-taken}
 
-obeyed-number : (named : Command) (r : Registers) → numberOf (obeyed named r) ≡ numberOfCommand named
-unfolding obeyed numberOf
-obeyed-number (ColumnLow value) r = refl
-obeyed-number (ColumnHigh value) r = refl
-obeyed-number (ResistorRatio value) r = refl
-obeyed-number (PowerControl value) r = refl
-obeyed-number (StartLine value) r = refl
-obeyed-number (Contrast value) r = refl
-obeyed-number (ColumnDirection value) r = refl
-obeyed-number (Bias value) r = refl
-obeyed-number (EntireOn value) r = refl
-obeyed-number (Reverse value) r = refl
-obeyed-number (Multiplex value) r = refl
-obeyed-number (HeldByte value) r = refl
-obeyed-number (QuarterBias value) r = refl
-obeyed-number IndicatorOff r = refl
-obeyed-number (IndicatorMode value) r = refl
-obeyed-number (DisplayOn value) r = refl
-obeyed-number (Page value) r = refl
-obeyed-number NoPage r = refl
-obeyed-number (RowDirection value) r = refl
-obeyed-number (Offset value) r = refl
-obeyed-number (FramePhases value) r = refl
-obeyed-number EnterReadModifyWrite r = refl
-obeyed-number SoftwareReset r = refl
-obeyed-number Nothing r = refl
-obeyed-number LeaveReadModifyWrite r = refl
-obeyed-number (Await value) r = refl
-obeyed-number NotAllowed r = refl
-obeyed-number NotAwaited r = refl
-obeyed-number Outside r = refl
-
--- an event that is taken where a number is 0 and else refused with it has that number
-guarded : (number : ℕ) (x : Answer) → numberOf x ≡ taken → numberOf (cond (eqb number taken) x (Refused number)) ≡ number
-unfolding numberOf
-guarded number x p = by (eqb number taken) refl
+-- the reply to an event by the number that it meets
+read-reply : (r : Registers) (memory : List ℕ) → replyOf (read r memory) ≡ replyWith (access r (length memory)) dataRead r memory
+unfolding read replyOf numberOf byteOf dummyOf
+read-reply r memory = by (access r (length memory)) (eqb (access r (length memory)) taken) (eqb (r .fresh) 1) refl
   where
-    by : (t : Bool) → eqb number taken ≡ t → numberOf (cond t x (Refused number)) ≡ number
-    by true e = p ∙ sym (eqb-true number taken e)
-    by false e = refl
+    byte : ℕ
+    byte = kept (r .page) (getD memory (address (r .page) (r .column)) 0)
 
--- where the memory is long enough and the page is one, a data event meets 6 or 7 or is taken
-access-number : (r : Registers) (size : ℕ) → memorySize ≤ size → r .page < pages → access r size ≡ cond (eqb (r .awaited) 0) (cond (leb (r .column) lastColumn) taken columnAbove) codeAwaited
-unfolding access
-access-number r size h p = rw (le-ltb size memorySize h, lt-ltb (r .page) pages p)
+    by : (number : ℕ) (t fresh : Bool) → eqb number taken ≡ t → replyOf (cond t (cond fresh (dummyRead r) (byteRead r memory)) (Refused number)) ≡ record { number = number; byte = cond (t && not fresh) byte 0; dummy = t && fresh }
+    by number true true e = rw (eqb-true number taken e)
+    by number true false e = rw (eqb-true number taken e)
+    by number false fresh e = refl
 
-event-number : (event : Event) (r : Registers) (memory : List ℕ) → memorySize ≤ length memory → r .page < pages → numberOf (step event r memory .answer) ≡ numberOfEvent event r
-unfolding step command write read resetPin numberOf
-event-number (commandByte b) r memory h p = obeyed-number (meaningOf (r .awaited) b) _
-event-number (dataWritten b) r memory h p = guarded (access r (length memory)) _ refl ∙ access-number r (length memory) h p
-event-number dataRead r memory h p = guarded (access r (length memory)) _ (by (eqb (r .fresh) 1)) ∙ access-number r (length memory) h p
+silent-reply : (number : ℕ) (answer : Answer) → StandsFor number answer → Silent answer → replyOf answer ≡ record { number = number; byte = 0; dummy = false }
+unfolding replyOf numberOf byteOf dummyOf
+silent-reply number (Taken after) n s = rw (n, s .0, s .1)
+silent-reply number (Refused refusal) n s = rw (n .0)
+
+step-reply : (event : Event) (r : Registers) (memory : List ℕ) → replyOf (step event r memory .answer) ≡ replyWith (metBy event r (length memory)) event r memory
+unfolding step
+step-reply (commandByte b) r memory = silent-reply _ _ (step-answers (commandByte b) r memory) (step-silent (commandByte b) r memory refl)
+step-reply (dataWritten b) r memory = silent-reply _ _ (step-answers (dataWritten b) r memory) (step-silent (dataWritten b) r memory refl)
+step-reply dataRead r memory = read-reply r memory
+step-reply resetPulse r memory = silent-reply _ _ (step-answers resetPulse r memory) (step-silent resetPulse r memory refl)
+
+-- a refusal
+refused-reply : (number : ℕ) (event : Event) (r : Registers) (memory : List ℕ) → eqb number taken ≡ false → replyOf (Refused number) ≡ replyWith number event r memory
+unfolding replyOf numberOf byteOf dummyOf
+refused-reply number event r memory e = by (isRead event)
   where
-    by : (t : Bool) → numberOf (cond t (dummyRead r) (byteRead r memory)) ≡ taken
-    by true = refl
+    by : (t : Bool) → replyOf (Refused number) ≡ record { number = number; byte = cond (t && eqb number taken && not (eqb (r .fresh) 1)) (kept (r .page) (getD memory (address (r .page) (r .column)) 0)) 0; dummy = t && eqb number taken && eqb (r .fresh) 1 }
+    by true = rw e
     by false = refl
-event-number resetPulse r memory h p = refl
 
--- the calls that are asked for the ranges
-ranged : (event : Event) (state memory : List ℕ) → callOn (asked state memory) event state memory .reply .number ≡ cond (short state memory) tooShort (cond (not (legal state)) outOfRange (numberOfEvent event (registersOf state)))
-unfolding asked callOn concluded refused replyOf numberOf largestValues
-ranged event state memory = by (short state memory) (legal state) refl refl
+ranged : (s t : Bool) (r : Registers) → cond s (Asked.Refused tooShort) (cond t (Found r) (Asked.Refused outOfRange)) ≡ cond s (Asked.Refused tooShort) (cond (not t) (Asked.Refused outOfRange) (Found r))
+ranged true t r = refl
+ranged false true r = refl
+ranged false false r = refl
+
+-- in a legal state, and with a memory that is long enough, a data event meets 6 or 7 or is taken
+access-number : (state memory : List ℕ) → short state memory ≡ false → not (legal state) ≡ false → access (registersOf state) (length memory) ≡ numberOfEvent dataRead (registersOf state)
+unfolding access largestValues
+access-number state memory p q =
+    let lengths = long state memory p in
+    let r = registersOf state in
+    let page : r .page < pages = omega (arith, bound r (state-facts state (lengths .0) (not-false (legal state) q)) 0 (lit< tt)) in
+    rw (le-ltb (length memory) memorySize (lengths .1), lt-ltb (r .page) pages page)
+
+-- what is asked before an event, as the table has it
+asked-table : (event : Event) (state memory : List ℕ) → askedBefore event state memory ≡ cond (short state memory) (Asked.Refused tooShort) (cond (asksRanges event && not (legal state)) (Asked.Refused outOfRange) (Found (registersOf state)))
+unfolding askedBefore asked
+asked-table (commandByte b) state memory = ranged (short state memory) (legal state) _
+asked-table (dataWritten b) state memory = ranged (short state memory) (legal state) _
+asked-table dataRead state memory = ranged (short state memory) (legal state) _
+asked-table resetPulse state memory = refl
+
+-- where it is not refused, an event meets what the table says
+met-number : (event : Event) (state memory : List ℕ) → short state memory ≡ false → asksRanges event && not (legal state) ≡ false → metBy event (registersOf state) (length memory) ≡ numberOfEvent event (registersOf state)
+met-number (commandByte b) state memory p q = refl
+met-number (dataWritten b) state memory p q = access-number state memory p q
+met-number dataRead state memory p q = access-number state memory p q
+met-number resetPulse state memory p q = refl
+
+-- the reply of a call is the one that the table gives
+pub reply-given : (event : Event) (state memory : List ℕ) → call event state memory .reply ≡ replyGiven event state memory
+unfolding call callOn concluded refused
+reply-given event state memory = rw (asked-table event state memory) (by (short state memory) (asksRanges event && not (legal state)) refl refl)
   where
-    by : (s t : Bool) → short state memory ≡ s → legal state ≡ t → callOn (cond s (Asked.Refused tooShort) (cond t (Found (registersOf state)) (Asked.Refused outOfRange))) event state memory .reply .number ≡ cond s tooShort (cond (not t) outOfRange (numberOfEvent event (registersOf state)))
-    by true t p q = refl
-    by false true p q =
-        let lengths = long state memory p in
-        let r = registersOf state in
-        event-number event r memory (lengths .1) (omega (arith, bound r (state-facts state (lengths .0) q) 0 (lit< tt)))
-    by false false p q = refl
+    by : (s t : Bool) → short state memory ≡ s → asksRanges event && not (legal state) ≡ t → callOn (cond s (Asked.Refused tooShort) (cond t (Asked.Refused outOfRange) (Found (registersOf state)))) event state memory .reply ≡ replyWith (cond s tooShort (cond t outOfRange (numberOfEvent event (registersOf state)))) event (registersOf state) memory
+    by true t p q = refused-reply tooShort event (registersOf state) memory refl
+    by false true p q = refused-reply outOfRange event (registersOf state) memory refl
+    by false false p q = step-reply event (registersOf state) memory ∙ ap (λ number. replyWith number event (registersOf state) memory) (met-number event state memory p q)
 
--- the number that a call replies is the number that the table gives
+-- so is its number
 pub number-given : (event : Event) (state memory : List ℕ) → call event state memory .reply .number ≡ numberGiven event state memory
-unfolding call askedBefore callOn concluded refused replyOf numberOf step resetPin
-number-given (commandByte b) state memory = ranged (commandByte b) state memory
-number-given (dataWritten b) state memory = ranged (dataWritten b) state memory
-number-given dataRead state memory = ranged dataRead state memory
-number-given resetPulse state memory = by (short state memory)
+number-given event state memory = ap (λ (reply : Reply). reply .number) (reply-given event state memory)
+
+-- what holds at each number of a list holds of one of them
+abbrev Each : (ℕ → Type 0) → List ℕ → Type 0
+Each P [] = Unit {0}
+Each P (m ∷ ms) = P m × Each P ms
+
+one-of-each : (P : ℕ → Type 0) (ms : List ℕ) (n : ℕ) → Each P ms → oneOf ms n ≡ true → P n
+one-of-each P [] n p e = absurd (false≢true e)
+one-of-each P (m ∷ ms) n p e = ⊎-elim (λ q. subst P (sym (eqb-true n m q)) (p .0)) (one-of-each P ms n (p .1)) (either (eqb n m) (oneOf ms n) e)
+
+abbrev NotTwo : Command → Type 0
+NotTwo named = eqb (numberOfCommand named) outOfRange ≡ false
+
+-- a code that may be awaited has its n
+operand-number : (code n : ℕ) → oneOf awaitedCodes code ≡ true → eqb code 0 ≡ false → NotTwo (operandOf code n)
+unfolding awaitedCodes operandOf operandBy table offsetOf framePhasesOf
+operand-number code n h none =
+    one-of-each (λ code. eqb code 0 ≡ false → NotTwo (operandOf code n)) awaitedCodes code
+    (λ z. absurd (false≢true (sym z)), (λ z. refl, (λ z. refl, (λ z. refl, (λ z. refl, (λ z. chosen NotTwo (leb n 0x3F) _ _ (λ e. refl) (λ e. refl), (λ z. chosen NotTwo (oneOf (0x00 ∷ 0x10 ∷ 0x20 ∷ 0x30 ∷ []) n) _ _ (λ e. refl) (λ e. refl), tt)))))))
+    h none
+
+-- no command of the table is refused with 2
+abbrev EachRow : List Row → Type 0
+EachRow [] = Unit {0}
+EachRow (one first last means ∷ rows) = ((b : ℕ) → NotTwo (means b)) × EachRow rows
+EachRow (two code gives ∷ rows) = EachRow rows
+
+command-by : (rows : List Row) (b : ℕ) → EachRow rows → NotTwo (commandBy rows b)
+unfolding commandBy
+command-by [] b s = refl
+command-by (one first last means ∷ rows) b s = chosen NotTwo (leb first b && leb b last) _ _ (λ e. s .0 b) (λ e. command-by rows b (s .1))
+command-by (two code gives ∷ rows) b s = chosen NotTwo (eqb b code) _ _ (λ e. refl) (λ e. command-by rows b s)
+
+command-number : (b : ℕ) → NotTwo (commandOf b)
+unfolding commandOf table
+command-number b = command-by table b (λ b. refl, (λ b. refl, (λ b. refl, (λ b. refl, (λ b. refl, (λ b. refl, (λ b. refl, (λ b. refl, (λ b. refl, (λ b. refl, (λ b. refl, (λ b. refl, (λ b. refl, (λ b. refl, (λ b. refl, (λ b. refl, (λ b. refl, (λ b. refl, (λ b. refl, (λ b. refl, tt))))))))))))))))))))
+
+-- where it is not refused with 1 or 2 before, no event meets 2
+data-not-two : (r : Registers) → eqb (numberOfEvent dataRead r) outOfRange ≡ false
+data-not-two r =
+    chosen (λ number. eqb number outOfRange ≡ false) (eqb (r .awaited) 0) _ _
+    (λ e. chosen (λ number. eqb number outOfRange ≡ false) (leb (r .column) lastColumn) _ _ (λ e. refl) (λ e. refl))
+    (λ e. refl)
+
+not-two : (event : Event) (state memory : List ℕ) → short state memory ≡ false → asksRanges event && not (legal state) ≡ false → eqb (numberOfEvent event (registersOf state)) outOfRange ≡ false
+unfolding meaningOf
+not-two (commandByte b) state memory p q =
+    let r = registersOf state in
+    let l = state-facts state (long state memory p .0) (not-false (legal state) q) in
+    chosen NotTwo (eqb (r .awaited) 0) _ _ (λ e. command-number b) (operand-number (r .awaited) b (l .code))
+not-two (dataWritten b) state memory p q = data-not-two (registersOf state)
+not-two dataRead state memory p q = data-not-two (registersOf state)
+not-two resetPulse state memory p q = refl
+
+-- 2 is given exactly when the image is out of its ranges, where 1 does not go first; it is not asked at the reset pin
+pub two-given : (event : Event) (state memory : List ℕ) → call event state memory .reply .number ≡ outOfRange ↔ (short state memory ≡ false) × (asksRanges event && not (legal state) ≡ true)
+two-given event state memory = rw (number-given event state memory) (by (short state memory) (asksRanges event && not (legal state)) refl refl)
   where
-    by : (s : Bool) → callOn (cond s (Asked.Refused tooShort) (Found (registersOf state))) resetPulse state memory .reply .number ≡ cond s tooShort taken
-    by true = refl
-    by false = refl
+    by : (s t : Bool) → short state memory ≡ s → asksRanges event && not (legal state) ≡ t → cond s tooShort (cond t outOfRange (numberOfEvent event (registersOf state))) ≡ outOfRange ↔ (s ≡ false) × (t ≡ true)
+    by true t p q = (λ e. absurd (omega (arith, e)), λ h. absurd (false≢true (sym (h .0))))
+    by false true p q = (λ e. (refl, refl), λ h. refl)
+    by false false p q = (λ e. absurd (eqb-false _ _ (not-two event state memory p q) e), λ h. absurd (false≢true (h .1)))
+
+-- an event is taken: what is asked before it finds registers, and its step from them is taken
+pub record IsTaken (event : Event) (state memory : List ℕ) : Type 0 where
+  pub registers : Registers
+  pub after : After
+  pub found : askedBefore event state memory ≡ Found registers
+  pub answer : step event registers memory .answer ≡ Taken after
+
+-- 0 is given exactly when the event is taken
+pub call-taken : (event : Event) (state memory : List ℕ) → call event state memory .reply .number ≡ taken ↔ IsTaken event state memory
+unfolding call callOn concluded refused replyOf numberOf
+call-taken event state memory = (λ e. on (askedBefore event state memory) refl e, λ t. rw (t .found, t .answer))
+  where
+    on : (asking : Asked) → askedBefore event state memory ≡ asking → callOn asking event state memory .reply .number ≡ taken → IsTaken event state memory
+    on (Found r) e n =
+        let t = was-taken _ (step event r memory .answer) (step-answers event r memory) n in
+        record { registers = r; after = t .after; found = e; answer = t .is }
+    on (Asked.Refused number) e n = absurd (omega (arith, n, subst OneOrTwo e (before-refusal event state memory) .0))

@@ -1,9 +1,9 @@
 -- A taken event leads from a legal state to a legal state.
 -- Assumes nothing.
-use mathlib.Core.Path.{_≡_, refl, sym, _∙_, ap}
-use mathlib.Core.Bool.{Bool, true, false, cond, _&&_, or-true, false≢true}
+use mathlib.Core.Path.{_≡_, refl, sym, _∙_, ap, subst}
+use mathlib.Core.Bool.{Bool, true, cond, _&&_, or-true, false≢true}
 use mathlib.Core.List.{List, [], _∷_, _++_}
-use Prim.Native.Nat.{ℕ, zero, suc, _+_, _*_, _/_, _%_, _≤_, _<_, suc-le-suc}
+use Prim.Native.Nat.{ℕ, zero, suc, _+_, _≤_, _<_}
 use native.Mathlib.Nat.{le-of-suc-le-suc, not-suc-le-zero}
 use native.Mathlib.Omega.{arith}
 use lib.Dec.{leb, eqb, lit≤}
@@ -46,21 +46,21 @@ use Rattle.codes.specs.declared.Command.the-variants.{
 }
 use Rattle.codes.proofs.Tests.{both, chosen, one-of-at-most}
 use Rattle.codes.proofs.InRange.{meaning-in-range}
-use Rattle.bus.specs.Sizes.{imageSize, memorySize}
-use Rattle.bus.specs.Numbers.{taken, tooShort, outOfRange}
+use Rattle.bus.specs.Sizes.{imageSize}
+use Rattle.bus.specs.Numbers.{taken}
 use Rattle.bus.specs.Places.{page, column, start, offset, multiplex, contrast, ratio, power, bias, quarter, held, phases, mirrored, rows, entire, reverse, on, indicator, mode, awaited, modify, saved, fresh}
 use Rattle.bus.specs.Registers.{largestValues, imageOf, registersOf, _with_≔_, powerOn}
 use Rattle.bus.specs.Memory.{onward}
-use Rattle.bus.specs.Events.{done, enter, leave, softwareReset, obeyed, command, access, moved, write, read, dummyRead, byteRead, resetPin}
-use Rattle.bus.specs.Machine.{Event, commandByte, dataWritten, dataRead, resetPulse, step}
-use Rattle.bus.specs.Image.{within, awaitedCodes, legal, short, asked}
-use Rattle.bus.specs.declared.image.Asked.{Asked}
+use Rattle.bus.specs.Events.{done, enter, leave, softwareReset, obeyed, command, access, moved, write, read, resetPin}
+use Rattle.bus.specs.Chip.{Event, commandByte, dataWritten, dataRead, resetPulse, step}
+use Rattle.bus.specs.Image.{within, awaitedCodes, legal, asked}
 use Rattle.bus.specs.declared.image.Asked.the-variants.{Found}
 use Rattle.bus.proofs.Legal.{long}
 use Rattle.bus.specs.declared.registers.Registers.{Registers}
 use Rattle.bus.specs.declared.answer.Answer.{Answer}
 use Rattle.bus.specs.declared.answer.Answer.the-variants.{Taken, Refused}
 use Rattle.bus.proofs.Access.{opened}
+use Rattle.bus.proofs.Asking.{found-legal}
 use Rattle.bus.proofs.ThereAndBack.{image-registers, image-with}
 
 -- the three parts of being legal, as facts of the registers
@@ -139,11 +139,7 @@ bound r l place h = within-at largestValues (imageOf r) place (l .inRanges) h
 
 -- a data write or read that is not taken is refused
 taken-keeps : (number : ℕ) (x : Answer) → (number ≡ taken → Keeps x) → Keeps (cond (eqb number taken) x (Refused number))
-taken-keeps number x p = by (eqb number taken) refl
-  where
-    by : (t : Bool) → eqb number taken ≡ t → Keeps (cond t x (Refused number))
-    by true e = p (eqb-true number taken e)
-    by false e = tt
+taken-keeps number x p = chosen Keeps (eqb number taken) x (Refused number) (λ e. p (eqb-true number taken e)) (λ e. tt)
 
 -- a register is set that bears on no other: its value is in its range, and code, read-modify-write and saved column stay
 set-plain : (r : Registers) (place value : ℕ) → LegalRegisters r → value ≤ getD largestValues place 0 → (r with place ≔ value) .awaited ≡ r .awaited → (r with place ≔ value) .modify ≡ r .modify → (r with place ≔ value) .saved ≡ r .saved → LegalRegisters (r with place ≔ value)
@@ -280,18 +276,8 @@ step-keeps (dataWritten b) r memory h l = write-keeps r (length memory) l
 step-keeps dataRead r memory h l = read-keeps r memory l
 step-keeps resetPulse r memory h l = power-on-legal
 
-found : (r s : Registers) → Found r ≡ Found s → r ≡ s
-found r s e = cc
-
-never : (r : Registers) (number : ℕ) → Asked.Refused number ≡ Found r → ⊥
-never r number e = let z : _≡_ {A = ℕ} 0 1 = cc in omega arith
-
 -- the registers that a lent state was found to hold are legal
 pub asked-legal : (state memory : List ℕ) (r : Registers) → asked state memory ≡ Found r → LegalRegisters r
-unfolding asked
-asked-legal state memory r = by (short state memory) (legal state) refl refl
-  where
-    by : (s t : Bool) → short state memory ≡ s → legal state ≡ t → cond s (Asked.Refused tooShort) (cond t (Found (registersOf state)) (Asked.Refused outOfRange)) ≡ Found r → LegalRegisters r
-    by true t p q e = absurd (never r _ e)
-    by false true p q e = rw (found (registersOf state) r e) at (state-facts state (long state memory p .0) q)
-    by false false p q e = absurd (never r _ e)
+asked-legal state memory r e =
+    let f = found-legal state memory e in
+    subst LegalRegisters (f .2) (state-facts state (long state memory (f .0) .0) (f .1))

@@ -2,10 +2,12 @@ pub mod Access
 pub mod Concluded
 pub mod Legal
 pub mod ThereAndBack
+pub mod Asking
 pub mod Kept
+pub mod Answers
 pub mod Untouched
 pub mod Settled
 pub mod Ranges
 pub mod Exactly
+pub mod Stored
 pub mod Waiting
-pub mod Silent

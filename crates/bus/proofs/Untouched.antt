@@ -1,24 +1,23 @@
--- What an event leaves alone: a write changes one byte and no other, and no call changes a byte past 23 of the state or past 1,188 of the memory.
+-- What an event leaves alone: a write changes one byte and no other, no call changes a byte past 23 of the state or past 1,188 of the memory, and a refused one changes nothing.
 -- Assumes nothing.
-use mathlib.Core.Path.{_≡_, refl, sym, _∙_, ap}
-use mathlib.Core.Bool.{Bool, true, false, cond}
-use mathlib.Core.List.{List, _++_}
+use mathlib.Core.Path.{_≡_, refl}
+use mathlib.Core.Logic.{_≢_}
+use mathlib.Core.List.{List}
 use Prim.Native.Nat.{ℕ}
 use native.Mathlib.Omega.{arith}
-use lib.Dec.{ltb, eqb, lit<}
+use lib.Dec.{ltb, eqb}
 use lib.ListN.{length, getD, drop, set, length-set}
 use lib.Seq.{drop-set-lt, getD-set-other}
-use borrow.Author.Tests.{eqb-true}
+use borrow.Author.Tests.{eq-eqb, eqb-true}
+use Rattle.codes.proofs.Tests.{chosen}
 use Rattle.bus.specs.Sizes.{imageSize, memorySize}
 use Rattle.bus.specs.Numbers.{taken}
-use Rattle.bus.specs.Registers.{imageOf, _with_≔_}
 use Rattle.bus.specs.Memory.{address, kept}
-use Rattle.bus.specs.Events.{silently, moved, access, write, written}
-use Rattle.bus.specs.Machine.{Event, Outcome, commandByte, dataWritten, dataRead, resetPulse, step}
+use Rattle.bus.specs.Events.{numberOf, access, write, written}
+use Rattle.bus.specs.Chip.{Event, commandByte, dataWritten, dataRead, resetPulse, step}
 use Rattle.bus.specs.Image.{stored}
-use Rattle.bus.specs.Calls.{Called, stateAfter, concluded, refused, askedBefore, callOn, call}
+use Rattle.bus.specs.Calls.{replyOf, stateAfter, concluded, refused, askedBefore, callOn, call}
 use Rattle.bus.specs.declared.registers.Registers.{Registers}
-use Rattle.bus.specs.Places.{fresh}
 use Rattle.bus.specs.declared.answer.After.{After}
 use Rattle.bus.specs.declared.answer.Answer.{Answer}
 use Rattle.bus.specs.declared.answer.Answer.the-variants.{Taken, Refused}
@@ -29,11 +28,7 @@ use Rattle.bus.proofs.Access.{address-inside}
 -- what holds of the memory with one byte set, and of the memory, holds after a write
 by-write : (P : List ℕ → Type 0) (b : ℕ) (r : Registers) (memory : List ℕ) → (access r (length memory) ≡ taken → P (set memory (address (r .page) (r .column)) (kept (r .page) b))) → P memory → P (written b r memory)
 unfolding written
-by-write P b r memory p q = by (eqb (access r (length memory)) taken) refl
-  where
-    by : (t : Bool) → eqb (access r (length memory)) taken ≡ t → P (cond t (set memory (address (r .page) (r .column)) (kept (r .page) b)) memory)
-    by true e = p (eqb-true (access r (length memory)) taken e)
-    by false e = q
+by-write P b r memory p q = chosen P (eqb (access r (length memory)) taken) _ _ (λ e. p (eqb-true (access r (length memory)) taken e)) (λ e. q)
 
 -- a write changes no byte but the one at page and column
 pub written-elsewhere : (b : ℕ) (r : Registers) (memory : List ℕ) (place : ℕ) → (place ≡ address (r .page) (r .column) → ⊥) → getD (written b r memory) place 0 ≡ getD memory place 0
@@ -43,14 +38,18 @@ written-elsewhere b r memory place h =
 pub written-length : (b : ℕ) (r : Registers) (memory : List ℕ) → length (written b r memory) ≡ length memory
 written-length b r memory = by-write (λ left. length left ≡ length memory) b r memory (λ e. length-set memory _ _) refl
 
+-- no event changes the memory's length
+pub step-length : (event : Event) (r : Registers) (memory : List ℕ) → length (step event r memory .memory) ≡ length memory
+unfolding step
+step-length (commandByte b) r memory = refl
+step-length (dataWritten b) r memory = written-length b r memory
+step-length dataRead r memory = refl
+step-length resetPulse r memory = refl
+
 -- the state past its image is left as it was
 pub state-past : (answer : Answer) (state : List ℕ) → drop imageSize (stateAfter answer state) ≡ drop imageSize state
 unfolding stateAfter stored
-state-past (Taken after) state = by (ltb (length state) imageSize)
-  where
-    by : (t : Bool) → drop imageSize (cond t state (imageOf (after .registers) ++ drop imageSize state)) ≡ drop imageSize state
-    by true = refl
-    by false = refl
+state-past (Taken after) state = chosen (λ later. drop imageSize later ≡ drop imageSize state) (ltb (length state) imageSize) _ _ (λ e. refl) (λ e. refl)
 state-past (Refused number) state = refl
 
 -- the memory past its 1,188 bytes is left as it was
@@ -80,10 +79,19 @@ taken-refused after number e = let z : _≡_ {A = ℕ} 0 1 = cc in omega arith
 pub refused-leaves : (event : Event) (r : Registers) (memory : List ℕ) (number : ℕ) → step event r memory .answer ≡ Refused number → step event r memory .memory ≡ memory
 unfolding step write written
 refused-leaves (commandByte b) r memory number e = refl
-refused-leaves (dataWritten b) r memory number e = by (eqb (access r (length memory)) taken) e
-  where
-    by : (t : Bool) → cond t (silently (moved r with fresh ≔ 1)) (Refused (access r (length memory))) ≡ Refused number → cond t (set memory (address (r .page) (r .column)) (kept (r .page) b)) memory ≡ memory
-    by true e = absurd (taken-refused _ number e)
-    by false e = refl
+refused-leaves (dataWritten b) r memory number e = by-write (λ left. left ≡ memory) b r memory (λ t. absurd (taken-refused _ number (rw (eq-eqb (access r (length memory)) taken t) at e))) refl
 refused-leaves dataRead r memory number e = refl
 refused-leaves resetPulse r memory number e = refl
+
+-- a call that gives another number than 0 leaves the lent state and memory as they were
+pub call-refused : (event : Event) (state memory : List ℕ) → call event state memory .reply .number ≢ taken → (call event state memory .state ≡ state) × (call event state memory .memory ≡ memory)
+unfolding call callOn concluded refused replyOf numberOf stateAfter
+call-refused event state memory = on (askedBefore event state memory)
+  where
+    after : (r : Registers) (answer : Answer) → step event r memory .answer ≡ answer → replyOf answer .number ≢ taken → (stateAfter answer state ≡ state) × (step event r memory .memory ≡ memory)
+    after r (Taken t) e n = absurd (n refl)
+    after r (Refused number) e n = (refl, refused-leaves event r memory number e)
+
+    on : (asking : Asked) → callOn asking event state memory .reply .number ≢ taken → (callOn asking event state memory .state ≡ state) × (callOn asking event state memory .memory ≡ memory)
+    on (Found r) n = after r (step event r memory .answer) refl n
+    on (Asked.Refused number) n = (refl, refl)

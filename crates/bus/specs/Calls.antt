@@ -1,11 +1,11 @@
 -- The event calls on a lent state and memory: the whole outcome as one function of what is lent.
 use Prim.Native.Nat.{ℕ}
-use mathlib.Core.Bool.{Bool, false, cond}
+use mathlib.Core.Bool.{cond}
 use mathlib.Core.List.{List}
 use Rattle.bus.specs.Numbers.{tooShort}
 use Rattle.bus.specs.Registers.{registersOf}
 use Rattle.bus.specs.Events.{numberOf, byteOf, dummyOf}
-use Rattle.bus.specs.Machine.{Event, commandByte, dataWritten, dataRead, resetPulse, Outcome, step}
+use Rattle.bus.specs.Chip.{Event, commandByte, dataWritten, dataRead, resetPulse, Outcome, step}
 use Rattle.bus.specs.Image.{short, asked, stored}
 use Rattle.bus.specs.declared.answer.Answer.{Answer}
 use Rattle.bus.specs.declared.answer.Answer.the-variants.{Taken, Refused}

@@ -43,7 +43,6 @@ use Rattle.bus.specs.Places.{page, column, start, offset, multiplex, con
 use Rattle.bus.specs.Registers.{_with_≔_, powerOn}
 use Rattle.bus.specs.Memory.{address, kept, onward}
 use Rattle.bus.specs.declared.registers.Registers.{Registers}
-use Rattle.bus.specs.declared.answer.After.{After}
 use Rattle.bus.specs.declared.answer.Answer.{Answer}
 use Rattle.bus.specs.declared.answer.Answer.the-variants.{Taken, Refused}
 
@@ -117,7 +116,7 @@ obeyed Outside r = Refused outsideTable
 unfoldable pub command : ℕ → Registers → Answer
 command b r = obeyed (meaningOf (r .awaited) b) (r with awaited ≔ 0)
 
--- What a data write or read meets, at a memory of so many bytes: 1 and, of the page, 2, which a call has asked before; then 6 while a code is awaited; then 7 with the column above 131.
+-- What a data write or read meets, at a memory of so many bytes: 6 while a code is awaited, then 7 with the column above 131. The first and the last case are for registers and memory that no call has asked (DECISIONS 21): 1 for a memory that is too short, 2 for a page that is none.
 unfoldable pub access : Registers → ℕ → ℕ
 access r size =
     cond (ltb size memorySize) tooShort

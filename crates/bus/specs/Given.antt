@@ -1,8 +1,9 @@
--- Document 01, "Numbers given", as a table for a single event's call: which number it gives. Exactly.antt proves that the calls give these.
+-- Document 01, "Numbers given", as a table for a single event's call: which number it gives, and with what byte and dummy mark. Exactly.antt proves that the calls give these.
 use Prim.Native.Nat.{ℕ}
 use mathlib.Core.Bool.{Bool, true, false, cond, not, _&&_}
 use mathlib.Core.List.{List}
 use lib.Dec.{leb, eqb}
+use lib.ListN.{getD}
 use Rattle.codes.specs.Table.{meaningOf}
 use Rattle.codes.specs.declared.Command.{Command}
 use Rattle.codes.specs.declared.Command.the-variants.{
@@ -39,9 +40,11 @@ use Rattle.codes.specs.declared.Command.the-variants.{
 use Rattle.bus.specs.Sizes.{lastColumn}
 use Rattle.bus.specs.Numbers.{taken, tooShort, outOfRange, outsideTable, noPage, notAllowed, codeAwaited, columnAbove}
 use Rattle.bus.specs.Registers.{registersOf}
-use Rattle.bus.specs.Machine.{Event, commandByte, dataWritten, dataRead, resetPulse}
+use Rattle.bus.specs.Memory.{address, kept}
+use Rattle.bus.specs.Chip.{Event, commandByte, dataWritten, dataRead, resetPulse}
 use Rattle.bus.specs.Image.{short, legal}
 use Rattle.bus.specs.declared.registers.Registers.{Registers}
+use Rattle.bus.specs.declared.calls.Reply.{Reply}
 
 -- 3 for a byte outside the table, 4 for B9-BF, 5 for an n that is not allowed
 abbrev pub numberOfCommand : Command → ℕ
@@ -93,3 +96,25 @@ asksRanges resetPulse = false
 abbrev pub numberGiven : Event → List ℕ → List ℕ → ℕ
 numberGiven event state memory =
     cond (short state memory) tooShort (cond (asksRanges event && not (legal state)) outOfRange (numberOfEvent event (registersOf state)))
+
+-- a data byte read
+abbrev pub isRead : Event → Bool
+isRead (commandByte b) = false
+isRead (dataWritten b) = false
+isRead dataRead = true
+isRead resetPulse = false
+
+-- the reply with a number: a refusal, and each taken event but a read, answers byte 0 and not "dummy"; a taken read answers "dummy" and byte 0 where fresh is 1, and else the byte
+abbrev pub replyWith : ℕ → Event → Registers → List ℕ → Reply
+replyWith number event r memory =
+    let readTaken = isRead event && eqb number taken in
+    let dummyRead = eqb (r .fresh) 1 in
+    record {
+      number = number;
+      byte = cond (readTaken && not dummyRead) (kept (r .page) (getD memory (address (r .page) (r .column)) 0)) 0;
+      dummy = readTaken && dummyRead;
+    }
+
+-- the whole reply
+abbrev pub replyGiven : Event → List ℕ → List ℕ → Reply
+replyGiven event state memory = replyWith (numberGiven event state memory) event (registersOf state) memory

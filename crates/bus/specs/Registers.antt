@@ -1,8 +1,8 @@
 -- Document 01, "Registers": the image, the ranges, power-on, and what it is to set one register.
 use Prim.Native.Nat.{ℕ}
-use mathlib.Core.Bool.{Bool, true, false, cond, _&&_}
+use mathlib.Core.Bool.{cond, _&&_}
 use mathlib.Core.List.{List, [], _∷_, map}
-use lib.Dec.{leb, eqb}
+use lib.Dec.{eqb}
 use lib.ListN.{getD, set}
 use Rattle.bus.specs.Places.{page, column, start, offset, multiplex, contrast, ratio, power, bias, quarter, held, phases, mirrored, rows, entire, reverse, on, indicator, mode, awaited, modify, saved, fresh}
 use Rattle.bus.specs.declared.registers.Registers.{Registers}
@@ -78,7 +78,7 @@ pub record Range : Type 0 where
   pub atPowerOn : ℕ
 
 abbrev pub range : ℕ → ℕ → ℕ → Range
-range register most first = record { place = register; largest = most; atPowerOn = first }
+range register most start = record { place = register; largest = most; atPowerOn = start }
 
 -- The ranges in the image's order; Image.antt has what more is asked of the awaited code and the saved column.
 unfoldable pub ranges : List Range

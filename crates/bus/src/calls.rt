@@ -1,6 +1,6 @@
-// The event calls, lent the state image and the display memory; a command byte's is `trace::command`.
+// The event calls, lent the state image and the display memory; a command byte's is `trace::command::command` (DECISIONS 58).
 ghost use mathlib.Core.Path.{_≡_};
-ghost use Rattle.bus.specs.Machine.{dataWritten, dataRead, resetPulse};
+ghost use Rattle.bus.specs.Chip.{dataWritten, dataRead, resetPulse};
 ghost use Rattle.bus.specs.Calls.{called, replyOf, stateAfter, call};
 use crate::answer::Answer;
 use crate::image::Asked;
@@ -44,6 +44,7 @@ pub fn reset_pin(state: &mut [u8], memory: &[u8]) -> Reply
     if short(state, memory) {
         return refuse(TOO_SHORT);
     }
+    // Any registers do: an image out of its ranges is not loaded.
     let registers = Registers::power_on();
     conclude(registers.reset_pin(), state)
 }

@@ -40,6 +40,7 @@ impl Registers {
     {
         let number = self.access(memory.len());
         if number == TAKEN {
+            // The last return alone moves the column on.
             let column = onward(self.column);
             let moved = self.with_column(column);
             if self.fresh == 1 {

@@ -1,9 +1,9 @@
 -- What a command carries is in its range: each row of the table sees to it.
 -- Assumes nothing.
-use mathlib.Core.Path.{_≡_, refl, subst⁻¹, ap}
-use mathlib.Core.Bool.{Bool, true, false, cond, _&&_}
+use mathlib.Core.Path.{_≡_, refl}
+use mathlib.Core.Bool.{true, _&&_}
 use mathlib.Core.List.{List, [], _∷_}
-use Prim.Native.Nat.{ℕ, _≤_, _<_, _%_}
+use Prim.Native.Nat.{ℕ, _≤_, _<_}
 use native.Mathlib.Omega.{arith}
 use lib.Dec.{leb, eqb}
 use borrow.Author.Tests.{leb-true, eqb-true}
@@ -11,7 +11,6 @@ use Rattle.codes.proofs.Tests.{both, chosen, one-of-at-most}
 use Rattle.codes.specs.Table.{Row, one, two, table, commandBy, commandOf, operandBy, operandOf, meaningOf, offsetOf, framePhasesOf}
 use Rattle.codes.specs.OneOf.{oneOf}
 use Rattle.codes.specs.Values.{codesOf, CommandInRange}
-use Rattle.codes.specs.declared.Command.{Command}
 
 -- each row of one byte carries what it should, and each code of two is among the codes
 abbrev Sound : List Row → Type 0

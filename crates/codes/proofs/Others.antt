@@ -1,12 +1,10 @@
 -- The bytes outside the table are exactly those that document 01 lists: 30-3F, 80, 82-9F, D0-D2, D5-DF, E1, E4-ED, EF, F0-FF.
 -- Assumes nothing.
 use mathlib.Core.Path.{_≡_, refl}
-use mathlib.Core.Bool.{Bool, true, false, Bool·beq, _&&_, _||_, false≢true}
-use mathlib.Core.List.{List, [], _∷_}
-use Prim.Native.Nat.{ℕ, zero, suc, _<_, _≤_}
+use mathlib.Core.Bool.{Bool, true, false, Bool·beq, _&&_, false≢true}
+use Prim.Native.Nat.{ℕ, zero, suc, _<_}
 use native.Mathlib.Nat.{not-suc-le-zero, le-of-suc-le-suc, eq-or-lt-of-le}
 use mathlib.Core.Logic.{⊎-elim}
-use lib.Dec.{leb}
 use Rattle.codes.proofs.Tests.{both}
 use Rattle.codes.specs.Others.{others, among, isOutside}
 use Rattle.codes.specs.Table.{table, commandBy, commandOf}

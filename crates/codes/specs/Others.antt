@@ -36,7 +36,7 @@ use Rattle.codes.specs.declared.Command.the-variants.{
   Outside,
 }
 
--- document 01's list of all others, from each first to each last
+-- from each first byte to each last
 abbrev pub others : List (ℕ × ℕ)
 others =
     (0x30, 0x3F) ∷ (0x80, 0x80) ∷ (0x82, 0x9F) ∷ (0xD0, 0xD2) ∷ (0xD5, 0xDF) ∷ (0xE1, 0xE1) ∷ (0xE4, 0xED) ∷ (0xEF, 0xEF) ∷ (0xF0, 0xFF) ∷ []

@@ -1,6 +1,6 @@
 // The four events.
 ghost use mathlib.Core.Path.{_≡_};
-ghost use Rattle.bus.specs.Machine.{commandByte, dataWritten, dataRead, resetPulse};
+ghost use Rattle.bus.specs.Chip.{commandByte, dataWritten, dataRead, resetPulse};
 ghost use Rattle.bus.specs.Calls.{call};
 ghost use Rattle.host.specs.Events.{flag, heldState, heldBoth, heldRead, ofState, ofBoth, ofRead};
 

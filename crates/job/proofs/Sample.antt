@@ -10,15 +10,15 @@ use Rattle.bus.specs.Places.{column, on}
 use Rattle.bus.specs.Registers.{largestValues, powerOn, imageOf, _with_≔_}
 use Rattle.bus.specs.Memory.{kept, onward}
 use Rattle.bus.specs.Events.{command, obeyed, access, write, written}
-use Rattle.bus.specs.Machine.{step}
+use Rattle.bus.specs.Chip.{step}
 use Rattle.bus.specs.Image.{within, awaitedCodes, legal, short, asked, stored}
 use Rattle.trace.specs.Records.{splitFrom, split}
 use Rattle.trace.specs.Play.{playEvents, playRecord, playFrom}
-use Rattle.trace.specs.Chip.{eventsOf, happened, replay}
+use Rattle.trace.specs.Kinds.{eventsOf, happened, replay}
 use Rattle.trace.specs.Run.{Ran, ran, stopOf, ranOf, runOn, run}
 use Rattle.picture.specs.Sizes.{frameSize}
 use Rattle.picture.specs.Rows.{comOf, used, ramRowOf, panelShows, rowShows}
-use Rattle.picture.specs.Frame.{bit, columnOf, turned, bits, lighted, segment, line as Frame·line, grid, frame}
+use Rattle.picture.specs.Frame.{bit, columnOf, turned, shownBit, whileOn, segment, line as Frame·line, grid, frame}
 use Rattle.picture.specs.Draw.{drawOn, draw}
 use Rattle.listing.specs.Ascii.{ascii}
 use Rattle.listing.specs.Decimal.{digits, decimal}
@@ -38,7 +38,7 @@ unfolding powerOn largestValues run runOn ranOf asked short legal within awaited
 runs-so = refl
 
 draws-so : frameAfter ownRan ≡ ownFrame
-unfolding powerOn largestValues asked short legal within awaitedCodes comOf used ramRowOf panelShows rowShows bit columnOf turned bits lighted segment Frame·line grid frame drawOn draw frameAfter
+unfolding powerOn largestValues asked short legal within awaitedCodes comOf used ramRowOf panelShows rowShows bit columnOf turned shownBit whileOn segment Frame·line grid frame drawOn draw frameAfter
 draws-so = refl
 
 lists-so : listingOf 0 11 ownFrame ≡ ownText

@@ -13,16 +13,16 @@ use Rattle.bus.specs.Sizes.{width, memorySize}
 use Rattle.bus.specs.Registers.{largestValues, powerOn, registersOf}
 use Rattle.bus.specs.Memory.{kept, onward}
 use Rattle.bus.specs.Events.{numberOf, byteOf, dummyOf, obeyed, command, access, write, written, read, resetPin}
-use Rattle.bus.specs.Machine.{Event, commandByte, dataWritten, dataRead, resetPulse, step}
+use Rattle.bus.specs.Chip.{Event, commandByte, dataWritten, dataRead, resetPulse, step}
 use Rattle.bus.specs.Image.{within, awaitedCodes, legal, short, asked, stored}
 use Rattle.bus.specs.Calls.{Called, called, replyOf, refused, stateAfter, concluded, askedBefore, callOn, call}
 use Rattle.trace.specs.Records.{splitFrom, split}
 use Rattle.trace.specs.Play.{playEvents, playRecord, playFrom}
-use Rattle.trace.specs.Chip.{eventsOf, happened, compared, replay}
+use Rattle.trace.specs.Kinds.{eventsOf, happened, compared, replay}
 use Rattle.trace.specs.Run.{Ran, ran, stopOf, ranOf, runOn, run}
 use Rattle.picture.specs.Sizes.{frameRows, frameSize}
 use Rattle.picture.specs.Rows.{comOf, used, ramRowOf, panelShows, rowShows}
-use Rattle.picture.specs.Frame.{bit, columnOf, turned, bits, lighted, segment, line as Frame·line, frame, rowOf as Frame·rowOf}
+use Rattle.picture.specs.Frame.{bit, columnOf, turned, shownBit, whileOn, segment, line as Frame·line, frame, rowOf as Frame·rowOf}
 use Rattle.picture.specs.Draw.{drawOn, draw}
 use Rattle.listing.specs.Ascii.{ascii}
 use Rattle.listing.specs.Decimal.{digits, decimal}
@@ -1073,7 +1073,7 @@ rowsCases =
     []
 
 rows-shown : map (λ d. rowShown (d .at) (registersOf (d .state)) busy) rowsCases ≡ map (λ d. d .outcome) rowsCases
-unfolding comOf used ramRowOf panelShows rowShows bit columnOf turned bits lighted segment Frame·line
+unfolding comOf used ramRowOf panelShows rowShows bit columnOf turned shownBit whileOn segment Frame·line
 rows-shown = refl
 
 rows : Rows rowsCases
@@ -1143,7 +1143,7 @@ columnsCases =
     []
 
 columns-shown : map (λ d. downShown (d .at) (registersOf (d .state)) busy) columnsCases ≡ map (λ d. d .outcome) columnsCases
-unfolding comOf used ramRowOf panelShows rowShows bit columnOf turned bits lighted segment Frame·line
+unfolding comOf used ramRowOf panelShows rowShows bit columnOf turned shownBit whileOn segment Frame·line
 columns-shown = refl
 
 columns : Columns columnsCases

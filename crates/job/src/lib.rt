@@ -16,12 +16,12 @@ pub fn list_input(input: &[u8], text: &mut [u8]) -> usize
     ensures { λ r. ⌜ printed r (now (text .exit)) ≡ printedOf (textFor (now (input .entry))) (now (text .entry)) ⌝ }
 {
     if LONGEST_TRACE < input.len() {
-        return put_line(b"input too long\n", text);
+        return put_notice(b"input too long\n", text);
     }
     list_trace(input, text)
 }
 
-// The same with the listing of a trace of any length: what it leaves on the glass, from power-on with zero memory.
+// Lists what a trace of any length leaves on the glass, from power-on with zero memory; answers the text's length, 0 where the buffer is too short for some listing.
 fn list_trace(trace: &[u8], text: &mut [u8]) -> usize
     ensures { λ r. ⌜ printed r (now (text .exit)) ≡ printedOf (listingOfTrace (now (trace .entry))) (now (text .entry)) ⌝ }
 {
@@ -39,8 +39,8 @@ fn list_trace(trace: &[u8], text: &mut [u8]) -> usize
     }
 }
 
-// The same with a line.
-fn put_line(line: &[u8], text: &mut [u8]) -> usize
+// Puts a line into such a buffer, and answers its length.
+fn put_notice(line: &[u8], text: &mut [u8]) -> usize
     requires { ⌜ length (now line) ≤ longestListing ⌝ }
     ensures { λ r. ⌜ printed r (now (text .exit)) ≡ printedOf (now (line .entry)) (now (text .entry)) ⌝ }
 {

@@ -25,6 +25,11 @@ pub fn list(number: u8, offset: usize, frame: &[u8], text: &mut [u8]) -> Listed
     if frame.len() < 8580 {
         return Listed::Refused(TOO_SHORT);
     }
+    // A buffer that holds any listing is written at once; another is measured first.
+    if LONGEST_LISTING <= text.len() {
+        let written = put_listing(text, number, offset, frame);
+        return Listed::Written(written);
+    }
     let length = put_listing(&mut text[..0], number, offset, frame);
     if text.len() < length {
         return Listed::Refused(TOO_SHORT);

@@ -7,7 +7,6 @@ use native.Mathlib.Nat.{add-mod-mod}
 use lib.ListN.{getD, take, drop}
 use lib.Seq.{getD-take, getD-drop}
 use Rattle.bus.specs.Sizes.{width}
-use Rattle.bus.specs.Memory.{address}
 use Rattle.picture.specs.Frame.{bit, turned}
 use Rattle.picture.specs.declared.rows.RamRow.{RamRow}
 

@@ -19,13 +19,13 @@ use Rattle.codes.specs.Table.{table, commandBy, commandOf, meaningOf}
 use Rattle.bus.specs.Registers.{largestValues, powerOn}
 use Rattle.bus.specs.Memory.{address}
 use Rattle.bus.specs.Events.{obeyed, command}
-use Rattle.bus.specs.Machine.{commandByte, step, registersAfter, chipAfter}
+use Rattle.bus.specs.Chip.{commandByte, step, registersAfter, chipAfter}
 use Rattle.bus.specs.Image.{within, awaitedCodes, legal}
 use Rattle.bus.specs.declared.registers.Registers.{Registers}
 use Rattle.picture.specs.Sizes.{height, frameRows}
 use Rattle.picture.specs.Rows.{ramRow}
-use Rattle.picture.specs.Frame.{bit, columnOf, turned, bits, line, frame, rowOf, placeOf}
-use Rattle.picture.specs.Samples.{after, run}
+use Rattle.picture.specs.Frame.{bit, columnOf, turned, shownBit, line, frame, rowOf, placeOf}
+use Rattle.picture.specs.Samples.{after, fromPowerOn}
 use Rattle.picture.specs.Demand3.{Full, flipped, ShowsAt, OnePlace, SomeBit, raised, Scrolls, Content, scroll, Agree, Demand3}
 use Rattle.picture.specs.declared.rows.RamRow.{RamRow}
 use Rattle.picture.proofs.Lines.{line-same, grid-same}
@@ -105,7 +105,7 @@ module _ (r : Registers) (b : Bounds r) where
       }
 
 -- a row of the frame is the bits of its RAM row
-row-bits : (r : Registers) → Bounds r → (memory : List ℕ) (y : ℕ) → y < frameRows → rowOf y (frame r memory) ≡ line width (bits width r memory (ramRow (ramOf r y)))
+row-bits : (r : Registers) → Bounds r → (memory : List ℕ) (y : ℕ) → y < frameRows → rowOf y (frame r memory) ≡ line width (shownBit width r memory (ramRow (ramOf r y)))
 row-bits r b memory y l = frame-row r memory y l ∙ rw (row-shows r b y l) (line-same width _ _ (λ x k. bits-show r memory (ramRow (ramOf r y)) x (b .on) (b .entire)))
 
 raised-bounds : (n : ℕ) (r : Registers) → Bounds r → Bounds (raised n r)
@@ -123,8 +123,8 @@ raised-bounds n r b = record {
 
 -- rows that show the same RAM row before and after
 moved : (n : ℕ) (r : Registers) → Bounds r → (memory : List ℕ) (y y′ : ℕ) → y < frameRows → y′ < frameRows → ramOf (raised n r) y ≡ ramOf r y′ → rowOf y (frame (raised n r) memory) ≡ rowOf y′ (frame r memory)
-unfolding bits columnOf raised
-moved n r b memory y y′ l l′ e = row-bits (raised n r) (raised-bounds n r b) memory y l ∙ ap (λ row. line width (bits width r memory (ramRow row))) e ∙ sym (row-bits r b memory y′ l′)
+unfolding shownBit columnOf raised
+moved n r b memory y y′ l l′ e = row-bits (raised n r) (raised-bounds n r b) memory y l ∙ ap (λ row. line width (shownBit width r memory (ramRow row))) e ∙ sym (row-bits r b memory y′ l′)
 
 scrolled : (r : Registers) → Bounds r → (n : ℕ) (memory : List ℕ) → Scrolls r n memory
 unfolding raised scroll
@@ -136,7 +136,7 @@ scrolled r b n memory = record {
 
 -- settings that agree draw the same, from any memory
 agreeing : (r s : Registers) → Bounds r → Bounds s → Agree r s → (memory : List ℕ) → frame r memory ≡ frame s memory
-unfolding frame bits columnOf
+unfolding frame shownBit columnOf
 agreeing r s b d agree memory =
     grid-same width frameRows _ _ (λ y x l k.
     rw (row-shows r b y l, row-shows s d y l)
@@ -240,7 +240,7 @@ module _ (r s : Registers) (b : Bounds r) (d : Bounds s) (same : (memory : List 
       }
 
 -- the demand is not empty: after AF from power-on the chip is set so
-pub full-once-on : Full (run (commandByte 0xAF ∷ []) .registers)
+pub full-once-on : Full (fromPowerOn (commandByte 0xAF ∷ []) .registers)
 unfolding largestValues powerOn within awaitedCodes legal table commandBy commandOf obeyed command step registersAfter chipAfter after meaningOf
 full-once-on = record { inRange = refl; allRows = refl; on = refl; notLit = refl }
 

@@ -16,10 +16,10 @@ use Rattle.bus.proofs.Kept.{legal-facts, bound}
 use Rattle.bus.specs.declared.registers.Registers.{Registers}
 use Rattle.picture.specs.Sizes.{height, frameRows}
 use Rattle.picture.specs.Rows.{panelRow, ramRow, rowsInUse, comOf, used, ramRowOf, panelShows, rowShows}
-use Rattle.picture.specs.Frame.{bit, columnOf, turned, bits, frame, placeOf}
+use Rattle.picture.specs.Frame.{bit, columnOf, turned, shownBit, frame, placeOf}
 use Rattle.picture.specs.Demand3.{Full, scroll}
 use Rattle.picture.specs.declared.rows.Shown.the-variants.{Ram}
-use Rattle.picture.proofs.RowRule.{of-both}
+use Rattle.codes.proofs.Tests.{chosen}
 use Rattle.picture.proofs.Turns.{turnOf, backOf, turn-below, back-below, turn-back, back-turn, rule}
 use Rattle.picture.proofs.Places.{frame-place, bits-show}
 
@@ -51,14 +51,14 @@ bounds r full =
 
 pub scroll-below : (r : Registers) → scroll r < height
 unfolding scroll
-scroll-below r = of-both (λ c. c < height) (eqb (r .rows) 0) (mod-lt _ (omega arith)) (mod-lt _ (omega arith))
+scroll-below r = chosen (λ c. c < height) (eqb (r .rows) 0) _ _ (λ e. mod-lt _ (omega arith)) (λ e. mod-lt _ (omega arith))
 
 -- a turn of the panel rows that leaves the icon line
 abbrev pub leavingIcons : (ℕ → ℕ) → ℕ → ℕ
 leavingIcons turn y = cond (ltb y height) (turn y) height
 
 leaving-below : (turn : ℕ → ℕ) → ((n : ℕ) → turn n < height) → (y : ℕ) → leavingIcons turn y < frameRows
-leaving-below turn below y = of-both (λ n. n < frameRows) (ltb y height) (omega (arith, below y)) (omega arith)
+leaving-below turn below y = chosen (λ n. n < frameRows) (ltb y height) _ _ (λ e. omega (arith, below y)) (λ e. omega arith)
 
 leaving-back : (turn back : ℕ → ℕ) → ((n : ℕ) → back n < height) → ((n : ℕ) → n < height → turn (back n) ≡ n) → (n : ℕ) → n < frameRows → leavingIcons turn (leavingIcons back n) ≡ n
 leaving-back turn back below undone n l = either (decLt n height)
@@ -89,7 +89,7 @@ row-of-ram r y l = leaving-back (backOf height (eqb (r .rows) 0) (scroll r)) (tu
 -- a segment's column is one of the w, and its own column's segment
 pub column-below : (w : ℕ) (r : Registers) (x : ℕ) → x < w → columnOf w r x < w
 unfolding columnOf
-column-below w r x l = of-both (λ c. c < w) (eqb (r .mirrored) 0) l (omega arith)
+column-below w r x l = chosen (λ c. c < w) (eqb (r .mirrored) 0) _ _ (λ e. l) (λ e. omega arith)
 
 pub column-twice : (w : ℕ) (r : Registers) (x : ℕ) → x < w → columnOf w r (columnOf w r x) ≡ x
 unfolding columnOf
@@ -121,5 +121,5 @@ module _ (r : Registers) (b : Bounds r) where
 
   -- what stands at a place
   pub place-shows : (memory : List ℕ) (y x : ℕ) → y < frameRows → x < width → placeOf y x (frame r memory) ≡ turned (r .reverse) (bit memory (ramRow (ramOf r y)) (columnOf width r x))
-  unfolding bits
+  unfolding shownBit
   place-shows memory y x l k = frame-place r memory y x l k ∙ rw (row-shows y l) (bits-show r memory (ramRow (ramOf r y)) x (b .on) (b .entire))

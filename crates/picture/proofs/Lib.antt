@@ -8,5 +8,5 @@ pub mod Turns
 pub mod Full
 pub mod Flip
 pub mod Bits
-pub mod Asking
+pub mod Ignored
 pub mod Lit

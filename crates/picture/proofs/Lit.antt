@@ -10,7 +10,7 @@ use lib.Dec.{ltb}
 use Rattle.bus.specs.declared.registers.Registers.{Registers}
 use Rattle.picture.specs.Sizes.{height}
 use Rattle.picture.specs.Rows.{ramRow, comOf, used, ramRowOf, panelShows, rowShows}
-use Rattle.picture.specs.Frame.{lighted}
+use Rattle.picture.specs.Frame.{whileOn}
 use Rattle.picture.specs.declared.rows.PanelRow.{PanelRow}
 use Rattle.picture.specs.declared.rows.Shown.the-variants.{Dark, Ram}
 
@@ -18,10 +18,10 @@ all-used : (r : Registers) (row : PanelRow) → r .multiplex ≡ 63 → used r (
 unfolding used comOf
 all-used r row all = lt-ltb ((row .0 + r .offset) % height) (r .multiplex + 1) (omega arith)
 
-pub all-lit : (w : ℕ) (r : Registers) (memory : List ℕ) (row : PanelRow) (x : ℕ) → r .multiplex ≡ 63 → r .entire ≡ 1 → lighted w r memory (rowShows height r row) x ≡ 1
-unfolding lighted panelShows rowShows
+pub all-lit : (w : ℕ) (r : Registers) (memory : List ℕ) (row : PanelRow) (x : ℕ) → r .multiplex ≡ 63 → r .entire ≡ 1 → whileOn w r memory (rowShows height r row) x ≡ 1
+unfolding whileOn panelShows rowShows
 all-lit w r memory row x all entire = by (ltb (row .0) height)
   where
-    by : (t : Bool) → lighted w r memory (cond t (cond (used r (comOf height r row)) (Ram (ramRowOf height r (comOf height r row))) Dark) (Ram (ramRow height))) x ≡ 1
+    by : (t : Bool) → whileOn w r memory (cond t (cond (used r (comOf height r row)) (Ram (ramRowOf height r (comOf height r row))) Dark) (Ram (ramRow height))) x ≡ 1
     by true = rw (all-used r row all, eq-eqb _ _ entire)
     by false = rw (eq-eqb _ _ entire)

@@ -10,7 +10,7 @@ use Rattle.bus.specs.Sizes.{width}
 use Rattle.bus.specs.declared.registers.Registers.{Registers}
 use Rattle.picture.specs.Sizes.{height, frameRows, frameSize}
 use Rattle.picture.specs.Rows.{panelRow, ramRow, rowShows}
-use Rattle.picture.specs.Frame.{bit, columnOf, turned, bits, lighted, segment, line, frame, rowOf, placeOf}
+use Rattle.picture.specs.Frame.{bit, columnOf, turned, shownBit, whileOn, segment, line, frame, rowOf, placeOf}
 use Rattle.picture.specs.declared.rows.RamRow.{RamRow}
 use Rattle.picture.specs.declared.rows.Shown.the-variants.{Ram}
 use Rattle.picture.proofs.Lines.{line-same, line-at, grid-length, grid-row, grid-same, grid-alike}
@@ -32,13 +32,13 @@ frame-place r memory y x l k =
     line-at width (segment width r memory (rowShows height r (panelRow y))) x k
 
 -- where the display is on and not forced all-lit, a RAM row shows its bits
-pub bits-show : (r : Registers) (memory : List ℕ) (row : RamRow) (x : ℕ) → r .on ≡ 1 → r .entire ≡ 0 → segment width r memory (Ram row) x ≡ bits width r memory row x
-unfolding segment lighted
+pub bits-show : (r : Registers) (memory : List ℕ) (row : RamRow) (x : ℕ) → r .on ≡ 1 → r .entire ≡ 0 → segment width r memory (Ram row) x ≡ shownBit width r memory row x
+unfolding segment whileOn
 bits-show r memory row x on entire = rw (on, entire)
 
 -- with columns normal and not reversed, they are the memory's own
 pub row-plain : (r : Registers) (memory : List ℕ) (p n : ℕ) → p < frameRows → r .on ≡ 1 → r .entire ≡ 0 → r .mirrored ≡ 0 → r .reverse ≡ 0 → rowShows height r (panelRow p) ≡ Ram (ramRow n) → rowOf p (frame r memory) ≡ line width (bit memory (ramRow n))
-unfolding bit bits columnOf turned
+unfolding bit shownBit columnOf turned
 row-plain r memory p n l on entire columns reverse shows =
     frame-row r memory p l ∙
     line-same width _ _ (λ x k. rw shows (bits-show r memory (ramRow n) x on entire ∙ rw (columns, reverse, add-zero, mod-mod)))

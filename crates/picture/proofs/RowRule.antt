@@ -1,10 +1,10 @@
 -- Laws on the row rule: a row that is shown is one of the memory.
 -- Assumes nothing.
 use mathlib.Core.Path.{_≡_, subst}
-use mathlib.Core.Bool.{Bool, true, false, cond}
 use Prim.Native.Nat.{ℕ, _≤_, _<_}
 use native.Mathlib.Nat.{mod-lt, le-of-lt, le-refl}
 use lib.Dec.{ltb, eqb}
+use Rattle.codes.proofs.Tests.{chosen}
 use Rattle.bus.specs.declared.registers.Registers.{Registers}
 use Rattle.picture.specs.Rows.{comOf, used, ramRowOf, panelShows, rowShows}
 use Rattle.picture.specs.declared.rows.PanelRow.{PanelRow}
@@ -13,11 +13,6 @@ use Rattle.picture.specs.declared.rows.RamRow.{RamRow}
 use Rattle.picture.specs.declared.rows.Shown.{Shown}
 use Rattle.picture.specs.declared.rows.Shown.the-variants.{Dark, Ram}
 
--- what holds of both choices holds of the one taken
-pub of-both {ℓ} : {A : Type ℓ} (P : A → Type 0) (t : Bool) {a b : A} → P a → P b → P (cond t a b)
-of-both P true p q = p
-of-both P false p q = q
-
 -- the RAM row that is shown, if any, is at most h
 abbrev pub WithinRam : ℕ → Shown → Type 0
 WithinRam h Dark = Unit
@@ -25,14 +20,14 @@ WithinRam h (Ram row) = row .0 ≤ h
 
 ram-row-within : (h : ℕ) (r : Registers) (k : Com) → 0 < h → ramRowOf h r k .0 ≤ h
 unfolding ramRowOf
-ram-row-within h r k pos = of-both (λ (row : RamRow). row .0 ≤ h) (eqb (r .rows) 0) (le-of-lt (mod-lt _ pos)) (le-of-lt (mod-lt _ pos))
+ram-row-within h r k pos = chosen (λ (row : RamRow). row .0 ≤ h) (eqb (r .rows) 0) _ _ (λ e. le-of-lt (mod-lt _ pos)) (λ e. le-of-lt (mod-lt _ pos))
 
 shows-within : (h : ℕ) (r : Registers) (row : PanelRow) → 0 < h → WithinRam h (rowShows h r row)
 unfolding rowShows panelShows
 shows-within h r row pos =
-    of-both (WithinRam h) (ltb (row .0) h)
-    (of-both (WithinRam h) (used r (comOf h r row)) (ram-row-within h r (comOf h r row) pos) tt)
-    (le-refl h)
+    chosen (WithinRam h) (ltb (row .0) h) _ _
+    (λ e. chosen (WithinRam h) (used r (comOf h r row)) _ _ (λ e. ram-row-within h r (comOf h r row) pos) (λ e. tt))
+    (λ e. le-refl h)
 
 pub ram-within : (h : ℕ) (r : Registers) (row : PanelRow) → 0 < h → {ram : RamRow} → rowShows h r row ≡ Ram ram → ram .0 ≤ h
 ram-within h r row pos e = subst (WithinRam h) e (shows-within h r row pos)

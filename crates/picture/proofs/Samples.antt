@@ -10,23 +10,23 @@ use lib.Dec.{leb, ltb, eqb, leb·suc-suc}
 use Rattle.bus.specs.Sizes.{width}
 use Rattle.bus.specs.declared.registers.Registers.{Registers}
 use Rattle.picture.specs.Sizes.{height, frameRows}
-use Rattle.picture.specs.Frame.{lighted, segment, grid, frame}
+use Rattle.picture.specs.Frame.{whileOn, segment, grid, frame}
 use Rattle.picture.specs.declared.rows.RamRow.{RamRow}
 use Rattle.picture.specs.declared.rows.Shown.the-variants.{Dark, Ram}
 use Rattle.picture.proofs.Lines.{grid-same}
 use Rattle.codes.specs.Table.{table, offsetOf, framePhasesOf, commandBy, operandBy, commandOf, operandOf, meaningOf}
 use Rattle.bus.specs.Registers.{ranges, powerOn}
-use Rattle.bus.specs.Memory.{address, kept, onward}
+use Rattle.bus.specs.Memory.{kept, onward}
 use Rattle.bus.specs.Events.{numberOf, obeyed, command, access, write, written}
-use Rattle.bus.specs.Machine.{step, registersAfter, chipAfter}
+use Rattle.bus.specs.Chip.{step, registersAfter, chipAfter}
 use native.Mathlib.Omega.{arith}
 use Rattle.picture.specs.Rows.{panelRow, ramRow, comOf, used, ramRowOf, panelShows, rowShows}
-use Rattle.picture.specs.Samples.{Samples, after, gives, picture}
+use Rattle.picture.specs.Samples.{Samples, after, numberFor, picture}
 use Rattle.picture.proofs.Places.{row-plain, off-dark}
 
 -- where the display is on, entire on lights a row that shows a RAM row, and no other
 shade : (r : Registers) (memory : List ℕ) (row : RamRow) (x : ℕ) → r .on ≡ 1 → r .entire ≡ 1 → (t : Bool) → segment width r memory (cond t (Ram row) Dark) x ≡ cond (t || false) 1 0
-unfolding segment lighted
+unfolding segment whileOn
 shade r memory row x on entire true = rw (on, entire)
 shade r memory row x on entire false = rw on
 
@@ -46,7 +46,7 @@ sixteen-lit r memory on entire offset multiplex = grid-same width frameRows _ _ 
         rw e (shade r memory (ramRow height) x on entire true)
 
 pub samples : Samples
-unfolding comOf used ramRowOf panelShows rowShows picture ranges powerOn kept onward numberOf obeyed command access write written step registersAfter chipAfter after gives table offsetOf framePhasesOf commandBy operandBy commandOf operandOf meaningOf
+unfolding comOf used ramRowOf panelShows rowShows picture ranges powerOn kept onward numberOf obeyed command access write written step registersAfter chipAfter after numberFor table offsetOf framePhasesOf commandBy operandBy commandOf operandOf meaningOf
 samples = record {
   sample1 = (refl, refl);
   sample2 = (refl, refl, refl, refl);

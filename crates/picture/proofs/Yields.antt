@@ -19,10 +19,10 @@ use Rattle.picture.specs.Sizes.{height, frameRows, frameSize}
 use Rattle.bus.specs.Sizes.{width}
 use Rattle.bus.specs.declared.registers.Registers.{Registers}
 use Rattle.picture.specs.Rows.{panelRow, rowShows}
-use Rattle.picture.specs.Frame.{turned, bits, lighted, segment, frame, placeOf}
+use Rattle.picture.specs.Frame.{turned, shownBit, whileOn, segment, frame, placeOf}
 use Rattle.picture.specs.declared.rows.Shown.{Shown}
 use Rattle.picture.specs.declared.rows.Shown.the-variants.{Dark, Ram}
-use Rattle.picture.proofs.RowRule.{of-both}
+use Rattle.codes.proofs.Tests.{chosen}
 use Rattle.picture.specs.Draw.{drawn, drawOn, draw}
 use Rattle.picture.proofs.Places.{frame-length, frame-place}
 
@@ -63,9 +63,9 @@ past state memory was = by-cases (ltb (length was) frameSize) (asked state memor
 
 -- each place is dark, 0, or lit, 1
 pub dark-or-lit : (r : Registers) (memory : List ℕ) (y x : ℕ) → y < frameRows → x < width → placeOf y x (frame r memory) < 2
-unfolding segment lighted bits turned
-dark-or-lit r memory y x l k = rw (frame-place r memory y x l k) (of-both (λ v. v < 2) (eqb (r .on) 0) (omega arith) (shade (rowShows height r (panelRow y))))
+unfolding segment whileOn shownBit turned
+dark-or-lit r memory y x l k = rw (frame-place r memory y x l k) (chosen (λ v. v < 2) (eqb (r .on) 0) _ _ (λ e. omega arith) (λ e. shade (rowShows height r (panelRow y))))
   where
-    shade : (shown : Shown) → lighted width r memory shown x < 2
+    shade : (shown : Shown) → whileOn width r memory shown x < 2
     shade Dark = omega arith
-    shade (Ram row) = of-both (λ v. v < 2) (eqb (r .entire) 1) (omega arith) (mod-lt _ (omega arith))
+    shade (Ram row) = chosen (λ v. v < 2) (eqb (r .entire) 1) _ _ (λ e. omega arith) (λ e. mod-lt _ (omega arith))

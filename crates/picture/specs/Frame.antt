@@ -26,17 +26,17 @@ unfoldable pub turned : ℕ → ℕ → ℕ
 turned reverse b = (b + reverse) % 2
 
 -- Segment x of a RAM row as it is shown.
-unfoldable pub bits : ℕ → Registers → List ℕ → RamRow → ℕ → ℕ
-bits w r memory row x = turned (r .reverse) (bit memory row (columnOf w r x))
+unfoldable pub shownBit : ℕ → Registers → List ℕ → RamRow → ℕ → ℕ
+shownBit w r memory row x = turned (r .reverse) (bit memory row (columnOf w r x))
 
--- Segment x of a row in use, or of the icons: entire on lights it, reverse or no. A dark row is not turned round.
-unfoldable pub lighted : ℕ → Registers → List ℕ → Shown → ℕ → ℕ
-lighted w r memory Dark x = 0
-lighted w r memory (Ram row) x = cond (eqb (r .entire) 1) 1 (bits w r memory row x)
+-- Segment x of a row while the display is on. A dark row is not turned round; entire on lights any other, reverse or no.
+unfoldable pub whileOn : ℕ → Registers → List ℕ → Shown → ℕ → ℕ
+whileOn w r memory Dark x = 0
+whileOn w r memory (Ram row) x = cond (eqb (r .entire) 1) 1 (shownBit w r memory row x)
 
 -- Segment x of a row: 0 dark, 1 lit. Display off makes all dark, before any other rule.
 unfoldable pub segment : ℕ → Registers → List ℕ → Shown → ℕ → ℕ
-segment w r memory shown x = cond (eqb (r .on) 0) 0 (lighted w r memory shown x)
+segment w r memory shown x = cond (eqb (r .on) 0) 0 (whileOn w r memory shown x)
 
 -- A row of w places.
 unfoldable pub line : ℕ → (ℕ → ℕ) → List ℕ

@@ -5,7 +5,7 @@ ghost use lib.ListN.{length, getD};
 ghost use Rattle.bus.specs.Sizes.{width, memorySize};
 ghost use Rattle.picture.specs.Sizes.{height, frameRows};
 ghost use Rattle.picture.specs.Rows.{rowShows};
-ghost use Rattle.picture.specs.Frame.{segment, bits, line, turned};
+ghost use Rattle.picture.specs.Frame.{segment, shownBit, line, turned};
 use crate::rows::PanelRow;
 use crate::rows::RamRow;
 use crate::rows::Shown;
@@ -13,7 +13,7 @@ use crate::rows::row_shows;
 use crate::sizes::WIDTH;
 use bus::registers::Registers;
 
-// Draws one row of the frame into its own 132 bytes; where all 64 rows are in use, entire on lights every one.
+// Draws one row of the frame into its own 132 bytes. Where all 64 rows are in use entire on lights every one, and the rule is not asked (DECISIONS 38).
 pub fn draw_row(registers: Registers, memory: &[u8], row: PanelRow, places: &mut [u8])
     requires { ⌜ (row .0 < frameRows) × (memorySize ≤ length (now memory)) × (length (now places) ≡ width) ⌝ }
     ensures { λ _. ⌜ now (places .exit) ≡ line width (segment width registers (now (memory .entry)) (rowShows height registers row)) ⌝ }
@@ -43,7 +43,7 @@ pub fn draw_row(registers: Registers, memory: &[u8], row: PanelRow, places: &mut
 // Draws the bits of a RAM row, its columns in the column direction.
 fn draw_bits(registers: Registers, memory: &[u8], row: RamRow, places: &mut [u8])
     requires { ⌜ (row .0 ≤ height) × (memorySize ≤ length (now memory)) × (length (now places) ≡ width) ⌝ }
-    ensures { λ _. ⌜ now (places .exit) ≡ line width (bits width registers (now (memory .entry)) row) ⌝ }
+    ensures { λ _. ⌜ now (places .exit) ≡ line width (shownBit width registers (now (memory .entry)) row) ⌝ }
 {
     let number = row.0 as usize;
     let bit = row.0 % 8;

@@ -6,15 +6,15 @@ use mathlib.Core.List.{List, [], _∷_}
 use Prim.Native.Nat.{ℕ}
 use native.Mathlib.Omega.{arith}
 use Rattle.bus.specs.Numbers.{taken}
-use Rattle.bus.specs.Machine.{Chip, step}
+use Rattle.bus.specs.Chip.{Chip, step}
 use Rattle.bus.specs.Events as events
 use Rattle.bus.specs.declared.registers.Registers.{Registers}
 use Rattle.bus.specs.declared.answer.Answer.{Answer}
 use Rattle.bus.specs.declared.answer.Answer.the-variants.{Taken, Refused}
-use Rattle.bus.proofs.Silent.{Silent, command-silent}
+use Rattle.bus.proofs.Answers.{Silent, command-silent}
 use Rattle.trace.specs.Records.{split, splitFrom}
 use Rattle.trace.specs.Play.{onResult, onEnding, stopped, done, Played, played, playEvents, playRecord, playFrom, play}
-use Rattle.trace.specs.Chip.{eventsOf, chipOf, happened, replay, theChip}
+use Rattle.trace.specs.Kinds.{eventsOf, chipOf, happened, replay, theChip}
 use Rattle.trace.specs.Code.{playedOf}
 use Rattle.trace.specs.declared.run.Finish.{Finish}
 

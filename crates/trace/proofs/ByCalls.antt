@@ -5,59 +5,46 @@ use mathlib.Core.Bool.{Bool, true, false, cond, not, _||_}
 use mathlib.Core.List.{List, [], _∷_, _++_}
 use Prim.Native.Nat.{ℕ, _+_, _≤_}
 use native.Mathlib.Omega.{arith}
-use borrow.Author.Tests.{not-true, le-ltb}
+use borrow.Author.Tests.{ne-eqb}
 use lib.Dec.{eqb}
-use lib.ListN.{length, drop}
+use lib.ListN.{length}
 use Rattle.bus.specs.Sizes.{imageSize, memorySize}
 use Rattle.bus.specs.Numbers.{taken, readDiffers}
-use Rattle.bus.specs.Registers.{imageOf}
 use Rattle.bus.specs.Events.{numberOf, byteOf, dummyOf}
-use Rattle.bus.specs.Machine.{Event, commandByte, dataWritten, dataRead, resetPulse, step}
-use Rattle.bus.specs.Image.{short, asked, stored}
-use Rattle.bus.specs.Calls.{replyOf, stateAfter, concluded, askedBefore, callOn, call}
+use Rattle.bus.specs.Chip.{dataRead, step}
+use Rattle.bus.specs.Image.{asked, stored}
+use Rattle.bus.specs.Calls.{replyOf, stateAfter, concluded, call}
 use Rattle.bus.specs.declared.registers.Registers.{Registers}
 use Rattle.bus.specs.declared.answer.Answer.{Answer}
 use Rattle.bus.specs.declared.answer.Answer.the-variants.{Taken, Refused}
 use Rattle.bus.specs.declared.image.Asked.the-variants.{Found}
+use Rattle.bus.proofs.Answers.{StandsFor, step-answers}
 use Rattle.bus.proofs.Kept.{LegalRegisters, Keeps, step-keeps, asked-legal}
+use Rattle.bus.proofs.Untouched.{step-length}
+use Rattle.bus.proofs.Stored.{stored-own, stored-again, call-stored}
 use Rattle.trace.specs.Records.{Trace, ended, cut, _then_, headerSize, split}
 use Rattle.trace.specs.Play.{Result, refuses, gives, onResult, played}
-use Rattle.trace.specs.Chip.{Recorded, event, readAs, chipOf, happened, compared, replay, theChip}
+use Rattle.trace.specs.Kinds.{Recorded, event, readAs, chipOf, happened, compared, replay, theChip}
 use Rattle.trace.specs.OneByOne.{Placed, placed, Script, script, scriptFrom, applied}
 use Rattle.trace.specs.ByCalls.{calledBy, meets, byCalls, runByCalls}
 use Rattle.trace.specs.Run.{ran, stopOf, ranOf, run}
 use Rattle.trace.proofs.OneByOne.{one-by-one}
 use Rattle.trace.proofs.Kept.{All, Bytes, OfBytes, Gives, split-of-bytes}
-use Rattle.trace.proofs.Held.{Brings, brings, step-length}
+use Rattle.trace.proofs.Held.{Brings, brings}
 use Rattle.trace.proofs.Runs.{run-found, fits}
-use Rattle.trace.proofs.Sound.{honest, step-honest}
-use Rattle.trace.proofs.Stored.{stored-long, stored-own, stored-again, asked-stored}
 
 module _ (state : List ℕ) (h : imageSize ≤ length state) where
-  -- what is asked before a call on a state that legal registers were stored in
-  asked-before : (e : Event) (r : Registers) (memory : List ℕ) → LegalRegisters r → memorySize ≤ length memory → askedBefore e (stored r state) memory ≡ Found r
-  unfolding askedBefore short
-  asked-before (commandByte b) r memory l m = asked-stored state h memory r m l
-  asked-before (dataWritten b) r memory l m = asked-stored state h memory r m l
-  asked-before dataRead r memory l m = asked-stored state h memory r m l
-  asked-before resetPulse r memory l m =
-      rw (stored-long state h r, le-ltb (length (imageOf r ++ drop imageSize state)) imageSize (omega arith), le-ltb (length memory) memorySize m)
-
-  call-stored : (e : Event) (r : Registers) (memory : List ℕ) → LegalRegisters r → memorySize ≤ length memory → call e (stored r state) memory ≡ concluded (step e r memory) (stored r state)
-  unfolding call callOn
-  call-stored e r memory l m = rw (asked-before e r memory l m)
-
   -- the rest of the events, from the chip that one of them leaves
   abbrev Later : List (Placed Recorded) → ℕ → ℕ → ℕ → Type 0
   Later rest number offset count = (r : Registers) (memory : List ℕ) → LegalRegisters r → memorySize ≤ length memory → ranOf (applied replay rest number offset count (chipOf r memory)) state ≡ byCalls rest (stopOf number offset count) (stored r state) memory
 
   module _ (rest : List (Placed Recorded)) (number offset count : ℕ) (later : Later rest number offset count) (r : Registers) (memory : List ℕ) (at before : ℕ) where
     -- what follows an event's answer: the call's reply decides
-    after-event : (answer : Answer) (left : List ℕ) → honest answer ≡ true → Keeps answer → memorySize ≤ length left
+    after-event : (met : ℕ) (answer : Answer) (left : List ℕ) → StandsFor met answer → Keeps answer → memorySize ≤ length left
         → ranOf (onResult (happened answer left) (λ refusal. played refusal at before (chipOf r memory)) (λ t. applied replay rest number offset count t)) state ≡ cond (eqb (replyOf answer .number) taken) (byCalls rest (stopOf number offset count) (stateAfter answer (stored r state)) left) (ran (stopOf (replyOf answer .number) at before) (stored r state) memory)
     unfolding happened replyOf stateAfter numberOf ranOf
-    after-event (Taken after) left ok k m = later (after .registers) left k m ∙ rw (stored-again state h r (after .registers))
-    after-event (Refused refusal) left ok k m = rw (not-true (eqb refusal taken) ok)
+    after-event met (Taken after) left ok k m = later (after .registers) left k m ∙ rw (stored-again state h r (after .registers))
+    after-event met (Refused refusal) left ok k m = rw (ne-eqb refusal taken (λ e. omega (arith, ok .1)))
 
     -- the same for a read that is compared
     read-taken : (agrees : Bool) (s : Registers) (left : List ℕ) → LegalRegisters s → memorySize ≤ length left
@@ -66,19 +53,19 @@ module _ (state : List ℕ) (h : imageSize ≤ length state) where
     read-taken true s left k m = later s left k m ∙ rw (stored-again state h r s)
     read-taken false s left k m = refl
 
-    after-read : (byte : ℕ) (answer : Answer) (left : List ℕ) → honest answer ≡ true → Keeps answer → memorySize ≤ length left
+    after-read : (byte met : ℕ) (answer : Answer) (left : List ℕ) → StandsFor met answer → Keeps answer → memorySize ≤ length left
         → ranOf (onResult (compared byte answer left) (λ refusal. played refusal at before (chipOf r memory)) (λ t. applied replay rest number offset count t)) state ≡ cond (eqb (meets (readAs byte) (replyOf answer)) taken) (byCalls rest (stopOf number offset count) (stateAfter answer (stored r state)) left) (ran (stopOf (meets (readAs byte) (replyOf answer)) at before) (stored r state) memory)
     unfolding compared replyOf stateAfter numberOf byteOf dummyOf ranOf
-    after-read byte (Taken after) left ok k m = read-taken (after .dummy || eqb (after .byte) byte) (after .registers) left k m
-    after-read byte (Refused refusal) left ok k m = rw (not-true (eqb refusal taken) ok, not-true (eqb refusal taken) ok)
+    after-read byte met (Taken after) left ok k m = read-taken (after .dummy || eqb (after .byte) byte) (after .registers) left k m
+    after-read byte met (Refused refusal) left ok k m = rw (ne-eqb refusal taken (λ e. omega (arith, ok .1)), ne-eqb refusal taken (λ e. omega (arith, ok .1)))
 
     after-one : (recorded : Recorded) → Brings recorded → LegalRegisters r → memorySize ≤ length memory
         → ranOf (onResult (replay recorded (chipOf r memory)) (λ refusal. played refusal at before (chipOf r memory)) (λ t. applied replay rest number offset count t)) state ≡ cond (eqb (meets recorded (call (calledBy recorded) (stored r state) memory .reply)) taken) (byCalls rest (stopOf number offset count) (call (calledBy recorded) (stored r state) memory .state) (call (calledBy recorded) (stored r state) memory .memory)) (ran (stopOf (meets recorded (call (calledBy recorded) (stored r state) memory .reply)) at before) (stored r state) memory)
     unfolding replay concluded
     after-one (event e) b l m =
-        rw (call-stored e r memory l m) (after-event (step e r memory .answer) (step e r memory .memory) (step-honest e r memory) (step-keeps e r memory b l) (omega (arith, step-length e r memory)))
+        rw (call-stored state h e r memory l m) (after-event _ (step e r memory .answer) (step e r memory .memory) (step-answers e r memory) (step-keeps e r memory b l) (omega (arith, step-length e r memory)))
     after-one (readAs byte) b l m =
-        rw (call-stored dataRead r memory l m) (after-read byte (step dataRead r memory .answer) (step dataRead r memory .memory) (step-honest dataRead r memory) (step-keeps dataRead r memory tt l) (omega (arith, step-length dataRead r memory)))
+        rw (call-stored state h dataRead r memory l m) (after-read byte _ (step dataRead r memory .answer) (step dataRead r memory .memory) (step-answers dataRead r memory) (step-keeps dataRead r memory tt l) (omega (arith, step-length dataRead r memory)))
 
   by-calls : (events : List (Placed Recorded)) (number offset count : ℕ) → All (λ (p : Placed Recorded). Brings (p .event)) events → Later events number offset count
   unfolding applied byCalls ranOf

@@ -8,11 +8,11 @@ use borrow.Author.Tests.{ne-eqb}
 use lib.ListN.{length, drop}
 use lib.Seq.{slice, length-slice}
 use Rattle.bus.specs.Numbers.{kindUnknown}
-use Rattle.bus.specs.Machine.{Chip, resetPulse}
+use Rattle.bus.specs.Chip.{Chip, resetPulse}
 use Rattle.trace.specs.Records.{Record, headerSize, recordAt}
 use Rattle.trace.specs.Front.{frontOf}
 use Rattle.trace.specs.Play.{stopped, playEvents, playRecord}
-use Rattle.trace.specs.Chip.{event, command, write, readAs, eventsOf, theChip}
+use Rattle.trace.specs.Kinds.{event, command, write, readAs, eventsOf, theChip}
 use Rattle.trace.specs.declared.records.Header.{Header}
 use Rattle.trace.specs.declared.records.Front.the-variants.{Whole}
 use Rattle.trace.proofs.Standing.{within-trace, the-record}

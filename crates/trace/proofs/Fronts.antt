@@ -1,18 +1,21 @@
 -- What stands at an offset of a trace, by the tests that tell it.
 -- Assumes nothing.
-use mathlib.Core.Path.{_≡_, _∙_}
-use mathlib.Core.Bool.{false}
+use mathlib.Core.Path.{_≡_, refl, sym, _∙_, subst}
+use mathlib.Core.Bool.{Bool, true, false, _&&_, false≢true}
 use mathlib.Core.List.{List}
 use Prim.Native.Nat.{ℕ, _+_, _-_, _≤_, _<_}
-use native.Mathlib.Nat.{add-zero}
 use native.Mathlib.Omega.{arith}
-use borrow.Author.Tests.{eq-eqb, ne-eqb, le-leb, lt-leb}
-use lib.Dec.{eqb}
+use borrow.Author.Tests.{ne-eqb, leb-true, leb-false, le-leb, lt-leb, eq-eqb, eqb-true, eqb-false}
+use lib.Dec.{leb, eqb}
 use lib.ListN.{length, drop, length-drop}
-use lib.Seq.{getD-drop}
-use Rattle.trace.specs.Records.{number, headerSize, lengthOf, kindOf}
+use lib.Seq.{length-take-le, getD-drop}
+use Rattle.codes.proofs.Tests.{both, chosen}
+use Rattle.trace.specs.Records.{headerSize, lengthOf, kindOf, payloadOf, whole, number}
 use Rattle.trace.specs.Front.{frontOf}
-use Rattle.trace.specs.declared.records.Front.the-variants.{Nothing, Cut, Whole}
+use Rattle.trace.specs.Given.{CutShort, fewBytes, pastEnd}
+use Rattle.trace.specs.declared.records.Front.{Front}
+use Rattle.trace.specs.declared.records.Front.the-variants.{Cut, Whole, Nothing}
+use native.Mathlib.Nat.{add-zero}
 
 module _ (trace : List ℕ) (at : ℕ) where
   -- the header's two numbers, by their offsets
@@ -44,3 +47,57 @@ module _ (trace : List ℕ) (at : ℕ) where
       pub whole-there : number trace at ≤ length trace - at - headerSize → frontOf (drop at trace) ≡ Whole (record { kind = number trace (at + 2); length = number trace at })
       unfolding frontOf
       whole-there q = rw (some-left, length-at, kind-at, length-drop at trace, le-leb headerSize (length trace - at) p, le-leb (headerSize + number trace at) (length trace - at) (omega arith))
+
+-- the bytes of a whole record are there
+pub room : (bytes : List ℕ) → whole bytes ≡ true → (headerSize ≤ length bytes) × (headerSize + lengthOf bytes ≤ length bytes)
+room bytes e =
+    let halves = both (leb headerSize (length bytes)) (leb (headerSize + lengthOf bytes) (length bytes)) e in
+    (leb-true headerSize (length bytes) (halves .0), leb-true (headerSize + lengthOf bytes) (length bytes) (halves .1))
+
+-- what stands first tells of the bytes
+abbrev pub Tells : List ℕ → Front → Type 0
+Tells bytes Nothing = length bytes ≡ 0
+Tells bytes Cut = (length bytes ≡ 0 → ⊥) × (whole bytes ≡ false)
+Tells bytes (Whole header) = (whole bytes ≡ true) × (kindOf bytes ≡ header .kind) × (lengthOf bytes ≡ header .length)
+
+pub tells : (bytes : List ℕ) {front : Front} → frontOf bytes ≡ front → Tells bytes front
+unfolding frontOf
+tells bytes e =
+    subst (Tells bytes) e
+    (chosen (Tells bytes) (eqb (length bytes) 0) _ _ (eqb-true (length bytes) 0)
+    (λ some. chosen (Tells bytes) (whole bytes) _ _ (λ there. (there, refl, refl)) (λ cut. (eqb-false (length bytes) 0 some, cut))))
+
+-- bytes that are cut, by the tests of what stands first
+pub cut-tests : (left : List ℕ) → CutShort left → (length left ≡ 0 → ⊥) × (whole left ≡ false)
+cut-tests left (fewBytes some few) = (λ e. omega arith, rw (lt-leb headerSize (length left) few))
+cut-tests left (pastEnd header past) = (λ e. omega arith, rw (le-leb headerSize (length left) header, lt-leb (headerSize + lengthOf left) (length left) past))
+
+pub tests-cut : (left : List ℕ) → (length left ≡ 0 → ⊥) → whole left ≡ false → CutShort left
+tests-cut left some e = by (leb headerSize (length left)) (leb (headerSize + lengthOf left) (length left)) refl refl e
+  where
+    by : (s t : Bool) → leb headerSize (length left) ≡ s → leb (headerSize + lengthOf left) (length left) ≡ t → s && t ≡ false → CutShort left
+    by true true p q e = absurd (false≢true (sym e))
+    by true false p q e = pastEnd (leb-true headerSize (length left) p) (leb-false (headerSize + lengthOf left) (length left) q)
+    by false t p q e = fewBytes (omega (arith, some)) (leb-false headerSize (length left) p)
+
+pub front-cut : (left : List ℕ) → (length left ≡ 0 → ⊥) → whole left ≡ false → frontOf left ≡ Cut
+unfolding frontOf
+front-cut left some e = rw (ne-eqb (length left) 0 some, e)
+
+pub front-whole : (left : List ℕ) → whole left ≡ true → frontOf left ≡ Whole (record { kind = kindOf left; length = lengthOf left })
+unfolding frontOf
+front-whole left e = rw (ne-eqb (length left) 0 (λ z. omega (arith, room left e .0)), e)
+
+module _ (trace : List ℕ) (at : ℕ) where
+  -- where bytes are left, the offset is within the trace
+  pub where-left : (length (drop at trace) ≡ 0 → ⊥) → at ≤ length trace
+  where-left some = omega (arith, some, length-drop at trace)
+
+  pub whole-left : whole (drop at trace) ≡ true → length (drop at trace) ≡ 0 → ⊥
+  whole-left e z = omega (arith, room (drop at trace) e .0)
+
+  -- a whole record's payload has its length
+  pub payload-length : whole (drop at trace) ≡ true → length (payloadOf (drop at trace)) ≡ lengthOf (drop at trace)
+  payload-length w =
+      let left = drop at trace in
+      length-take-le (lengthOf left) (drop headerSize left) (omega (arith, length-drop headerSize left, room left w .1))

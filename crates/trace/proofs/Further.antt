@@ -18,9 +18,14 @@ traceFurther k (ended offset) = ended (k + offset)
 traceFurther k (cut offset) = cut (k + offset)
 traceFurther k (r then rest) = recordFurther k r then traceFurther k rest
 
-abbrev endingFurther : {S : Type 0} → ℕ → Ending S → Ending S
+abbrev pub endingFurther : {S : Type 0} → ℕ → Ending S → Ending S
 endingFurther k (stopped number offset s) = stopped number (k + offset) s
 endingFurther k (done s) = done s
+
+-- what is done is done wherever it begins
+pub is-done : {S : Type 0} (k : ℕ) (ending : Ending S) {t : S} → endingFurther k ending ≡ done t → ending ≡ done t
+is-done k (stopped number offset s) e = absurd (let z : _≡_ {A = ℕ} 0 1 = cc in omega arith)
+is-done k (done s) e = e
 
 abbrev pub further : {S : Type 0} → ℕ → ℕ → Played S → Played S
 further k c p = played (p .number) (k + p .offset) (c + p .count) (p .state)
@@ -41,14 +46,14 @@ split-further k zero offset (byte ∷ bytes) =
     split-choice k (whole all) (recordAt offset all) (splitFrom (3 + lengthOf all) (offset + 1) bytes) (splitFrom (3 + lengthOf all) (k + offset + 1) bytes) offset (rw e (split-further k (3 + lengthOf all) (offset + 1) bytes))
 
 module _ {S E : Type 0} (machine : Machine S E) (k : ℕ) where
-  events-further : (events : List E) (offset : ℕ) (s : S) → playEvents machine events (k + offset) s ≡ endingFurther k (playEvents machine events offset s)
+  pub events-further : (events : List E) (offset : ℕ) (s : S) → playEvents machine events (k + offset) s ≡ endingFurther k (playEvents machine events offset s)
   unfolding playEvents
   events-further [] offset s = refl
   events-further (e ∷ rest) offset s =
       let on : k + offset + 1 ≡ k + (offset + 1) = omega arith in
       by-cases (endingFurther k) (machine .step e s) (λ number. refl) (λ t. rw on (events-further rest (offset + 1) t))
 
-  record-further : (r : Record) (s : S) → playRecord machine (recordFurther k r) s ≡ endingFurther k (playRecord machine r s)
+  pub record-further : (r : Record) (s : S) → playRecord machine (recordFurther k r) s ≡ endingFurther k (playRecord machine r s)
   unfolding playRecord
   record-further r s =
       let on : k + r .place + headerSize ≡ k + (r .place + headerSize) = omega arith in

@@ -1,21 +1,22 @@
 -- What each event of a trace of bytes keeps: legal registers, the memory's length, and its bytes past the needed length.
 -- Assumes nothing.
-use mathlib.Core.Path.{_≡_, refl, _∙_}
-use mathlib.Core.Bool.{Bool, true, false, cond, _&&_, _||_}
+use mathlib.Core.Path.{_≡_, _∙_}
+use mathlib.Core.Bool.{_||_}
 use mathlib.Core.List.{List, [], _∷_, map}
 use Prim.Native.Nat.{ℕ}
 use lib.Dec.{eqb}
 use lib.ListN.{length, drop}
+use Rattle.codes.proofs.Tests.{chosen}
 use Rattle.bus.specs.Sizes.{memorySize}
-use Rattle.bus.specs.Machine.{Chip, Event, commandByte, dataWritten, dataRead, resetPulse, step}
-use Rattle.bus.specs.declared.registers.Registers.{Registers}
+use Rattle.bus.specs.Chip.{Chip, dataRead}
 use Rattle.bus.specs.declared.answer.Answer.{Answer}
 use Rattle.bus.specs.declared.answer.Answer.the-variants.{Taken, Refused}
 use Rattle.bus.proofs.Kept.{LegalRegisters, Keeps, IsByte, step-keeps}
-use Rattle.bus.proofs.Untouched.{written-length, memory-past}
-use Rattle.trace.specs.Play.{Result, refuses, gives}
-use Rattle.trace.specs.Chip.{Recorded, event, readAs, command, write, happened, compared, replay, eventsOf}
+use Rattle.bus.proofs.Untouched.{step-length, memory-past}
+use Rattle.trace.specs.Play.{Result}
+use Rattle.trace.specs.Kinds.{Recorded, event, readAs, command, write, happened, compared, replay, eventsOf}
 use Rattle.trace.proofs.Kept.{All, Bytes, Gives}
+use Rattle.trace.proofs.Payloads.{Kind, commands, writes, reads, reset, none, by-kind}
 
 pub record Held (first : List ℕ) (c : Chip) : Type 0 where
   pub registers : LegalRegisters (c .registers)
@@ -31,24 +32,15 @@ all-map : {A B : Type 0} (P : A → Type 0) (Q : B → Type 0) (f : A → B) →
 all-map P Q f h [] q = tt
 all-map P Q f h (a ∷ l) q = (h a (q .0), all-map P Q f h l (q .1))
 
-chosen : (t : Bool) (a b : Result (List Recorded)) → Gives (All Brings) a → Gives (All Brings) b → Gives (All Brings) (cond t a b)
-chosen true a b p q = p
-chosen false a b p q = q
+bring : {kind : ℕ} {payload : List ℕ} {result : Result (List Recorded)} → Bytes payload → Kind kind payload result → Gives (All Brings) result
+bring {kind} {payload} h (commands k) = all-map _ Brings command (λ b p. p) payload h
+bring {kind} {payload} h (writes k) = all-map _ Brings write (λ b p. p) payload h
+bring {kind} {payload} h (reads k) = all-map _ Brings readAs (λ b p. tt) payload h
+bring h (reset k e) = (tt, tt)
+bring h (none n) = tt
 
 pub brings : (kind : ℕ) (payload : List ℕ) → Bytes payload → Gives (All Brings) (eventsOf kind payload)
-unfolding eventsOf
-brings kind payload h =
-    chosen (eqb kind 1) _ _ (all-map _ Brings command (λ b p. p) payload h)
-    (chosen (eqb kind 2) _ _ (all-map _ Brings write (λ b p. p) payload h)
-    (chosen (eqb kind 3) _ _ (all-map _ Brings readAs (λ b p. tt) payload h)
-    (chosen (eqb kind 4 && eqb (length payload) 0) _ _ (tt, tt) tt)))
-
-pub step-length : (e : Event) (r : Registers) (memory : List ℕ) → length (step e r memory .memory) ≡ length memory
-unfolding step
-step-length (commandByte b) r memory = refl
-step-length (dataWritten b) r memory = written-length b r memory
-step-length dataRead r memory = refl
-step-length resetPulse r memory = refl
+brings kind payload h = bring h (by-kind kind payload)
 
 module _ (first : List ℕ) where
   happened-held : (answer : Answer) (left : List ℕ) → Keeps answer → length left ≡ length first → drop memorySize left ≡ drop memorySize first → Gives (Held first) (happened answer left)
@@ -56,13 +48,9 @@ module _ (first : List ℕ) where
   happened-held (Taken after) left k n p = record { registers = k; size = n; past = p }
   happened-held (Refused number) left k n p = tt
 
-  either : (t : Bool) (c : Chip) (number : ℕ) → Held first c → Gives (Held first) (cond t (gives c) (refuses number))
-  either true c number h = h
-  either false c number h = tt
-
   compared-held : (byte : ℕ) (answer : Answer) (left : List ℕ) → Keeps answer → length left ≡ length first → drop memorySize left ≡ drop memorySize first → Gives (Held first) (compared byte answer left)
   unfolding compared
-  compared-held byte (Taken after) left k n p = either (after .dummy || eqb (after .byte) byte) _ _ (record { registers = k; size = n; past = p })
+  compared-held byte (Taken after) left k n p = chosen (Gives (Held first)) (after .dummy || eqb (after .byte) byte) _ _ (λ e. record { registers = k; size = n; past = p }) (λ e. tt)
   compared-held byte (Refused number) left k n p = tt
 
   pub replay-held : (recorded : Recorded) (c : Chip) → Brings recorded → Held first c → Gives (Held first) (replay recorded c)

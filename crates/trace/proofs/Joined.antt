@@ -6,14 +6,13 @@ use mathlib.Core.List.{List, [], _∷_, _++_}
 use Prim.Native.Nat.{ℕ, zero, suc, _+_, _≤_, _<_}
 use native.Mathlib.Nat.{add-zero, zero-add}
 use native.Mathlib.Omega.{arith}
-use borrow.Author.Tests.{leb-true, le-leb}
-use lib.Dec.{leb}
+use borrow.Author.Tests.{le-leb}
 use lib.ListN.{length, drop, length-append, length-drop, List·getD-append}
 use lib.Seq.{take-append-le, drop-append-le}
 use Rattle.bus.specs.Numbers.{taken}
-use Rattle.codes.proofs.Tests.{both}
 use Rattle.trace.specs.Records.{Record, Trace, ended, cut, _then_, number, headerSize, lengthOf, payloadOf, whole, recordAt, splitFrom, split}
 use Rattle.trace.specs.Play.{Result, refuses, gives, onResult, Machine, Ending, stopped, done, onEnding, Played, played, playEvents, playRecord, playFrom, play}
+use Rattle.trace.proofs.Fronts.{room}
 use Rattle.trace.proofs.Further.{traceFurther, further, split-further, play-further}
 
 -- whole records have nothing cut behind them
@@ -35,29 +34,24 @@ onto (r then rest) more = r then onto rest more
 
 -- what stands first among the bytes stands first among more of them
 module _ (a b : List ℕ) (h : whole a ≡ true) where
-  long : (headerSize ≤ length a) × (headerSize + lengthOf a ≤ length a)
-  long =
-      let halves = both (leb headerSize (length a)) (leb (headerSize + lengthOf a) (length a)) h in
-      (leb-true headerSize (length a) (halves .0), leb-true (headerSize + lengthOf a) (length a) (halves .1))
-
   same-number : (place : ℕ) → place + 1 < length a → number (a ++ b) place ≡ number a place
   same-number place p =
       let first : place < length a = omega arith in
       rw (List·getD-append a b 0 place first, List·getD-append a b 0 (place + 1) p)
 
   same-length : lengthOf (a ++ b) ≡ lengthOf a
-  same-length = same-number 0 (omega (arith, long .0))
+  same-length = same-number 0 (omega (arith, room a h .0))
 
   same-payload : payloadOf (a ++ b) ≡ payloadOf a
   same-payload =
-      rw (same-length, drop-append-le headerSize a b (long .0)) (take-append-le (lengthOf a) (drop headerSize a) b (omega (arith, long .1, length-drop headerSize a)))
+      rw (same-length, drop-append-le headerSize a b (room a h .0)) (take-append-le (lengthOf a) (drop headerSize a) b (omega (arith, room a h .1, length-drop headerSize a)))
 
   still-whole : whole (a ++ b) ≡ true
   still-whole =
-      rw (same-length, length-append a b, le-leb headerSize (length a + length b) (omega (arith, long .0)), le-leb (headerSize + lengthOf a) (length a + length b) (omega (arith, long .1)))
+      rw (same-length, length-append a b, le-leb headerSize (length a + length b) (omega (arith, room a h .0)), le-leb (headerSize + lengthOf a) (length a + length b) (omega (arith, room a h .1)))
 
-  same-record : (offset : ℕ) → recordAt offset (a ++ b) ≡ recordAt offset a
-  same-record offset = rw (same-payload, same-number 2 (omega (arith, long .0)))
+  pub same-record : (offset : ℕ) → recordAt offset (a ++ b) ≡ recordAt offset a
+  same-record offset = rw (same-payload, same-number 2 (omega (arith, room a h .0)))
 
 -- the record at hand, and the rest onto which more is put
 record-onto : (offset : ℕ) (all b : List ℕ) (rest rest′ more : Trace) (there : Bool) → whole all ≡ there → Ends (cond there (recordAt offset all then rest) (cut offset)) → (whole all ≡ true → Ends rest → rest′ ≡ onto rest more)
@@ -76,7 +70,7 @@ split-onto zero offset (byte ∷ a) b p q =
     let all = byte ∷ a in
     let e : offset + suc (length a) ≡ offset + 1 + length a = omega arith in
     record-onto offset all b (splitFrom (3 + lengthOf all) (offset + 1) a) (splitFrom (3 + lengthOf (all ++ b)) (offset + 1) (a ++ b)) (splitFrom 0 (offset + suc (length a)) b) (whole all) refl q
-    (λ there ends. rw (same-length all b there, e) (split-onto (3 + lengthOf all) (offset + 1) a b (omega (arith, long all b there .1)) ends))
+    (λ there ends. rw (same-length all b there, e) (split-onto (3 + lengthOf all) (offset + 1) a b (omega (arith, room all there .1)) ends))
 
 -- a split trace that ends, ends at its length
 record-ends : (offset n : ℕ) (all : List ℕ) (rest : Trace) (there : Bool) → whole all ≡ there → Ends (cond there (recordAt offset all then rest) (cut offset)) → (whole all ≡ true → Ends rest → endOf rest ≡ n) → endOf (cond there (recordAt offset all then rest) (cut offset)) ≡ n
@@ -94,7 +88,7 @@ ends-at zero offset (byte ∷ a) p q =
     let all = byte ∷ a in
     let e : offset + suc (length a) ≡ offset + 1 + length a = omega arith in
     record-ends offset (offset + suc (length a)) all (splitFrom (3 + lengthOf all) (offset + 1) a) (whole all) refl q
-    (λ there ends. rw e (ends-at (3 + lengthOf all) (offset + 1) a (omega (arith, long all [] there .1)) ends))
+    (λ there ends. rw e (ends-at (3 + lengthOf all) (offset + 1) a (omega (arith, room all there .1)) ends))
 
 -- A machine that refuses with no 0, which is the number of what is taken.
 pub record Sound {S E : Type 0} (machine : Machine S E) : Type 0 where
@@ -103,7 +97,7 @@ pub record Sound {S E : Type 0} (machine : Machine S E) : Type 0 where
 
 module _ {S E : Type 0} (machine : Machine S E) (sound : Sound machine) where
   -- what a record stops with is no 0
-  abbrev Stops : Ending S → Type 0
+  abbrev pub Stops : Ending S → Type 0
   Stops (stopped number offset s) = number ≡ taken → ⊥
   Stops (done s) = Unit {0}
 
@@ -111,7 +105,7 @@ module _ {S E : Type 0} (machine : Machine S E) (sound : Sound machine) where
   stops (refuses number) go offset s p q = p number refl
   stops (gives a) go offset s p q = q a
 
-  events-stop : (events : List E) (offset : ℕ) (s : S) → Stops (playEvents machine events offset s)
+  pub events-stop : (events : List E) (offset : ℕ) (s : S) → Stops (playEvents machine events offset s)
   unfolding playEvents
   events-stop [] offset s = tt
   events-stop (e ∷ rest) offset s = stops (machine .step e s) (λ t. playEvents machine rest (offset + 1) t) offset s (sound .step e s) (λ t. events-stop rest (offset + 1) t)
@@ -141,7 +135,7 @@ module _ {S E : Type 0} (machine : Machine S E) (sound : Sound machine) where
   taken-whole (r then rest) count s h = then-whole (playRecord machine r s) (record-stops r s) r rest count h (λ t. taken-whole rest (count + 1) t)
 
   -- a trace that begins at an offset, with so many records before it
-  further-on : (offset count : ℕ) (b : List ℕ) (t : S) → playFrom machine (splitFrom 0 offset b) count t ≡ further offset count (play machine (split b) t)
+  pub further-on : (offset count : ℕ) (b : List ℕ) (t : S) → playFrom machine (splitFrom 0 offset b) count t ≡ further offset count (play machine (split b) t)
   unfolding split
   further-on offset count b t =
       ap (λ (at : ℕ). playFrom machine (splitFrom 0 at b) count t) (sym (add-zero offset)) ∙

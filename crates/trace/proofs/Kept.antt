@@ -15,12 +15,12 @@ All P (a ∷ rest) = P a × All P rest
 abbrev pub Bytes : List ℕ → Type 0
 Bytes = All (λ (b : ℕ). b < 256)
 
-all-drop : {A : Type 0} (P : A → Type 0) (n : ℕ) (l : List A) → All P l → All P (drop n l)
+pub all-drop : {A : Type 0} (P : A → Type 0) (n : ℕ) (l : List A) → All P l → All P (drop n l)
 all-drop P zero l h = h
 all-drop P (suc n) [] h = h
 all-drop P (suc n) (a ∷ l) h = all-drop P n l (h .1)
 
-all-take : {A : Type 0} (P : A → Type 0) (n : ℕ) (l : List A) → All P l → All P (take n l)
+pub all-take : {A : Type 0} (P : A → Type 0) (n : ℕ) (l : List A) → All P l → All P (take n l)
 all-take P zero l h = tt
 all-take P (suc n) [] h = h
 all-take P (suc n) (a ∷ l) h = (h .0, all-take P n l (h .1))
@@ -48,7 +48,7 @@ abbrev pub Gives : {A : Type 0} → (A → Type 0) → Result A → Type 0
 Gives P (refuses number) = Unit {0}
 Gives P (gives a) = P a
 
-abbrev Leaves : {S : Type 0} → (S → Type 0) → Ending S → Type 0
+abbrev pub Leaves : {S : Type 0} → (S → Type 0) → Ending S → Type 0
 Leaves P (stopped number offset s) = P s
 Leaves P (done s) = P s
 
@@ -57,7 +57,7 @@ module _ {S E : Type 0} (machine : Machine S E) (P : S → Type 0) (Q : E → Ty
   on-step (refuses number) offset s go g h later = h
   on-step (gives t) offset s go g h later = later t g
 
-  events-keep : (events : List E) (offset : ℕ) (s : S) → All Q events → P s → Leaves P (playEvents machine events offset s)
+  pub events-keep : (events : List E) (offset : ℕ) (s : S) → All Q events → P s → Leaves P (playEvents machine events offset s)
   unfolding playEvents
   events-keep [] offset s q h = h
   events-keep (e ∷ rest) offset s q h = on-step (machine .step e s) offset s _ (keeps e s (q .0) h) h (λ t. events-keep rest (offset + 1) t (q .1))

@@ -11,10 +11,14 @@ pub mod OneByOne
 pub mod Further
 pub mod Written
 pub mod Joined
+pub mod Payloads
+pub mod First
 pub mod Sound
 pub mod Kept
-pub mod Stored
 pub mod Held
 pub mod Runs
 pub mod ByCalls
+pub mod RecordStops
+pub mod RunStops
+pub mod Exactly
 pub mod Alone

@@ -9,7 +9,7 @@ use Rattle.bus.specs.declared.image.Asked.{Asked}
 use Rattle.bus.specs.declared.image.Asked.the-variants.{Found, Refused}
 use Rattle.trace.specs.Records.{split}
 use Rattle.trace.specs.Play.{play}
-use Rattle.trace.specs.Chip.{chipOf, theChip}
+use Rattle.trace.specs.Kinds.{chipOf, theChip}
 use Rattle.trace.specs.Code.{playedOf}
 use Rattle.trace.specs.Run.{ran, stopOf, ranOf, runOn, run}
 use Rattle.trace.specs.declared.run.Finish.{Finish}

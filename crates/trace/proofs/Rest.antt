@@ -1,22 +1,20 @@
 -- The rest of a trace from an offset on, split and played, by what stands there.
 -- Assumes nothing.
 use mathlib.Core.Path.{_≡_, refl, _∙_}
-use mathlib.Core.Bool.{Bool, true, false, cond, false≢true}
+use mathlib.Core.Bool.{true, false, false≢true}
 use mathlib.Core.List.{List, [], _∷_}
 use Prim.Native.Nat.{ℕ, zero, suc, _+_, _≤_}
 use native.Mathlib.Nat.{add-zero}
 use native.Mathlib.Omega.{arith}
-use borrow.Author.Tests.{eqb-true, eqb-false, leb-true}
-use lib.Dec.{eqb, leb}
 use lib.ListN.{length, drop}
 use lib.Seq.{drop-drop}
 use Rattle.bus.specs.Numbers.{taken, headerCut}
-use Rattle.codes.proofs.Tests.{both}
 use Rattle.trace.specs.Records.{Trace, ended, cut, _then_, headerSize, lengthOf, whole, recordAt, splitFrom}
 use Rattle.trace.specs.Front.{frontOf}
 use Rattle.trace.specs.Play.{Machine, stopped, done, played, playRecord, playFrom}
 use Rattle.trace.specs.declared.records.Header.{Header}
 use Rattle.trace.specs.declared.records.Front.the-variants.{Nothing, Cut, Whole}
+use Rattle.trace.proofs.Fronts.{room, tells}
 use Rattle.trace.proofs.Standing.{is-whole, its-length}
 
 -- the bytes that belong to the record before are passed over
@@ -29,13 +27,13 @@ passed (suc left) offset (byte ∷ bytes) h =
     passed left (offset + 1) bytes (omega arith) ∙ rw e
 
 -- no byte is left
-split-nothing : (offset : ℕ) (bytes : List ℕ) → length bytes ≡ 0 → splitFrom 0 offset bytes ≡ ended offset
+pub split-nothing : (offset : ℕ) (bytes : List ℕ) → length bytes ≡ 0 → splitFrom 0 offset bytes ≡ ended offset
 unfolding splitFrom
 split-nothing offset [] h = refl
 split-nothing offset (byte ∷ bytes) h = absurd (omega arith)
 
 -- what is left is no whole record
-split-cut : (offset : ℕ) (bytes : List ℕ) → (length bytes ≡ 0 → ⊥) → whole bytes ≡ false → splitFrom 0 offset bytes ≡ cut offset
+pub split-cut : (offset : ℕ) (bytes : List ℕ) → (length bytes ≡ 0 → ⊥) → whole bytes ≡ false → splitFrom 0 offset bytes ≡ cut offset
 unfolding splitFrom
 split-cut offset [] h e = absurd (h refl)
 split-cut offset (byte ∷ bytes) h e = rw e
@@ -48,19 +46,8 @@ split-whole offset (byte ∷ bytes) e =
     let n = 3 + lengthOf (byte ∷ bytes) in
     let size : headerSize + lengthOf (byte ∷ bytes) ≡ suc n = omega arith in
     let place : offset + suc n ≡ offset + 1 + n = omega arith in
-    let fits : n ≤ length bytes = omega (arith, leb-true (headerSize + lengthOf (byte ∷ bytes)) (length (byte ∷ bytes)) (both (leb headerSize (length (byte ∷ bytes))) _ e .1)) in
+    let fits : n ≤ length bytes = omega (arith, room (byte ∷ bytes) e .1) in
     rw (e, size, place, passed n (offset + 1) bytes fits)
-
--- what the front tells of the bytes
-nothing-front : (empty there : Bool) (found : Header) → cond empty Nothing (cond there (Whole found) Cut) ≡ Nothing → empty ≡ true
-nothing-front true there found e = refl
-nothing-front false true found e = absurd (let z : _≡_ {A = ℕ} 0 1 = cc in omega arith)
-nothing-front false false found e = absurd (let z : _≡_ {A = ℕ} 0 1 = cc in omega arith)
-
-cut-front : (empty there : Bool) (found : Header) → cond empty Nothing (cond there (Whole found) Cut) ≡ Cut → (empty ≡ false) × (there ≡ false)
-cut-front true there found e = absurd (let z : _≡_ {A = ℕ} 0 1 = cc in omega arith)
-cut-front false true found e = absurd (let z : _≡_ {A = ℕ} 0 1 = cc in omega arith)
-cut-front false false found e = (refl, refl)
 
 -- the rest of a trace from an offset on
 abbrev pub rest : List ℕ → ℕ → Trace
@@ -68,14 +55,10 @@ rest trace at = splitFrom 0 at (drop at trace)
 
 module _ (trace : List ℕ) (at : ℕ) where
   rest-nothing : frontOf (drop at trace) ≡ Nothing → rest trace at ≡ ended at
-  unfolding frontOf
-  rest-nothing h = split-nothing at (drop at trace) (eqb-true (length (drop at trace)) 0 (nothing-front _ (whole (drop at trace)) _ h))
+  rest-nothing h = split-nothing at (drop at trace) (tells (drop at trace) h)
 
   rest-cut : frontOf (drop at trace) ≡ Cut → rest trace at ≡ cut at
-  unfolding frontOf
-  rest-cut h =
-      let found = cut-front (eqb (length (drop at trace)) 0) (whole (drop at trace)) _ h in
-      split-cut at (drop at trace) (eqb-false (length (drop at trace)) 0 (found .0)) (found .1)
+  rest-cut h = let found = tells (drop at trace) h in split-cut at (drop at trace) (found .0) (found .1)
 
   rest-whole : (header : Header) → frontOf (drop at trace) ≡ Whole header → rest trace at ≡ (recordAt at (drop at trace) then rest trace (at + headerSize + header .length))
   rest-whole header h =

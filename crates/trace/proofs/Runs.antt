@@ -1,6 +1,6 @@
 -- The run's laws: two outcomes of its statement are equal; it leaves a legal image, and every byte past the needed lengths as it was; no records, and whole records followed by more.
 -- Assumes nothing.
-use mathlib.Core.Path.{_≡_, refl, sym, _∙_, ap}
+use mathlib.Core.Path.{_≡_, refl, sym, _∙_, ap, subst}
 use mathlib.Core.List.{List, [], _++_}
 use Prim.Native.Nat.{ℕ, _+_}
 use native.Mathlib.Omega.{arith}
@@ -11,17 +11,18 @@ use Rattle.bus.specs.Image.{asked, stored}
 use Rattle.bus.specs.declared.registers.Registers.{Registers}
 use Rattle.bus.specs.declared.image.Asked.{Asked}
 use Rattle.bus.specs.declared.image.Asked.the-variants.{Found, Refused}
+use Rattle.bus.proofs.Asking.{OneOrTwo, asked-refusal}
 use Rattle.bus.proofs.Kept.{asked-legal}
+use Rattle.bus.proofs.Stored.{Sized, sized, stored-own, stored-again, stored-past, asked-stored}
 use Rattle.trace.specs.Records.{splitFrom, split}
 use Rattle.trace.specs.Play.{playFrom, play}
-use Rattle.trace.specs.Chip.{chipOf, theChip}
+use Rattle.trace.specs.Kinds.{chipOf, theChip}
 use Rattle.trace.specs.Run.{Ran, ran, stopOf, ranOf, runOn, run}
 use Rattle.trace.specs.declared.run.Stop.{Stop}
 use Rattle.trace.proofs.Joined.{taken-offset, joined}
 use Rattle.trace.proofs.Kept.{Bytes, split-of-bytes, play-keeps}
 use Rattle.trace.proofs.Held.{Held, Brings, brings, replay-held}
 use Rattle.trace.proofs.Sound.{the-chip-sound}
-use Rattle.trace.proofs.Stored.{Sized, sized, asked-no-zero, stored-own, stored-again, stored-past, asked-stored}
 
 -- a run's outcome with the offset and the count of another before it added
 abbrev pub runFurther : Stop → Ran → Ran
@@ -47,7 +48,7 @@ module _ (state memory : List ℕ) (r : Registers) (found : asked state memory �
   unfolding split splitFrom playFrom ranOf
   run-empty = run-found [] ∙ rw (← (fits .registers), stored-own state (fits .image))
 
-  left-held : (trace : List ℕ) → Bytes trace → Held memory (play theChip (split trace) (chipOf r memory) .state)
+  pub left-held : (trace : List ℕ) → Bytes trace → Held memory (play theChip (split trace) (chipOf r memory) .state)
   unfolding split
   left-held trace b = play-keeps theChip (Held memory) Brings brings (replay-held memory) (split trace) 0 (chipOf r memory) (split-of-bytes 0 0 trace b) (record { registers = asked-legal state memory r found; size = refl; past = refl })
 
@@ -81,14 +82,14 @@ module _ (state memory : List ℕ) (r : Registers) (found : asked state memory �
 
 -- on any state and memory
 module _ (state memory : List ℕ) where
-  refused-run : (trace : List ℕ) (number : ℕ) → asked state memory ≡ Refused number → run state memory trace ≡ ran (stopOf number 0 0) state memory
+  pub refused-run : (trace : List ℕ) (number : ℕ) → asked state memory ≡ Refused number → run state memory trace ≡ ran (stopOf number 0 0) state memory
   unfolding run runOn
   refused-run trace number e = rw e
 
-  refused-taken : (trace : List ℕ) (number : ℕ) → asked state memory ≡ Refused number → run state memory trace .stop .number ≡ taken → ⊥
-  refused-taken trace number e h = asked-no-zero state memory number e (ap (λ outcome. outcome .stop .number) (sym (refused-run trace number e)) ∙ h)
+  pub refused-taken : (trace : List ℕ) (number : ℕ) → asked state memory ≡ Refused number → run state memory trace .stop .number ≡ taken → ⊥
+  refused-taken trace number e h = omega (arith, subst OneOrTwo e (asked-refusal state memory) .0, ap (λ outcome. outcome .stop .number) (sym (refused-run trace number e)) ∙ h)
 
-  by-asking : (P : Type 0) → ((r : Registers) → asked state memory ≡ Found r → P) → ((number : ℕ) → asked state memory ≡ Refused number → P) → P
+  pub by-asking : (P : Type 0) → ((r : Registers) → asked state memory ≡ Found r → P) → ((number : ℕ) → asked state memory ≡ Refused number → P) → P
   by-asking P found refused = by (asked state memory) refl
     where
       by : (asking : Asked) → asked state memory ≡ asking → P

@@ -10,11 +10,11 @@ use Rattle.bus.specs.Registers.{largestValues, powerOn, imageOf, _with_≔_}
 use Rattle.bus.specs.Places.{column, on, fresh}
 use Rattle.bus.specs.Memory.{kept, onward}
 use Rattle.bus.specs.Events.{command, obeyed, access, write, written, read, resetPin}
-use Rattle.bus.specs.Machine.{step}
+use Rattle.bus.specs.Chip.{step}
 use Rattle.bus.specs.Image.{within, awaitedCodes, legal, short, asked, stored}
 use Rattle.trace.specs.Records.{splitFrom, split}
 use Rattle.trace.specs.Play.{playEvents, playRecord, playFrom}
-use Rattle.trace.specs.Chip.{eventsOf, happened, compared, replay}
+use Rattle.trace.specs.Kinds.{eventsOf, happened, compared, replay}
 use Rattle.trace.specs.Run.{Ran, ran, stopOf, ranOf, runOn, run}
 
 abbrev zeros : List ℕ

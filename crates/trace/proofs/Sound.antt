@@ -1,142 +1,71 @@
--- The chip refuses with no 0, which is the number of what is taken.
+-- What a trace's headers and events are refused with: never 0, which is the number of what is taken.
 -- Assumes nothing.
-use mathlib.Core.Path.{_≡_, refl, sym, _∙_, ap}
-use mathlib.Core.Bool.{Bool, true, false, cond, not, _&&_, _||_, false≢true}
+use mathlib.Core.Path.{_≡_, refl, subst}
+use mathlib.Core.Bool.{Bool, true, false, cond, _||_}
 use mathlib.Core.List.{List}
-use Prim.Native.Nat.{ℕ}
+use Prim.Native.Nat.{ℕ, _≤_, _<_}
+use native.Mathlib.Omega.{arith}
+use borrow.Author.Tests.{eqb-false}
 use lib.Dec.{eqb}
-use lib.ListN.{length}
-use Rattle.codes.specs.Table.{meaningOf}
-use Rattle.codes.specs.declared.Command.{Command}
-use Rattle.codes.specs.declared.Command.the-variants.{
-  ColumnLow,
-  ColumnHigh,
-  ResistorRatio,
-  PowerControl,
-  StartLine,
-  Contrast,
-  ColumnDirection,
-  Bias,
-  EntireOn,
-  Reverse,
-  Multiplex,
-  HeldByte,
-  QuarterBias,
-  IndicatorOff,
-  IndicatorMode,
-  DisplayOn,
-  Page,
-  NoPage,
-  RowDirection,
-  Offset,
-  FramePhases,
-  EnterReadModifyWrite,
-  SoftwareReset,
-  Nothing,
-  LeaveReadModifyWrite,
-  Await,
-  NotAllowed,
-  NotAwaited,
-  Outside,
-}
-use Rattle.bus.specs.Numbers.{taken}
-use Rattle.bus.specs.Events.{command, obeyed, access, write, read, resetPin}
-use Rattle.bus.specs.Machine.{Chip, Event, commandByte, dataWritten, dataRead, resetPulse, step}
-use Rattle.bus.specs.declared.registers.Registers.{Registers}
+use Rattle.bus.specs.Numbers.{taken, columnAbove, kindUnknown, readDiffers}
+use Rattle.bus.specs.Chip.{Chip, dataRead, step}
+use Rattle.bus.specs.declared.answer.After.{After}
 use Rattle.bus.specs.declared.answer.Answer.{Answer}
 use Rattle.bus.specs.declared.answer.Answer.the-variants.{Taken, Refused}
+use Rattle.bus.proofs.Answers.{StandsFor, step-answers}
 use Rattle.trace.specs.Play.{Result, refuses, gives}
-use Rattle.trace.specs.Chip.{Recorded, event, readAs, happened, compared, replay, eventsOf, theChip}
+use Rattle.trace.specs.Kinds.{Recorded, event, readAs, chipOf, happened, compared, replay, theChip}
+use Rattle.trace.proofs.Payloads.{Kind, commands, writes, reads, reset, none, by-kind}
 use Rattle.trace.proofs.Joined.{Sound}
 
--- an answer is no refusal with 0
-abbrev pub honest : Answer → Bool
-honest (Taken after) = true
-honest (Refused number) = not (eqb number taken)
+-- what holds of the number that a result refuses with
+abbrev pub Refusing : {A : Type 0} → (ℕ → Type 0) → Result A → Type 0
+Refusing P (refuses number) = P number
+Refusing P (gives a) = Unit {0}
 
-either : (t : Bool) (a b : Answer) → honest a ≡ true → honest b ≡ true → honest (cond t a b) ≡ true
-either true a b p q = p
-either false a b p q = q
+-- a header is refused with 9, and then its kind is none
+headed : {kind : ℕ} {payload : List ℕ} {result : Result (List Recorded)} → Kind kind payload result → Refusing (λ number. number ≡ kindUnknown) result
+headed (commands k) = tt
+headed (writes k) = tt
+headed (reads k) = tt
+headed (reset k e) = tt
+headed (none n) = refl
 
-obeyed-honest : (named : Command) (r : Registers) → honest (obeyed named r) ≡ true
-unfolding obeyed
-obeyed-honest (ColumnLow value) r = refl
-obeyed-honest (ColumnHigh value) r = refl
-obeyed-honest (ResistorRatio value) r = refl
-obeyed-honest (PowerControl value) r = refl
-obeyed-honest (StartLine value) r = refl
-obeyed-honest (Contrast value) r = refl
-obeyed-honest (ColumnDirection value) r = refl
-obeyed-honest (Bias value) r = refl
-obeyed-honest (EntireOn value) r = refl
-obeyed-honest (Reverse value) r = refl
-obeyed-honest (Multiplex value) r = refl
-obeyed-honest (HeldByte value) r = refl
-obeyed-honest (QuarterBias value) r = refl
-obeyed-honest IndicatorOff r = refl
-obeyed-honest (IndicatorMode value) r = refl
-obeyed-honest (DisplayOn value) r = refl
-obeyed-honest (Page value) r = refl
-obeyed-honest NoPage r = refl
-obeyed-honest (RowDirection value) r = refl
-obeyed-honest (Offset value) r = refl
-obeyed-honest (FramePhases value) r = refl
-obeyed-honest EnterReadModifyWrite r = refl
-obeyed-honest SoftwareReset r = refl
-obeyed-honest Nothing r = refl
-obeyed-honest LeaveReadModifyWrite r = refl
-obeyed-honest (Await value) r = refl
-obeyed-honest NotAllowed r = refl
-obeyed-honest NotAwaited r = refl
-obeyed-honest Outside r = refl
+-- an event is refused with its answer's number, 1 to 7, or with 10: it is a read, taken and no dummy, and answers another byte
+pub data Refusal (recorded : Recorded) (c : Chip) (number : ℕ) : Type 0 where
+  own : taken < number → number ≤ columnAbove → Refusal recorded c number
+  differing : (byte : ℕ) (after : After) → recorded ≡ readAs byte → step dataRead (c .registers) (c .memory) .answer ≡ Taken after → after .dummy ≡ false → (after .byte ≡ byte → ⊥) → number ≡ readDiffers → Refusal recorded c number
 
-accessed : (number : ℕ) (t : Bool) (a : Answer) → eqb number taken ≡ t → honest a ≡ true → honest (cond t a (Refused number)) ≡ true
-accessed number true a e p = p
-accessed number false a e p = rw e
-
--- no event is refused with 0
-pub step-honest : (e : Event) (r : Registers) (memory : List ℕ) → honest (step e r memory .answer) ≡ true
-unfolding step command write read resetPin
-step-honest (commandByte b) r memory = obeyed-honest (meaningOf (r .awaited) b) _
-step-honest (dataWritten b) r memory = accessed (access r (length memory)) _ _ refl refl
-step-honest dataRead r memory = accessed (access r (length memory)) _ _ refl (either (eqb (r .fresh) 1) _ _ refl refl)
-step-honest resetPulse r memory = refl
-
--- nor is what was recorded of it
-abbrev honestly : {A : Type 0} → Result A → Bool
-honestly (gives a) = true
-honestly (refuses number) = not (eqb number taken)
-
-happened-honest : (answer : Answer) (memory : List ℕ) → honest answer ≡ true → honestly (happened answer memory) ≡ true
+event-refusal : (recorded : Recorded) (c : Chip) (number : ℕ) (answer : Answer) (memory : List ℕ) → StandsFor number answer → Refusing (Refusal recorded c) (happened answer memory)
 unfolding happened
-happened-honest (Taken after) memory h = refl
-happened-honest (Refused number) memory h = h
+event-refusal recorded c number (Taken after) memory s = tt
+event-refusal recorded c number (Refused refusal) memory s = own (s .1) (s .2)
 
-chosen : {A : Type 0} (t : Bool) (a b : Result A) → honestly a ≡ true → honestly b ≡ true → honestly (cond t a b) ≡ true
-chosen true a b p q = p
-chosen false a b p q = q
-
-compared-honest : (byte : ℕ) (answer : Answer) (memory : List ℕ) → honest answer ≡ true → honestly (compared byte answer memory) ≡ true
+read-refusal : (byte : ℕ) (c : Chip) (number : ℕ) (answer : Answer) (memory : List ℕ) → step dataRead (c .registers) (c .memory) .answer ≡ answer → StandsFor number answer → Refusing (Refusal (readAs byte) c) (compared byte answer memory)
 unfolding compared
-compared-honest byte (Taken after) memory h = chosen (after .dummy || eqb (after .byte) byte) _ _ refl refl
-compared-honest byte (Refused number) memory h = h
+read-refusal byte c number (Taken after) memory e s = by (after .dummy) (eqb (after .byte) byte) refl refl
+  where
+    by : (d b : Bool) → after .dummy ≡ d → eqb (after .byte) byte ≡ b → Refusing (Refusal (readAs byte) c) (cond (d || b) (gives (chipOf (after .registers) memory)) (refuses readDiffers))
+    by true b p q = tt
+    by false true p q = tt
+    by false false p q = differing byte after refl e p (eqb-false (after .byte) byte q) refl
+read-refusal byte c number (Refused refusal) memory e s = own (s .1) (s .2)
 
-replay-honest : (recorded : Recorded) (c : Chip) → honestly (replay recorded c) ≡ true
+replay-refusal : (recorded : Recorded) (c : Chip) → Refusing (Refusal recorded c) (replay recorded c)
 unfolding replay
-replay-honest (event e) c = happened-honest _ _ (step-honest e (c .registers) (c .memory))
-replay-honest (readAs byte) c = compared-honest byte _ _ (step-honest dataRead (c .registers) (c .memory))
+replay-refusal (event e) c = event-refusal _ c _ _ _ (step-answers e (c .registers) (c .memory))
+replay-refusal (readAs byte) c = read-refusal byte c _ _ _ refl (step-answers dataRead (c .registers) (c .memory))
 
-events-honest : (kind : ℕ) (payload : List ℕ) → honestly (eventsOf kind payload) ≡ true
-unfolding eventsOf
-events-honest kind payload =
-    chosen (eqb kind 1) _ _ refl (chosen (eqb kind 2) _ _ refl (chosen (eqb kind 3) _ _ refl (chosen (eqb kind 4 && eqb (length payload) 0) _ _ refl refl)))
+pub refused-event : (recorded : Recorded) (c : Chip) (number : ℕ) → replay recorded c ≡ refuses number → Refusal recorded c number
+refused-event recorded c number e = subst (Refusing (Refusal recorded c)) e (replay-refusal recorded c)
 
-no-zero : {A : Type 0} (result : Result A) → honestly result ≡ true → (number : ℕ) → result ≡ refuses number → number ≡ taken → ⊥
-no-zero result h number e zero = false≢true (ap (λ n. not (eqb n taken)) (sym zero) ∙ ap honestly (sym e) ∙ h)
+not-zero : {recorded : Recorded} {c : Chip} {number : ℕ} → Refusal recorded c number → number ≡ taken → ⊥
+not-zero (own p q) e = omega arith
+not-zero (differing byte after r a d b n) e = omega arith
 
 pub the-chip-sound : Sound theChip
 the-chip-sound =
     record {
-      events = λ kind payload. no-zero (eventsOf kind payload) (events-honest kind payload);
-      step = λ recorded c. no-zero (replay recorded c) (replay-honest recorded c);
+      events = λ kind payload number e zero. omega (arith, subst (Refusing (λ number. number ≡ kindUnknown)) e (headed (by-kind kind payload)));
+      step = λ recorded c number e. not-zero (refused-event recorded c number e);
     }

@@ -1,42 +1,31 @@
 -- What it says of a trace that a whole record with a header stands at an offset of it.
 -- Assumes nothing.
-use mathlib.Core.Path.{_≡_, refl, sym, ap}
-use mathlib.Core.Bool.{Bool, true, false, cond}
+use mathlib.Core.Path.{_≡_, sym}
+use mathlib.Core.Bool.{true}
 use mathlib.Core.List.{List}
 use Prim.Native.Nat.{ℕ, _+_, _≤_}
 use native.Mathlib.Omega.{arith}
-use borrow.Author.Tests.{leb-true}
-use lib.Dec.{eqb, leb}
 use lib.ListN.{length, take, drop, length-drop}
 use lib.Seq.{slice, drop-drop, drop-at, take-add, length-take-le}
-use Rattle.codes.proofs.Tests.{both}
 use Rattle.trace.specs.Records.{headerSize, lengthOf, kindOf, payloadOf, whole, recordAt}
 use Rattle.trace.specs.Front.{frontOf}
 use Rattle.trace.specs.declared.records.Header.{Header}
-use Rattle.trace.specs.declared.records.Front.the-variants.{Nothing, Cut, Whole}
-
-chosen : (empty there : Bool) (found header : Header) → cond empty Nothing (cond there (Whole found) Cut) ≡ Whole header → (there ≡ true) × (found ≡ header)
-chosen true there found header e = absurd (let z : _≡_ {A = ℕ} 0 1 = cc in omega arith)
-chosen false true found header e = (refl, cc)
-chosen false false found header e = absurd (let z : _≡_ {A = ℕ} 0 1 = cc in omega arith)
+use Rattle.trace.specs.declared.records.Front.the-variants.{Whole}
+use Rattle.trace.proofs.Fronts.{room, tells}
 
 module _ (trace : List ℕ) (at : ℕ) (header : Header) (h : frontOf (drop at trace) ≡ Whole header) where
-  unfolded : (whole (drop at trace) ≡ true) × (_≡_ {A = Header} (record { kind = kindOf (drop at trace); length = lengthOf (drop at trace) }) header)
-  unfolding frontOf
-  unfolded = chosen (eqb (length (drop at trace)) 0) (whole (drop at trace)) _ header h
-
   pub is-whole : whole (drop at trace) ≡ true
-  is-whole = unfolded .0
-
-  pub its-length : lengthOf (drop at trace) ≡ header .length
-  its-length = ap (λ (found : Header). found .length) (unfolded .1)
+  is-whole = tells (drop at trace) h .0
 
   pub its-kind : kindOf (drop at trace) ≡ header .kind
-  its-kind = ap (λ (found : Header). found .kind) (unfolded .1)
+  its-kind = tells (drop at trace) h .1
+
+  pub its-length : lengthOf (drop at trace) ≡ header .length
+  its-length = tells (drop at trace) h .2
 
   -- the payload is not past the end
   pub within-trace : at + headerSize + header .length ≤ length trace
-  within-trace = omega (arith, its-length, length-drop at trace, leb-true (headerSize + lengthOf (drop at trace)) (length (drop at trace)) (both (leb headerSize (length (drop at trace))) _ is-whole .1))
+  within-trace = omega (arith, its-length, length-drop at trace, room (drop at trace) is-whole .1)
 
   -- the payload lies between two offsets
   its-payload : payloadOf (drop at trace) ≡ slice (at + headerSize) (at + headerSize + header .length) trace

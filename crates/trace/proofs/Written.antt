@@ -2,26 +2,22 @@
 -- Assumes nothing.
 use mathlib.Core.Path.{_≡_, _∙_, ap}
 use mathlib.Core.Bool.{true}
-use mathlib.Core.List.{List, _∷_, _++_}
+use mathlib.Core.List.{List, _++_}
 use Prim.Native.Nat.{ℕ, suc, _+_, _*_, _/_, _%_}
 use native.Mathlib.Omega.{arith}
 use borrow.Author.Tests.{le-leb}
 use lib.ListN.{length, drop, length-append}
 use lib.Seq.{take-append-seam, drop-append-seam}
-use Rattle.trace.specs.Records.{Trace, _then_, headerSize, whole, split}
+use Rattle.trace.specs.Records.{Trace, _then_, headerSize, recordBytes, whole, split}
 use Rattle.trace.proofs.Further.{traceFurther, split-further}
 use Rattle.trace.proofs.Rest.{split-whole}
-
--- a record's bytes: payload length, kind, payload; numbers of two bytes, little-endian
-abbrev pub written : ℕ → List ℕ → List ℕ
-written kind payload = length payload % 256 ∷ length payload / 256 ∷ kind % 256 ∷ kind / 256 ∷ payload
 
 two-bytes : (n : ℕ) → n % 256 + 256 * (n / 256) ≡ n
 two-bytes n = omega arith
 
 module _ (kind : ℕ) (payload rest : List ℕ) where
   abbrev bytes : List ℕ
-  bytes = written kind payload ++ rest
+  bytes = recordBytes kind payload ++ rest
 
   is-whole : whole bytes ≡ true
   is-whole = rw (two-bytes (length payload), length-append payload rest, le-leb headerSize (suc (suc (suc (suc (length payload + length rest))))) (omega arith), le-leb (headerSize + length payload) (suc (suc (suc (suc (length payload + length rest))))) (omega arith))

@@ -4,11 +4,11 @@ use mathlib.Core.Bool.{cond, not, _&&_, _||_}
 use mathlib.Core.List.{List, [], _∷_}
 use lib.Dec.{eqb}
 use Rattle.bus.specs.Numbers.{taken, readDiffers}
-use Rattle.bus.specs.Machine.{Event, dataRead}
+use Rattle.bus.specs.Chip.{Event, dataRead}
 use Rattle.bus.specs.Calls.{call}
 use Rattle.bus.specs.declared.calls.Reply.{Reply}
 use Rattle.trace.specs.Records.{split}
-use Rattle.trace.specs.Chip.{Recorded, event, readAs, theChip}
+use Rattle.trace.specs.Kinds.{Recorded, event, readAs, theChip}
 use Rattle.trace.specs.OneByOne.{Placed, scriptFrom}
 use Rattle.trace.specs.Run.{Ran, ran, stopOf}
 use Rattle.trace.specs.declared.run.Stop.{Stop}

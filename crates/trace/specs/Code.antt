@@ -1,9 +1,9 @@
 -- What the code's own types stand for.
 use Prim.Native.Nat.{ℕ}
 use mathlib.Core.List.{List}
-use Rattle.bus.specs.Machine.{Chip}
+use Rattle.bus.specs.Chip.{Chip}
 use Rattle.trace.specs.Play.{Ending, stopped, done, Played, played}
-use Rattle.trace.specs.Chip.{chipOf}
+use Rattle.trace.specs.Kinds.{chipOf}
 use Rattle.bus.specs.declared.registers.Registers.{Registers}
 use Rattle.trace.specs.declared.events.Ended.{Ended}
 use Rattle.trace.specs.declared.events.Ended.the-variants.{Done, Stopped}

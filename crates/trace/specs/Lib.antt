@@ -1,8 +1,9 @@
 pub mod Records
 pub mod Front
 pub mod Play
-pub mod Chip
+pub mod Kinds
 pub mod Code
 pub mod Run
+pub mod Given
 pub mod OneByOne
 pub mod ByCalls

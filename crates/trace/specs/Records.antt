@@ -1,5 +1,5 @@
 -- Document 01, "The trace": a trace's bytes split into records. It knows nothing of the chip.
-use Prim.Native.Nat.{ℕ, zero, suc, _+_, _*_}
+use Prim.Native.Nat.{ℕ, zero, suc, _+_, _-_, _*_, _/_, _%_}
 use mathlib.Core.Bool.{Bool, cond, _&&_}
 use mathlib.Core.List.{List, [], _∷_}
 use lib.Dec.{leb}
@@ -36,6 +36,10 @@ kindOf bytes = number bytes 2
 abbrev pub payloadOf : List ℕ → List ℕ
 payloadOf bytes = take (lengthOf bytes) (drop headerSize bytes)
 
+-- A record's bytes: payload length, kind, payload.
+abbrev pub recordBytes : ℕ → List ℕ → List ℕ
+recordBytes kind payload = length payload % 256 ∷ length payload / 256 ∷ kind % 256 ∷ kind / 256 ∷ payload
+
 -- A whole record stands first among the bytes: its header is not cut, and its payload not past the end.
 abbrev pub whole : List ℕ → Bool
 whole bytes = leb headerSize (length bytes) && leb (headerSize + lengthOf bytes) (length bytes)
@@ -44,13 +48,13 @@ whole bytes = leb headerSize (length bytes) && leb (headerSize + lengthOf bytes)
 abbrev pub recordAt : ℕ → List ℕ → Record
 recordAt offset bytes = record { kind = kindOf bytes; payload = payloadOf bytes; place = offset }
 
--- The bytes from an offset on, the first `left` of which belong to the record before. Of a record's own bytes three of its header and its payload follow the first.
+-- The bytes from an offset on, the first `passed` of which belong to the record before and are passed over. Where a record begins, the rest of its header and its payload are passed over next.
 unfoldable pub splitFrom : ℕ → ℕ → List ℕ → Trace
-splitFrom left offset [] = ended offset
-splitFrom (suc left) offset (byte ∷ bytes) = splitFrom left (offset + 1) bytes
+splitFrom passed offset [] = ended offset
+splitFrom (suc passed) offset (byte ∷ bytes) = splitFrom passed (offset + 1) bytes
 splitFrom zero offset (byte ∷ bytes) =
     let all = byte ∷ bytes in
-    cond (whole all) (recordAt offset all then splitFrom (3 + lengthOf all) (offset + 1) bytes) (cut offset)
+    cond (whole all) (recordAt offset all then splitFrom (headerSize - 1 + lengthOf all) (offset + 1) bytes) (cut offset)
 
 -- The records of a trace.
 unfoldable pub split : List ℕ → Trace

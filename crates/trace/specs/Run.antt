@@ -1,13 +1,13 @@
 -- The run of a trace on a lent state and memory: the whole outcome as one function of what is lent.
 use Prim.Native.Nat.{ℕ}
 use mathlib.Core.List.{List}
-use Rattle.bus.specs.Machine.{Chip}
+use Rattle.bus.specs.Chip.{Chip}
 use Rattle.bus.specs.Image.{asked, stored}
 use Rattle.bus.specs.declared.image.Asked.{Asked}
 use Rattle.bus.specs.declared.image.Asked.the-variants.{Found, Refused}
 use Rattle.trace.specs.Records.{split}
 use Rattle.trace.specs.Play.{Played, play}
-use Rattle.trace.specs.Chip.{chipOf, theChip}
+use Rattle.trace.specs.Kinds.{chipOf, theChip}
 use Rattle.trace.specs.declared.run.Stop.{Stop}
 
 -- What a run answers, and the state and memory that it leaves.

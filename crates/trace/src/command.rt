@@ -1,6 +1,6 @@
 // A command byte by itself.
 ghost use mathlib.Core.Path.{_≡_};
-ghost use Rattle.bus.specs.Machine.{commandByte};
+ghost use Rattle.bus.specs.Chip.{commandByte};
 ghost use Rattle.bus.specs.Calls.{called, call};
 ghost use Rattle.bus.specs.Events.{command};
 use crate::run::play;
@@ -23,7 +23,8 @@ pub fn command(state: &mut [u8], memory: &[u8], byte: u8) -> Reply
     }
 }
 
-// What a command byte answers, played as a record that has it alone; a command uses no memory.
+// What a command byte answers, played as a record that has it alone, so that the library obeys commands in one place (DECISIONS 58); a command uses no
+// memory.
 fn alone(registers: Registers, byte: u8) -> Answer
     ensures { λ r. ⌜ r ≡ command byte registers ⌝ }
 {

@@ -7,9 +7,9 @@ ghost use lib.Dec.{eqb};
 ghost use lib.ListN.{length};
 ghost use lib.Seq.{slice};
 ghost use Rattle.bus.specs.Events.{numberOf};
-ghost use Rattle.bus.specs.Machine.{resetPulse};
+ghost use Rattle.bus.specs.Chip.{resetPulse};
 ghost use Rattle.trace.specs.Play.{playEvents};
-ghost use Rattle.trace.specs.Chip.{event, command, write, readAs, theChip, chipOf};
+ghost use Rattle.trace.specs.Kinds.{event, command, write, readAs, theChip, chipOf};
 ghost use Rattle.trace.specs.Code.{endingOf, haltedOf};
 use bus::answer::After;
 use bus::answer::Answer;
@@ -138,7 +138,7 @@ fn agrees(after: After, byte: u8) -> bool
     read == byte
 }
 
-// An event that was refused: a refusal has the number of its answer.
+// An event that was refused: a refusal has the number of its answer; `let .. else` has taken what was taken.
 fn stopped(answer: Answer, offset: usize, registers: Registers) -> Progress
     ensures { λ r. ⌜ r ≡ haltedOf (numberOf answer) offset registers ⌝ }
 {

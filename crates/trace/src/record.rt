@@ -4,7 +4,7 @@ ghost use lib.ListN.{drop};
 ghost use Rattle.trace.specs.Records.{recordAt};
 ghost use Rattle.trace.specs.Front.{frontOf};
 ghost use Rattle.trace.specs.Play.{playRecord};
-ghost use Rattle.trace.specs.Chip.{theChip, chipOf};
+ghost use Rattle.trace.specs.Kinds.{theChip, chipOf};
 ghost use Rattle.trace.specs.Code.{endingOf};
 use crate::events::Progress;
 use crate::events::commands;

@@ -2,7 +2,7 @@
 ghost use mathlib.Core.Path.{_≡_};
 ghost use Rattle.trace.specs.Records.{split};
 ghost use Rattle.trace.specs.Play.{play};
-ghost use Rattle.trace.specs.Chip.{theChip, chipOf};
+ghost use Rattle.trace.specs.Kinds.{theChip, chipOf};
 ghost use Rattle.trace.specs.Code.{playedOf};
 ghost use Rattle.trace.specs.Run.{ran, run};
 use crate::events::Ended;

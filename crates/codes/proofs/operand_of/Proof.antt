@@ -1,7 +1,6 @@
 -- `codes::operand_of` meets its contract: each awaited code computes to its row, and any other has no row.
 -- Assumes nothing.
 use borrow.Author.Needs.{needs}
-use mathlib.Core.Path.{_∙_, sym}
 use Rattle.codes.specs.Table.{table, operandOf, operandBy}
 use Rattle.codes.proofs.Rows.{unawaited}
 use Rattle.codes.proofs.operand_of.Statement.{statement}

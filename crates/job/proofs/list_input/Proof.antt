@@ -10,11 +10,11 @@ use Rattle.job.specs.Job.{longestTrace, textFor}
 use Rattle.job.proofs.list_input.Statement.{statement}
 use Rattle.job.proofs.list_input.Tie as tie
 
-slice-aggregate-put-line : tie.Need-slice-aggregate-put-line
-slice-aggregate-put-line c = search needs
+slice-aggregate-put-notice : tie.Need-slice-aggregate-put-notice
+slice-aggregate-put-notice c = search needs
 
-put-line-requires : tie.Need-put-line-requires
-put-line-requires c κs = search needs
+put-notice-requires : tie.Need-put-notice-requires
+put-notice-requires c κs = search needs
 
 same-length : tie.Need-same-length
 same-length c = search needs
@@ -24,7 +24,7 @@ unfolding textFor ascii
 returns c =
     let call = c .before .before in
     let input = now (call .before .before .before .before .before .before .args .input) in
-    rw (lt-ltb longestTrace (length input) (omega arith)) (call .put-line .ensures)
+    rw (lt-ltb longestTrace (length input) (omega arith)) (call .put-notice .ensures)
 
 list-trace-requires : tie.Need-list-trace-requires
 list-trace-requires c κs = search needs
@@ -43,8 +43,8 @@ pub list-input-spec : {M : Type 1} → statement M
 list-input-spec =
     tie.close
     (tie.spec
-    slice-aggregate-put-line
-    put-line-requires
+    slice-aggregate-put-notice
+    put-notice-requires
     same-length
     returns
     list-trace-requires

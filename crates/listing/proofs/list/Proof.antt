@@ -1,4 +1,4 @@
--- `listing::list` meets its contract: measured into an empty buffer, which changes nothing, the text is written where it has room.
+-- `listing::list` meets its contract: in a buffer that is long enough for any listing the text is put at once; in another it is first measured in an empty one, which changes nothing.
 -- Assumes nothing.
 use borrow.Author.Needs.{needs}
 use Rattle.listing.proofs.list.Statement.{statement}
@@ -30,57 +30,80 @@ at-start text piece h = sets-eq piece text 0 (omega (arith, h)) ∙ rw zero-add
 returns : tie.Need-returns
 returns c = sym (frame-short _ _ _ _ (c .if1 .taken))
 
+put-listing-requires : tie.Need-put-listing-requires
+put-listing-requires c κs =
+    let start = c .before .before .before .before .before in
+    (c .before .before .if1 .left, omega (arith, at-most (start .args .number) (start .args .offset) (now (start .args .frame)) (start .fits .number .fits) (start .fits .offset .fits)))
+
+same-length : tie.Need-same-length
+same-length c = search needs
+
+returns-2 : tie.Need-returns-2
+unfolding written
+returns-2 c =
+    let put = c .before .before in
+    let test = put .before .before in
+    let start = test .before .before .before .before in
+    let text = now (start .args .text) in
+    let listing = listingOf (start .args .number) (start .args .offset) (now (start .args .frame)) in
+    let size : put .put-listing .result ≡ length listing = put .put-listing .ensures .counted ∙ zero-add (length listing) in
+    let room : length listing ≤ length text = omega (arith, test .if2 .taken, at-most (start .args .number) (start .args .offset) (now (start .args .frame)) (start .fits .number .fits) (start .fits .offset .fits)) in
+    rw (size, put .put-listing .ensures .stored, at-start text listing room) (sym (both-long _ _ _ _ (test .before .if1 .left) room))
+
 slice-relend-prefix-put-listing : tie.Need-slice-relend-prefix-put-listing
 slice-relend-prefix-put-listing c = search needs
 
 slice-aggregate-put-listing : tie.Need-slice-aggregate-put-listing
 slice-aggregate-put-listing c = search needs
 
-put-listing-requires : tie.Need-put-listing-requires
-put-listing-requires c κs =
-    let start = c .before .before .before .before in
-    (c .before .if1 .left, omega (arith, at-most (start .args .number) (start .args .offset) (now (start .args .frame)) (start .fits .number .fits) (start .fits .offset .fits)))
-
-same-length : tie.Need-same-length
-same-length c = search needs
-
-returns-2 : tie.Need-returns-2
-returns-2 c =
-    let measured = c .before .before .before in
-    let start = measured .before .before .before .before .before in
-    let same = unchanged (now (start .args .text)) (measured .put-listing .ensures) in
-    ap (outcome (Refused 1)) same ∙ sym (text-short _ _ _ _ (measured .before .before .if1 .left) (omega (arith, rw same at (c .if2 .taken), measured .put-listing .ensures .counted)))
-
 put-listing-requires-2 : tie.Need-put-listing-requires-2
-put-listing-requires-2 c κs = search needs
+put-listing-requires-2 c κs =
+    let start = c .before .before .before .before .before in
+    (c .before .before .if1 .left, omega (arith, at-most (start .args .number) (start .args .offset) (now (start .args .frame)) (start .fits .number .fits) (start .fits .offset .fits)))
 
 same-length-2 : tie.Need-same-length-2
 same-length-2 c = search needs
 
 returns-3 : tie.Need-returns-3
-unfolding written
 returns-3 c =
+    let measured = c .before .before .before in
+    let start = measured .before .before .before .before .before .before in
+    let same = unchanged (now (start .args .text)) (measured .put-listing2 .ensures) in
+    ap (outcome (Refused 1)) same ∙ sym (text-short _ _ _ _ (measured .before .before .before .if1 .left) (omega (arith, rw same at (c .if3 .taken), measured .put-listing2 .ensures .counted)))
+
+put-listing-requires-3 : tie.Need-put-listing-requires-3
+put-listing-requires-3 c κs = search needs
+
+same-length-3 : tie.Need-same-length-3
+same-length-3 c = search needs
+
+returns-4 : tie.Need-returns-4
+unfolding written
+returns-4 c =
     let put = c .before .before in
     let test = put .before .before in
     let measured = test .before .before .before in
-    let start = measured .before .before .before .before .before in
+    let start = measured .before .before .before .before .before .before in
     let text = now (start .args .text) in
     let listing = listingOf (start .args .number) (start .args .offset) (now (start .args .frame)) in
-    let same = unchanged text (measured .put-listing .ensures) in
-    let size : measured .put-listing .result ≡ length listing = measured .put-listing .ensures .counted ∙ zero-add (length listing) in
-    let room : length listing ≤ length text = omega (arith, rw same at (test .if2 .left), size) in
-    rw (size, put .put-listing2 .ensures .stored, same, at-start text listing room) (sym (both-long _ _ _ _ (measured .before .before .if1 .left) room))
+    let same = unchanged text (measured .put-listing2 .ensures) in
+    let size : measured .put-listing2 .result ≡ length listing = measured .put-listing2 .ensures .counted ∙ zero-add (length listing) in
+    let room : length listing ≤ length text = omega (arith, rw same at (test .if3 .left), size) in
+    rw (size, put .put-listing3 .ensures .stored, same, at-start text listing room) (sym (both-long _ _ _ _ (measured .before .before .before .if1 .left) room))
 
 pub list-spec : {M : Type 1} → statement M
 list-spec =
     tie.close
     (tie.spec
     returns
-    slice-relend-prefix-put-listing
-    slice-aggregate-put-listing
     put-listing-requires
     same-length
     returns-2
+    slice-relend-prefix-put-listing
+    slice-aggregate-put-listing
     put-listing-requires-2
     same-length-2
-    returns-3)
+    returns-3
+    put-listing-requires-3
+    same-length-3
+    returns-4)

@@ -4,7 +4,7 @@ use borrow.Author.Needs.{needs}
 use Rattle.bus.proofs.calls.read.Statement.{statement}
 use Rattle.bus.proofs.calls.read.Tie as tie
 use mathlib.Core.Path.{refl}
-use Rattle.bus.specs.Machine.{dataRead, step}
+use Rattle.bus.specs.Chip.{dataRead, step}
 use Rattle.bus.specs.Calls.{askedBefore}
 use Rattle.bus.proofs.Concluded.{concludes, refuses}
 

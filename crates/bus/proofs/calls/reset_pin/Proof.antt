@@ -5,7 +5,7 @@ use Rattle.bus.proofs.calls.reset_pin.Statement.{statement}
 use Rattle.bus.proofs.calls.reset_pin.Tie as tie
 use mathlib.Core.Path.{refl}
 use Rattle.bus.specs.Events.{resetPin}
-use Rattle.bus.specs.Machine.{resetPulse, step}
+use Rattle.bus.specs.Chip.{step}
 use Rattle.bus.specs.Calls.{refused, askedBefore, callOn, call}
 use Rattle.bus.proofs.Concluded.{as-concluded}
 

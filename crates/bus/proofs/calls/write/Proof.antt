@@ -3,7 +3,7 @@
 use borrow.Author.Needs.{needs}
 use Rattle.bus.proofs.calls.write.Statement.{statement}
 use Rattle.bus.proofs.calls.write.Tie as tie
-use Rattle.bus.specs.Machine.{dataWritten, step}
+use Rattle.bus.specs.Chip.{dataWritten, step}
 use Rattle.bus.specs.Calls.{askedBefore}
 use Rattle.bus.proofs.Concluded.{concludes, refuses}
 

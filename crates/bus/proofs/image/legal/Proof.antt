@@ -4,7 +4,6 @@ use borrow.Author.Needs.{needs}
 use Rattle.bus.proofs.image.legal.Statement.{statement}
 use Rattle.bus.proofs.image.legal.Tie as tie
 use borrow.Author.Tests.{eq-eqb, ne-eqb}
-use mathlib.Core.Path.{sym}
 use Rattle.bus.specs.Image.{legal}
 use Rattle.bus.proofs.Legal.{within-short}
 

@@ -8,7 +8,7 @@ use borrow.Author.Tests.{lt-ltb, le-ltb}
 use denote.Ref.{now}
 use Rattle.bus.proofs.Legal.{long}
 use Rattle.picture.specs.Draw.{draw, drawOn}
-use Rattle.picture.proofs.Asking.{found-legal}
+use Rattle.bus.proofs.Asking.{found-legal}
 
 returns : tie.Need-returns
 unfolding draw

@@ -8,7 +8,7 @@ use Prim.Native.Nat.{_+_, _-_, _*_, _/_}
 use native.Mathlib.Omega.{arith}
 use borrow.Author.Tests.{eq-eqb, ne-eqb}
 use denote.Ref.{now}
-use Rattle.picture.specs.Frame.{bits, columnOf}
+use Rattle.picture.specs.Frame.{shownBit, columnOf}
 use Rattle.picture.proofs.Lines.{line-same}
 use Rattle.picture.proofs.Bits.{page-bit}
 
@@ -49,7 +49,7 @@ same-length : tie.Need-same-length
 same-length c = search needs
 
 returns : tie.Need-returns
-unfolding bits columnOf
+unfolding shownBit columnOf
 returns c =
     let a = c .before .before .before .before .before .before .before .before .before .before .before .before .args in
     c .before .before .straight .ensures ∙ line-same 132 _ _ (λ x h. rw (eq-eqb _ _ (c .before .before .before .before .before .if1 .taken)) (page-bit (now (a .memory)) (a .row) (a .row .0 / 8 * 132 + 132 - a .row .0 / 8 * 132) x (a .registers .reverse) (omega arith)))
@@ -58,7 +58,7 @@ same-length-2 : tie.Need-same-length-2
 same-length-2 c = search needs
 
 returns-2 : tie.Need-returns-2
-unfolding bits columnOf
+unfolding shownBit columnOf
 returns-2 c =
     let a = c .before .before .before .before .before .before .before .before .before .before .before .before .args in
     c .before .before .mirrored .ensures ∙ line-same 132 _ _ (λ x h. rw (ne-eqb _ _ (c .before .before .before .before .before .if1 .left)) (page-bit (now (a .memory)) (a .row) (a .row .0 / 8 * 132 + 132 - a .row .0 / 8 * 132) (131 - x) (a .registers .reverse) (omega arith)))

@@ -6,7 +6,7 @@ use native.Mathlib.Omega.{arith}
 use borrow.Author.Tests.{eq-eqb, ne-eqb}
 use denote.Ref.{now}
 use Rattle.picture.specs.Sizes.{height}
-use Rattle.picture.specs.Frame.{segment, lighted}
+use Rattle.picture.specs.Frame.{segment, whileOn}
 use Rattle.picture.proofs.Lines.{line-same}
 use Rattle.picture.proofs.Lit.{all-lit}
 use Rattle.picture.proofs.RowRule.{ram-within}
@@ -63,7 +63,7 @@ same-length-3 : tie.Need-same-length-3
 same-length-3 c = search needs
 
 returns-3 : tie.Need-returns-3
-unfolding segment lighted
+unfolding segment whileOn
 returns-3 c =
     let d = c .before .before .before .before in
     c .before .before .fill3 .ensures ∙ line-same 132 _ _ (λ x h. rw (ne-eqb _ _ (d .before .before .before .before .before .if1 .left), ← (d .before .before .row-shows .ensures), d .enum-told .given .1))
@@ -72,7 +72,7 @@ same-length-4 : tie.Need-same-length-4
 same-length-4 c = search needs
 
 returns-4 : tie.Need-returns-4
-unfolding segment lighted
+unfolding segment whileOn
 returns-4 c =
     let d = c .before .before .before .before in
     let e = d .before .before .before in
@@ -82,7 +82,7 @@ same-length-5 : tie.Need-same-length-5
 same-length-5 c = search needs
 
 returns-5 : tie.Need-returns-5
-unfolding segment lighted
+unfolding segment whileOn
 returns-5 c =
     let d = c .before .before .before .before in
     let e = d .before .before .before in

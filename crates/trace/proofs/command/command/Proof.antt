@@ -2,7 +2,7 @@
 -- Assumes nothing.
 use borrow.Author.Needs.{needs}
 use mathlib.Core.Path.{refl}
-use Rattle.bus.specs.Machine.{commandByte, step}
+use Rattle.bus.specs.Chip.{commandByte, step}
 use Rattle.bus.specs.Calls.{askedBefore}
 use Rattle.bus.proofs.Concluded.{concludes, refuses}
 use Rattle.trace.proofs.command.command.Statement.{statement}

@@ -5,10 +5,10 @@ use mathlib.Core.List.{List}
 use Prim.Native.Nat.{ℕ, _≤_, _-_}
 use native.Mathlib.Omega.{arith}
 use lib.ListN.{length}
-use Rattle.trace.specs.Chip.{command, theChip, chipOf}
+use Rattle.trace.specs.Kinds.{command, theChip, chipOf}
 use denote.Ref.{now}
 use Rattle.bus.specs.Events.{numberOf}
-use Rattle.bus.specs.Machine.{commandByte, step}
+use Rattle.bus.specs.Chip.{commandByte, step}
 use Rattle.trace.specs.Code.{endedAt}
 use Rattle.trace.proofs.Turn.{playBytes, none-left, turn-refused, turn-given}
 use Rattle.trace.proofs.Replayed.{event-taken, event-refused}

@@ -9,8 +9,8 @@ use borrow.Author.Needs.{needs}
 use denote.Ref.{now}
 use lib.ListN.{length}
 use Rattle.bus.specs.Events.{numberOf}
-use Rattle.bus.specs.Machine.{step}
-use Rattle.trace.specs.Chip.{readAs, theChip, chipOf}
+use Rattle.bus.specs.Chip.{step}
+use Rattle.trace.specs.Kinds.{readAs, theChip, chipOf}
 use Rattle.trace.specs.Code.{endedAt}
 use Rattle.trace.proofs.Replayed.{read-agrees, read-differs, read-refused}
 use Rattle.trace.proofs.Turn.{playBytes, none-left, turn-refused, turn-given}

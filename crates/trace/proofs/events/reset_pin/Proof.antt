@@ -5,8 +5,8 @@ use Rattle.trace.proofs.events.reset_pin.Statement.{statement}
 use Rattle.trace.proofs.events.reset_pin.Tie as tie
 use mathlib.Core.Path.{refl, sym}
 use Rattle.bus.specs.Events.{numberOf}
-use Rattle.bus.specs.Machine.{resetPulse, step}
-use Rattle.trace.specs.Chip.{event, theChip}
+use Rattle.bus.specs.Chip.{resetPulse, step}
+use Rattle.trace.specs.Kinds.{event, theChip}
 use Rattle.trace.specs.Code.{endedAt}
 use Rattle.trace.proofs.Turn.{one-refused, one-given}
 use Rattle.trace.proofs.Replayed.{event-taken, event-refused}

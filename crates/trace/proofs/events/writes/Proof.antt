@@ -7,8 +7,8 @@ use borrow.Author.Needs.{needs}
 use denote.Ref.{now}
 use lib.ListN.{length}
 use Rattle.bus.specs.Events.{numberOf}
-use Rattle.bus.specs.Machine.{dataWritten, step}
-use Rattle.trace.specs.Chip.{write, theChip, chipOf}
+use Rattle.bus.specs.Chip.{dataWritten, step}
+use Rattle.trace.specs.Kinds.{write, theChip, chipOf}
 use Rattle.trace.specs.Code.{endedAt}
 use Rattle.bus.proofs.Untouched.{refused-leaves}
 use Rattle.trace.proofs.Replayed.{event-taken, event-refused}

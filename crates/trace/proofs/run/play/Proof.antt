@@ -12,7 +12,7 @@ use Rattle.trace.specs.Records.{headerSize, split}
 use Rattle.trace.specs.Front.{frontOf}
 use Rattle.trace.specs.declared.records.Front.the-variants.{Whole}
 use Rattle.trace.specs.Play.{play, playFrom}
-use Rattle.trace.specs.Chip.{theChip, chipOf}
+use Rattle.trace.specs.Kinds.{theChip, chipOf}
 use Rattle.trace.specs.Code.{endedAt, playedOf}
 use Rattle.trace.proofs.Standing.{within-trace}
 use Rattle.trace.proofs.Rest.{rest, plays-nothing, plays-cut, plays-on, plays-stop}

@@ -1,4 +1,4 @@
--- `job::put_line` meets its contract: the first i bytes are the line's, and the rest is as it was.
+-- `job::put_notice` meets its contract: the first i bytes are the line's, and the rest is as it was.
 -- Assumes nothing.
 use Prim.Native.Nat.{ℕ, _+_, _-_, _≤_, _<_}
 use mathlib.Core.Path.{_≡_, refl, _∙_, ap}
@@ -11,8 +11,8 @@ use lib.ListN.{length, take, drop, set, getD, length-append, length-drop}
 use lib.Seq.{length-take-le, take-length, take-suc, drop-cons, set-at}
 use Rattle.listing.specs.Sizes.{longestListing}
 use Rattle.job.specs.Job.{printedOf}
-use Rattle.job.proofs.put_line.Statement.{statement}
-use Rattle.job.proofs.put_line.Tie as tie
+use Rattle.job.proofs.put_notice.Statement.{statement}
+use Rattle.job.proofs.put_notice.Tie as tie
 
 -- one byte more
 more : (i : ℕ) (line text : List ℕ) → i < length line → i < length text → set (take i line ++ drop i text) i (getD line i 0) ≡ take (i + 1) line ++ drop (i + 1) text
@@ -67,8 +67,8 @@ returns-2 c =
     let e : c .before .loop .i ≡ length (now (args .line)) = omega arith in
     rw (le-ltb _ _ (c .before .before .if1 .left), c .before .loop .inv .2, e, take-length (now (args .line)))
 
-pub put-line-spec : {M : Type 1} → statement M
-put-line-spec =
+pub put-notice-spec : {M : Type 1} → statement M
+put-notice-spec =
     tie.close
     (tie.spec
     Inv-loop

@@ -1,0 +1,148 @@
+-- What an answer stands for: its number, and for what is no read byte 0 and not "dummy".
+-- Assumes nothing.
+use mathlib.Core.Path.{_≡_, refl, sym}
+use mathlib.Core.Bool.{false, cond, false≢true}
+use mathlib.Core.List.{List}
+use Prim.Native.Nat.{ℕ, _≤_, _<_}
+use native.Mathlib.Omega.{arith}
+use lib.Dec.{leb, ltb, eqb, lit≤}
+use lib.ListN.{length}
+use borrow.Author.Tests.{eqb-true, eqb-false}
+use Rattle.codes.specs.Table.{meaningOf}
+use Rattle.codes.specs.declared.Command.{Command}
+use Rattle.codes.specs.declared.Command.the-variants.{
+  ColumnLow,
+  ColumnHigh,
+  ResistorRatio,
+  PowerControl,
+  StartLine,
+  Contrast,
+  ColumnDirection,
+  Bias,
+  EntireOn,
+  Reverse,
+  Multiplex,
+  HeldByte,
+  QuarterBias,
+  IndicatorOff,
+  IndicatorMode,
+  DisplayOn,
+  Page,
+  NoPage,
+  RowDirection,
+  Offset,
+  FramePhases,
+  EnterReadModifyWrite,
+  SoftwareReset,
+  Nothing,
+  LeaveReadModifyWrite,
+  Await,
+  NotAllowed,
+  NotAwaited,
+  Outside,
+}
+use Rattle.codes.proofs.Tests.{chosen}
+use Rattle.bus.specs.Sizes.{lastColumn, pages, memorySize}
+use Rattle.bus.specs.Numbers.{taken, columnAbove}
+use Rattle.bus.specs.Events.{numberOf, obeyed, command, access, write, read, resetPin}
+use Rattle.bus.specs.Chip.{Event, commandByte, dataWritten, dataRead, resetPulse, step}
+use Rattle.bus.specs.Given.{numberOfCommand, numberOfEvent, isRead}
+use Rattle.bus.specs.declared.registers.Registers.{Registers}
+use Rattle.bus.specs.declared.answer.After.{After}
+use Rattle.bus.specs.declared.answer.Answer.{Answer}
+use Rattle.bus.specs.declared.answer.Answer.the-variants.{Taken, Refused}
+
+-- an answer stands for a number: taken for 0, or refused with it, and then it is one of 1 to 7
+abbrev pub StandsFor : ℕ → Answer → Type 0
+StandsFor number (Taken after) = number ≡ taken
+StandsFor number (Refused refusal) = (number ≡ refusal) × (taken < refusal) × (refusal ≤ columnAbove)
+
+-- a taken event that is no read answers byte 0 and not "dummy"
+abbrev pub Silent : Answer → Type 0
+Silent (Taken after) = (after .byte ≡ 0) × (after .dummy ≡ false)
+Silent (Refused number) = Unit {0}
+
+obeyed-answers : (named : Command) (r : Registers) → StandsFor (numberOfCommand named) (obeyed named r) × Silent (obeyed named r)
+unfolding obeyed
+obeyed-answers (ColumnLow value) r = (refl, (refl, refl))
+obeyed-answers (ColumnHigh value) r = (refl, (refl, refl))
+obeyed-answers (ResistorRatio value) r = (refl, (refl, refl))
+obeyed-answers (PowerControl value) r = (refl, (refl, refl))
+obeyed-answers (StartLine value) r = (refl, (refl, refl))
+obeyed-answers (Contrast value) r = (refl, (refl, refl))
+obeyed-answers (ColumnDirection value) r = (refl, (refl, refl))
+obeyed-answers (Bias value) r = (refl, (refl, refl))
+obeyed-answers (EntireOn value) r = (refl, (refl, refl))
+obeyed-answers (Reverse value) r = (refl, (refl, refl))
+obeyed-answers (Multiplex value) r = (refl, (refl, refl))
+obeyed-answers (HeldByte value) r = (refl, (refl, refl))
+obeyed-answers (QuarterBias value) r = (refl, (refl, refl))
+obeyed-answers IndicatorOff r = (refl, (refl, refl))
+obeyed-answers (IndicatorMode value) r = (refl, (refl, refl))
+obeyed-answers (DisplayOn value) r = (refl, (refl, refl))
+obeyed-answers (Page value) r = (refl, (refl, refl))
+obeyed-answers NoPage r = ((refl, lit≤ tt, lit≤ tt), tt)
+obeyed-answers (RowDirection value) r = (refl, (refl, refl))
+obeyed-answers (Offset value) r = (refl, (refl, refl))
+obeyed-answers (FramePhases value) r = (refl, (refl, refl))
+obeyed-answers EnterReadModifyWrite r = (refl, (refl, refl))
+obeyed-answers SoftwareReset r = (refl, (refl, refl))
+obeyed-answers Nothing r = (refl, (refl, refl))
+obeyed-answers LeaveReadModifyWrite r = (refl, (refl, refl))
+obeyed-answers (Await value) r = (refl, (refl, refl))
+obeyed-answers NotAllowed r = ((refl, lit≤ tt, lit≤ tt), tt)
+obeyed-answers NotAwaited r = ((refl, lit≤ tt, lit≤ tt), tt)
+obeyed-answers Outside r = ((refl, lit≤ tt, lit≤ tt), tt)
+
+abbrev Small : ℕ → Type 0
+Small number = number ≤ columnAbove
+
+-- what a data event meets is 0 or one of 1 to 7
+access-bound : (r : Registers) (size : ℕ) → access r size ≤ columnAbove
+unfolding access
+access-bound r size =
+    chosen Small (ltb size memorySize) _ _ (λ e. lit≤ tt)
+    (λ e. chosen Small (ltb (r .page) pages) _ _ (λ e. chosen Small (eqb (r .awaited) 0) _ _ (λ e. chosen Small (leb (r .column) lastColumn) _ _ (λ e. lit≤ tt) (λ e. lit≤ tt)) (λ e. lit≤ tt)) (λ e. lit≤ tt))
+
+-- an event that is taken where a number is 0 and else refused with it
+guarded : (number : ℕ) (answer : Answer) → number ≤ columnAbove → StandsFor taken answer → StandsFor number (cond (eqb number taken) answer (Refused number))
+guarded number answer h p =
+    chosen (StandsFor number) (eqb number taken) answer (Refused number)
+    (λ e. rw (eqb-true number taken e) p)
+    (λ e. (refl, omega (arith, eqb-false number taken e), h))
+
+-- the number that an event meets, at a memory of so many bytes
+abbrev pub metBy : Event → Registers → ℕ → ℕ
+metBy (commandByte b) r size = numberOfEvent (commandByte b) r
+metBy (dataWritten b) r size = access r size
+metBy dataRead r size = access r size
+metBy resetPulse r size = taken
+
+pub step-answers : (event : Event) (r : Registers) (memory : List ℕ) → StandsFor (metBy event r (length memory)) (step event r memory .answer)
+unfolding step command write read resetPin
+step-answers (commandByte b) r memory = obeyed-answers (meaningOf (r .awaited) b) _ .0
+step-answers (dataWritten b) r memory = guarded (access r (length memory)) _ (access-bound r (length memory)) refl
+step-answers dataRead r memory = guarded (access r (length memory)) _ (access-bound r (length memory)) (chosen (StandsFor taken) (eqb (r .fresh) 1) _ _ (λ e. refl) (λ e. refl))
+step-answers resetPulse r memory = refl
+
+-- every event but a read is silent
+pub command-silent : (b : ℕ) (r : Registers) → Silent (command b r)
+unfolding command
+command-silent b r = obeyed-answers (meaningOf (r .awaited) b) _ .1
+
+pub step-silent : (event : Event) (r : Registers) (memory : List ℕ) → isRead event ≡ false → Silent (step event r memory .answer)
+unfolding step write resetPin
+step-silent (commandByte b) r memory h = command-silent b r
+step-silent (dataWritten b) r memory h = chosen Silent (eqb (access r (length memory)) taken) _ _ (λ e. (refl, refl)) (λ e. tt)
+step-silent dataRead r memory h = absurd (false≢true (sym h))
+step-silent resetPulse r memory h = (refl, refl)
+
+-- an answer with 0 is taken
+pub record WasTaken (answer : Answer) : Type 0 where
+  pub after : After
+  pub is : answer ≡ Taken after
+
+pub was-taken : (number : ℕ) (answer : Answer) → StandsFor number answer → numberOf answer ≡ taken → WasTaken answer
+unfolding numberOf
+was-taken number (Taken t) s n = record { after = t; is = refl }
+was-taken number (Refused refusal) s n = absurd (omega (arith, s .1))

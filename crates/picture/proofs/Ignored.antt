@@ -1,0 +1,77 @@
+-- Drawing ignores the registers that draw nothing, and all but bit 0 of page 8's bytes: for every setting and every memory.
+-- Assumes nothing.
+use mathlib.Core.Path.{_≡_, refl, sym, _∙_, ap}
+use mathlib.Core.List.{List, [], _∷_}
+use Prim.Native.Nat.{ℕ, _/_, _%_, _^_, _≤_, _<_}
+use native.Mathlib.Omega.{arith}
+use native.Mathlib.Decide.{decLt}
+use lib.ListN.{getD, set}
+use Rattle.bus.specs.Sizes.{width}
+use Rattle.bus.specs.Places.{start, offset, multiplex, mirrored, rows, entire, reverse, on}
+use Rattle.bus.specs.Registers.{imageOf, registersOf}
+use Rattle.bus.specs.Memory.{address}
+use Rattle.bus.specs.declared.registers.Registers.{Registers}
+use Rattle.picture.specs.Sizes.{height, frameRows}
+use Rattle.picture.specs.Rows.{panelRow, comOf, used, ramRowOf, panelShows, rowShows}
+use Rattle.picture.specs.Frame.{bit, columnOf, shownBit, whileOn, segment, frame}
+use Rattle.picture.specs.Ignored.{drawNothing, DrawAlike, SameBits}
+use Rattle.picture.specs.declared.rows.RamRow.{RamRow}
+use Rattle.picture.specs.declared.rows.Shown.{Shown}
+use Rattle.picture.specs.declared.rows.Shown.the-variants.{Dark, Ram}
+use Rattle.picture.proofs.Lines.{grid-same}
+use Rattle.picture.proofs.RowRule.{ram-within}
+use Rattle.picture.proofs.Full.{column-below}
+
+-- the registers with those that draw nothing cleared
+abbrev cleared : List ℕ → List ℕ → List ℕ
+cleared [] image = image
+cleared (place ∷ places) image = cleared places (set image place 0)
+
+abbrev seen : Registers → Registers
+seen r = registersOf (cleared drawNothing (imageOf r))
+
+seen-alike : (r s : Registers) → DrawAlike r s → seen r ≡ seen s
+seen-alike r s a =
+    let by-start : r .start ≡ s .start = a start refl in
+    let by-offset : r .offset ≡ s .offset = a offset refl in
+    let by-multiplex : r .multiplex ≡ s .multiplex = a multiplex refl in
+    let by-mirrored : r .mirrored ≡ s .mirrored = a mirrored refl in
+    let by-rows : r .rows ≡ s .rows = a rows refl in
+    let by-entire : r .entire ≡ s .entire = a entire refl in
+    let by-reverse : r .reverse ≡ s .reverse = a reverse refl in
+    let by-on : r .on ≡ s .on = a on refl in
+    rw (by-start, by-offset, by-multiplex, by-mirrored, by-rows, by-entire, by-reverse, by-on)
+
+-- drawing asks no other
+segment-seen : (r : Registers) (memory : List ℕ) (shown : Shown) (x : ℕ) → segment width r memory shown x ≡ segment width (seen r) memory shown x
+unfolding segment whileOn shownBit columnOf
+segment-seen r memory Dark x = refl
+segment-seen r memory (Ram row) x = refl
+
+frame-seen : (r : Registers) (memory : List ℕ) → frame r memory ≡ frame (seen r) memory
+unfolding frame rowShows panelShows used ramRowOf comOf
+frame-seen r memory = grid-same width frameRows _ _ (λ y x l k. segment-seen r memory (rowShows height r (panelRow y)) x)
+
+-- settings that draw alike draw the same frame from every memory
+pub held-draw-nothing : (r s : Registers) → DrawAlike r s → (memory : List ℕ) → frame r memory ≡ frame s memory
+held-draw-nothing r s a memory = frame-seen r memory ∙ ap (λ seen. frame seen memory) (seen-alike r s a) ∙ sym (frame-seen s memory)
+
+-- a RAM row's bit in a column
+bit-same : (memory other : List ℕ) → SameBits memory other → (row : RamRow) (column : ℕ) → row .0 ≤ height → column < width → bit memory row column ≡ bit other row column
+unfolding bit
+bit-same memory other e row column l k = by (decLt (row .0) height)
+  where
+    by : Dec (row .0 < height) → getD memory (address (row .0 / 8) column) 0 / 2 ^ (row .0 % 8) % 2 ≡ getD other (address (row .0 / 8) column) 0 / 2 ^ (row .0 % 8) % 2
+    by (yes m) = ap (λ byte. byte / 2 ^ (row .0 % 8) % 2) (e .pages (address (row .0 / 8) column) (omega arith))
+    by (no n) =
+        let icons : row .0 ≡ 64 = omega arith in
+        rw icons (omega (arith, e .icons column k))
+
+-- memories with the same bits are drawn as the same frame by every setting
+pub rest-ignored : (r : Registers) (memory other : List ℕ) → SameBits memory other → frame r memory ≡ frame r other
+unfolding frame segment whileOn shownBit
+rest-ignored r memory other e = grid-same width frameRows _ _ (λ y x l k. place y x k (rowShows height r (panelRow y)) refl)
+  where
+    place : (y x : ℕ) → x < width → (shown : Shown) → rowShows height r (panelRow y) ≡ shown → segment width r memory (rowShows height r (panelRow y)) x ≡ segment width r other (rowShows height r (panelRow y)) x
+    place y x k Dark q = rw q
+    place y x k (Ram row) q = rw (q, bit-same memory other e row (columnOf width r x) (ram-within height r (panelRow y) (omega arith) q) (column-below width r x k))

@@ -1,0 +1,93 @@
+-- How a run of the chip stops: at a header that is cut or of no kind, or at an event of a record, after whole records that are taken.
+-- Assumes nothing.
+use mathlib.Core.Path.{_≡_, refl, sym, _∙_, ap, subst}
+use mathlib.Core.Bool.{true}
+use mathlib.Core.List.{List, []}
+use Prim.Native.Nat.{ℕ, _≤_}
+use native.Mathlib.Omega.{arith}
+use lib.ListN.{length, take, drop}
+use lib.Seq.{length-take-le}
+use Rattle.bus.specs.Numbers.{taken, columnAbove, headerCut, kindUnknown}
+use Rattle.bus.specs.Chip.{Chip}
+use Rattle.bus.specs.Image.{asked}
+use Rattle.bus.specs.declared.registers.Registers.{Registers}
+use Rattle.bus.specs.declared.image.Asked.the-variants.{Found}
+use Rattle.bus.proofs.Asking.{OneOrTwo, asked-refusal}
+use Rattle.trace.specs.Records.{whole, split}
+use Rattle.trace.specs.Play.{Played, played, playFrom, play}
+use Rattle.trace.specs.Kinds.{chipOf, theChip}
+use Rattle.trace.specs.Run.{Ran, ranOf, run}
+use Rattle.trace.specs.Given.{HeaderAt, HeaderCut, KindUnknown}
+use Rattle.trace.proofs.Rest.{rest}
+use Rattle.trace.proofs.Joined.{taken-offset}
+use Rattle.trace.proofs.First.{Reached, First, all, cutAt, stopAt, first, from-there}
+use Rattle.trace.proofs.Payloads.{by-kind}
+use Rattle.trace.proofs.Sound.{the-chip-sound}
+use Rattle.trace.proofs.Runs.{run-found, by-asking, refused-run, refused-taken}
+use Rattle.trace.proofs.Fronts.{tests-cut}
+use Rattle.trace.proofs.RecordStops.{ReadStop, RecordStop, atHeader, atEvent, atRead, record-stop}
+
+as-played : {S : Type 0} (p : Played S) {number offset : ℕ} → p .number ≡ number → p .offset ≡ offset → p ≡ played number offset (p .count) (p .state)
+as-played p a b = rw (← a, ← b)
+
+module _ (state memory trace : List ℕ) where
+  -- a header should stand at an offset: the chip that the records before it leave
+  pub record Standing (at : ℕ) : Type 0 where
+    pub registers : Registers
+    pub found : asked state memory ≡ Found registers
+    pub count : ℕ
+    pub chip : Chip
+    pub reached : Reached theChip trace (chipOf registers memory) at count chip
+
+  pub standing : (at : ℕ) → at ≤ length trace → HeaderAt state memory trace at → Standing at
+  unfolding ranOf
+  standing at l h =
+      by-asking state memory (Standing at)
+      (λ r e.
+      let p = play theChip (split (take at trace)) (chipOf r memory) in
+      let its-number : p .number ≡ taken = ap (λ (o : Ran). o .stop .number) (sym (run-found state memory r e (take at trace))) ∙ h in
+      let its-offset : p .offset ≡ at = taken-offset theChip the-chip-sound (take at trace) [] (chipOf r memory) its-number ∙ length-take-le at trace l in
+      record { registers = r; found = e; count = p .count; chip = p .state; reached = as-played p its-number its-offset })
+      (λ number e. absurd (refused-taken state memory (take at trace) number e h))
+
+  module _ (at : ℕ) (here : Standing at) where
+    pub ran-there : run state memory (take at trace) ≡ ranOf (played taken at (here .count) (here .chip)) state
+    ran-there = run-found state memory (here .registers) (here .found) (take at trace) ∙ ap (λ p. ranOf p state) (here .reached)
+
+    -- the run goes on there
+    pub ran-on : {p : Played Chip} → playFrom theChip (rest trace at) (here .count) (here .chip) ≡ p → run state memory trace ≡ ranOf p state
+    ran-on e =
+        run-found state memory (here .registers) (here .found) trace ∙
+        ap (λ p. ranOf p state) (from-there theChip the-chip-sound trace (chipOf (here .registers) memory) (here .chip) at (here .count) (here .reached) ∙ e)
+
+  -- how a run stops
+  pub data RunStop (number offset : ℕ) : Type 0 where
+    small : number ≤ columnAbove → RunStop number offset
+    whereCut : HeaderCut state memory trace offset → number ≡ headerCut → RunStop number offset
+    atItsKind : KindUnknown state memory trace offset → number ≡ kindUnknown → RunStop number offset
+    atItsRead : (at : ℕ) (here : Standing at) (d : Chip) → whole (drop at trace) ≡ true → ReadStop trace at (here .chip) number offset d → RunStop number offset
+
+  pub header-at : (at : ℕ) → Standing at → HeaderAt state memory trace at
+  unfolding ranOf
+  header-at at here = ap (λ (o : Ran). o .stop .number) (ran-there at here)
+
+  from-record : (at : ℕ) (here : Standing at) (number offset : ℕ) (d : Chip) → whole (drop at trace) ≡ true → RecordStop trace at (here .chip) number offset d → RunStop number offset
+  from-record at here number offset d w (atHeader u n o) = atItsKind (rw o (record { header = header-at at here; complete = w; unknown = u })) n
+  from-record at here number offset d w (atEvent p q) = small q
+  from-record at here number offset d w (atRead s) = atItsRead at here d w s
+
+  from-first : (r : Registers) → asked state memory ≡ Found r → {p : Played Chip} → First theChip trace (chipOf r memory) p → RunStop (p .number) (p .offset)
+  from-first r e (all n) = small (omega arith)
+  from-first r e (cutAt at count c reached some cut q) =
+      let here : Standing at = record { registers = r; found = e; count = count; chip = c; reached = reached } in
+      rw q (whereCut (record { header = header-at at here; cut = tests-cut (drop at trace) some cut }) refl)
+  from-first r e (stopAt at count c reached w number offset d stop q) =
+      let here : Standing at = record { registers = r; found = e; count = count; chip = c; reached = reached } in
+      rw q (from-record at here number offset d w (record-stop trace at c number offset d w stop (by-kind _ _)))
+
+  pub run-stop : RunStop (run state memory trace .stop .number) (run state memory trace .stop .offset)
+  unfolding ranOf
+  run-stop =
+      by-asking state memory _
+      (λ r e. rw (run-found state memory r e trace) (from-first r e (first theChip the-chip-sound trace (chipOf r memory))))
+      (λ number e. rw (refused-run state memory trace number e) (small (omega (arith, subst OneOrTwo e (asked-refusal state memory) .1))))
