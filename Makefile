@@ -53,7 +53,7 @@ HEADER   := $(OUT)/header
 BENCH    := $(OUT)/bench/bench
 
 .PHONY: tool show test compare reread calls check-tool check-traces sanitize mutants \
-        bench instructions traces oracle cross clean help
+        bench instructions traces spread oracle cross clean help
 .DELETE_ON_ERROR:
 
 tool: $(TOOL)
@@ -77,6 +77,7 @@ help:
 	@echo 'make bench         the library beside plain C: time'
 	@echo 'make instructions  the library beside plain C: executed instructions'
 	@echo 'make traces        makes traces/*/*.trace, *.list and the pack of crates/lists again'
+	@echo 'make spread        makes the table of crates/job/proofs/Spread.antt again from the oracle'
 	@echo 'make clean         removes what was made'
 	@echo 'MODEL=plain        with any of these: plain C in place of the library'
 
@@ -134,6 +135,9 @@ traces: oracle
 	traces/make.py
 	traces/list.sh $(ORACLE)
 	traces/pack.py
+
+spread: oracle
+	oracle/spread.py
 
 oracle:
 	cargo build --quiet --release --manifest-path oracle/Cargo.toml
