@@ -6,6 +6,7 @@ use Prim.Native.Nat.{ℕ, _+_}
 use native.Mathlib.Omega.{arith}
 use lib.ListN.{length, drop}
 use Rattle.bus.specs.Sizes.{imageSize, memorySize}
+use Rattle.bus.specs.Chip.{Chip}
 use Rattle.bus.specs.Numbers.{taken}
 use Rattle.bus.specs.Image.{asked, stored}
 use Rattle.bus.specs.declared.registers.Registers.{Registers}
@@ -15,10 +16,12 @@ use Rattle.bus.proofs.Asking.{OneOrTwo, asked-refusal}
 use Rattle.bus.proofs.Kept.{asked-legal}
 use Rattle.bus.proofs.Stored.{Sized, sized, stored-own, stored-again, stored-past, asked-stored}
 use Rattle.trace.specs.Records.{splitFrom, split}
-use Rattle.trace.specs.Play.{playFrom, play}
+use Rattle.trace.specs.Play.{Played, playFrom, play}
 use Rattle.trace.specs.Kinds.{chipOf, theChip}
 use Rattle.trace.specs.Run.{Ran, ran, stopOf, ranOf, runOn, run}
+use Rattle.trace.specs.Code.{playedOf}
 use Rattle.trace.specs.declared.run.Stop.{Stop}
+use Rattle.trace.specs.declared.run.Finish.{Finish}
 use Rattle.trace.proofs.Joined.{taken-offset, joined}
 use Rattle.trace.proofs.Kept.{Bytes, split-of-bytes, play-keeps}
 use Rattle.trace.proofs.Held.{Held, Brings, brings, replay-held}
@@ -33,6 +36,13 @@ pub same-run : {stated : Ran} (s t : Stop) (state state′ memory memory′ : Li
 same-run s t state state′ memory memory′ p q =
     let e = p ∙ sym q in
     (ap (λ r. r .stop) e, ap (λ r. r .state) e, ap (λ r. r .memory) e)
+
+-- and so are two that satisfy the play's
+pub same-play : {stated : Played Chip} (f g : Finish) (memory memory′ : List ℕ) → playedOf f memory ≡ stated → playedOf g memory′ ≡ stated → (f ≡ g) × (memory ≡ memory′)
+unfolding playedOf
+same-play f g memory memory′ p q =
+    let e = p ∙ sym q in
+    (rw (ap (λ r. r .number) e, ap (λ r. r .offset) e, ap (λ r. r .count) e, ap (λ r. r .state .registers) e), ap (λ r. r .state .memory) e)
 
 -- the run of a trace on a legal state and memory, which hold registers r
 module _ (state memory : List ℕ) (r : Registers) (found : asked state memory ≡ Found r) where

@@ -23,8 +23,8 @@ pub fn command(state: &mut [u8], memory: &[u8], byte: u8) -> Reply
     }
 }
 
-// What a command byte answers, played as a record that has it alone, so that the library obeys commands in one place (DECISIONS 58); a command uses no
-// memory.
+// What a command byte answers, played as a record that has it alone, so that the library obeys commands in one place (DECISIONS 58); the memory is of one
+// byte, which no command asks.
 fn alone(registers: Registers, byte: u8) -> Answer
     ensures { λ r. ⌜ r ≡ command byte registers ⌝ }
 {
