@@ -58,20 +58,25 @@ BENCH    := $(OUT)/bench/bench
 
 tool: $(TOOL)
 
+# A refused trace (status 1) is shown too; what cannot be shown (2) fails.
+show: export TRACE := $(TRACE)
 show: $(TOOL)
-	@$(RUN) $(TOOL) show $(TRACE)
+	@$(RUN) $(TOOL) show "$$TRACE" || [ $$? -eq 1 ]
 
 help:
 	@echo 'make               the tool: $(TOOL)'
 	@echo 'make show          a screen: TRACE=FILE for another trace'
-	@echo 'make test          all tests of the C side'
+	@echo 'make test          all tests of the C side: the next four'
 	@echo 'make compare       the library beside the oracle; SEED=2 TIMES=10 for more'
-	@echo 'make reread        the oracle beside the second reading, likewise'
+	@echo 'make calls         the calls that the oracle has no cases for, the header, the archive'
+	@echo 'make check-tool    the tool: what it prints, and its status'
+	@echo 'make check-traces  every trace, yours in traces/recorded too: oracle beside the tool'
+	@echo 'make reread        the oracle beside the second reading; SEED and TIMES likewise'
 	@echo 'make sanitize      the same tests with address and undefined-behaviour checks'
 	@echo 'make mutants       damaged plain C, which the comparison must catch'
 	@echo 'make bench         the library beside plain C: time'
 	@echo 'make instructions  the library beside plain C: executed instructions'
-	@echo 'make traces        makes traces/*.trace, *.list and the pack of crates/lists again'
+	@echo 'make traces        makes traces/*/*.trace, *.list and the pack of crates/lists again'
 	@echo 'make spread        makes the table of crates/job/proofs/Spread.antt again from the oracle'
 	@echo 'make clean         removes what was made'
 	@echo 'MODEL=plain        with any of these: plain C in place of the library'
@@ -92,12 +97,17 @@ calls: $(CALLS) $(SAMPLES) $(HEADER)
 	$(RUN) $(CALLS)
 	$(RUN) $(SAMPLES)
 	$(RUN) $(HEADER)
+ifeq ($(MODEL),proved)
+	CC=$(CC) NM=$(CROSS)nm host/test/library.sh $(LIBRARY) $(RUN)
+endif
 
 check-tool: $(TOOL)
 	host/test/tool.sh $(RUN) $(TOOL)
+	MAKE='$(MAKE)' host/test/makefile.sh
 
 check-traces: $(TOOL) oracle
 	traces/check.sh $(ORACLE) $(RUN) $(TOOL)
+	traces/test.sh $(ORACLE) $(RUN) $(TOOL)
 
 # The library itself is not compiled with these checks; its steps outside what
 # it is lent are seen by the rooms of host/compare/room.h.  Off x86-64 the
@@ -144,7 +154,8 @@ clean:
 
 $(LIBRARY): crates.txt $(wildcard crates/*/src/*.rt)
 	@mkdir -p target
-	@echo 'rt staticlib host'
+	@echo 'rt staticlib host: some minutes where its six crates are not proved yet;' \
+	  'target/staticlib.log has how far it is'
 	@rt staticlib host > target/staticlib.log 2>&1 || { cat target/staticlib.log; exit 1; }
 
 $(TOOL): $(call objects,host/tool/*.c) $(LINKED)

@@ -68,11 +68,13 @@ extern "C" {
 ** Sizes
 **
 ** The panel has SSD1815B_ROWS panel rows and, as one row more of the frame,
-** the icon line; SSD1815B_COLUMNS places each.  The four buffer sizes are
-** what the calls need; a buffer may be longer.
+** the icon line; SSD1815B_COLUMNS places each.  The sizes of state, memory
+** and frame are what the calls need; SSD1815B_TEXT_SIZE is enough for any
+** listing, and most are shorter.  A buffer may be longer.
 */
 #define SSD1815B_COLUMNS     132
 #define SSD1815B_ROWS         64
+#define SSD1815B_FRAME_ROWS   65  /* the panel rows and the icon line */
 #define SSD1815B_PAGES         9
 #define SSD1815B_ICON_PAGE     8  /* bit 0 of its bytes is the icon line */
 #define SSD1815B_ICON_ROW     64  /* the icon line's row of the frame */

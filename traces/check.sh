@@ -2,9 +2,9 @@
 # Runs every trace under this folder through the oracle and through the tool,
 # and compares: the listing, the number, offset and count of the run, and the
 # registers that it leaves.  A NAME.list beside a NAME.trace is compared too;
-# only a trace in recorded/ may be without one.  In refusals/ a trace is refused
-# with the number that its name begins with; in the other folders, recorded/
-# apart, all is taken, compared reads too.  Traces, listings and the stored run
+# only a trace in recorded/ that is taken may be without one.  In refusals/ a
+# trace is refused with the number that its name begins with; in the other
+# folders all is taken, compared reads too.  Traces, listings and the stored run
 # of crates/lists must be what make.py and pack.py make.
 #
 #   check.sh ORACLE TOOL...      TOOL... is the command that runs the tool
@@ -26,7 +26,7 @@ differ() {
 # and from the tool's `state`, in one form.
 oracle_outcome() { sed -n '1p; s/^state //p' "$1"; }
 tool_outcome() {
-  sed -nE 's/^run +([0-9]+) at ([0-9]+), whole records ([0-9]+)$/\1 \2 \3/p' "$1"
+  sed -nE 's/^run +[a-z]+, number ([0-9]+) at ([0-9]+), whole records ([0-9]+)$/\1 \2 \3/p' "$1"
   sed -nE 's/^image +//p' "$1"
 }
 
@@ -46,7 +46,9 @@ while IFS= read -r trace; do
 
   name=$(basename "$trace")
   case $trace in
-    */recorded/*) ;;
+    */recorded/*)
+      [[ $listed = frame* || -e ${trace%.trace}.list ]] ||
+        differ "$trace" "the model does not take this recording (the tool's show says where)" '' "${listed%%$'\n'*}" ;;
     */refusals/*)
       [[ $listed = "refused ${name%%-*} at "* ]] || differ "$trace" 'not refused by its number' '' "$listed" ;;
     *)
@@ -75,6 +77,8 @@ done < <(find "$traces" -name '*.trace' | sort)
 if command -v python3 > /dev/null; then
   "$traces/make.py" --check || failed=$((failed + 1))
   "$traces/pack.py" --check || failed=$((failed + 1))
+else
+  echo 'traces: sources and pack not compared, as there is no python3'
 fi
 
 echo "traces: $count compared, $failed differences"

@@ -1,5 +1,13 @@
 #!/usr/bin/env python3
-"""Makes each NAME.trace of this folder from its NAME.txt.
+"""Makes traces from typed sources.
+
+  make.py               each NAME.trace under this folder from its NAME.txt
+  make.py FILE.txt...   FILE.trace beside each of these
+  make.py --check       writes nothing, and fails where a trace under this
+                        folder is not what its source says
+
+A source that has a fault is answered by a line FILE:LINE: what is wrong, and
+then no trace is written.
 
 A line of a .txt is one thing of the trace; # begins a remark.  Bytes are
 hexadecimal.
@@ -13,12 +21,11 @@ hexadecimal.
   reset             a record of the reset pin
   record 0005 00    a record of this kind (two bytes, the higher first)
   bytes 01 00       bytes as they are, where a record is to be broken
-
-`make.py --check` writes nothing, and fails where a trace is not what its
-source says.
 """
 
+import os
 import pathlib
+import re
 import sys
 
 FONT = {
@@ -39,73 +46,147 @@ FONT = {
 }
 
 KINDS = {"command": 1, "write": 2, "read": 3}
+RESET_PIN = 4
+LONGEST_PAYLOAD = 65535
 
 
 def record(kind, payload):
+    """A record of a kind, its header first."""
     return len(payload).to_bytes(2, "little") + kind.to_bytes(2, "little") + payload
+
+
+def limited(count):
+    """A line has no more bytes than a record can have."""
+    if count > LONGEST_PAYLOAD:
+        raise ValueError(f"a line has at most {LONGEST_PAYLOAD} bytes, not {count}")
+
+
+def number(word, digits):
+    """The number that so many hexadecimal digits are."""
+    if not re.fullmatch(f"[0-9A-Fa-f]{{{digits}}}", word):
+        raise ValueError(f"{word!r} is not {digits} hexadecimal digits")
+    return int(word, 16)
+
+
+def repeats(words):
+    """The N of `x N`, from 1 to 65,535."""
+    if len(words) != 1 or not re.fullmatch("[0-9]{1,5}", words[0]) or not 1 <= int(words[0]) <= LONGEST_PAYLOAD:
+        raise ValueError(f"x wants one number from 1 to {LONGEST_PAYLOAD} after it, and nothing else")
+    return int(words[0])
 
 
 def hexadecimal(words):
     """Bytes, or bytes and `x N`."""
     times = 1
-    if len(words) > 2 and words[-2] == "x":
-        times = int(words[-1])
-        words = words[:-2]
-    if any(len(word) != 2 for word in words):
-        raise ValueError("a byte has two digits")
-    return bytes(int(word, 16) for word in words) * times
+    if "x" in words:
+        place = words.index("x")
+        if place == 0:
+            raise ValueError("x wants bytes before it")
+        times = repeats(words[place + 1:])
+        words = words[:place]
+    limited(len(words) * times)
+    return bytes(number(word, 2) for word in words) * times
 
 
 def letters(text):
-    return b"".join(bytes.fromhex(FONT[letter]) + b"\0" for letter in text)
+    """The columns of a text."""
+    for letter in text:
+        if letter not in FONT:
+            raise ValueError(f"no letter for {letter!r}: capitals, digits, - . : and space")
+    columns = b"".join(bytes.fromhex(FONT[letter]) + b"\0" for letter in text)
+    limited(len(columns))
+    return columns
 
 
 def part(line):
     """The bytes of one line."""
-    word, _, rest = line.partition(" ")
+    word, _, rest = line.replace("\t", " ").partition(" ")
     words = rest.split()
     if word in KINDS:
         return record(KINDS[word], hexadecimal(words))
     if word == "text":
         return record(KINDS["write"], letters(rest))
-    if word == "reset" and not words:
-        return record(4, b"")
+    if word == "reset":
+        if words:
+            raise ValueError("reset stands alone")
+        return record(RESET_PIN, b"")
     if word == "record":
-        return record(int(words[0], 16), hexadecimal(words[1:]))
+        if not words:
+            raise ValueError("record wants a kind, 4 hexadecimal digits")
+        return record(number(words[0], 4), hexadecimal(words[1:]))
     if word == "bytes":
         return hexadecimal(words)
-    raise ValueError("no such thing")
+    raise ValueError(f"a line begins with command, write, text, read, reset, record or bytes, not {word!r}")
+
+
+def line_part(raw):
+    """The bytes of one line as it stands in the file, none for a remark."""
+    try:
+        line = raw.decode("utf-8-sig").partition("#")[0].strip()
+    except UnicodeDecodeError as fault:
+        raise ValueError(f"not UTF-8: byte {fault.object[fault.start]:02X}") from fault
+    return part(line) if line else b""
 
 
 def trace(source):
-    result = b""
-    for number, line in enumerate(source.read_text().splitlines(), 1):
-        line = line.partition("#")[0].strip()
-        if line:
-            try:
-                result += part(line)
-            except (ValueError, KeyError, IndexError) as fault:
-                sys.exit(f"{source}:{number}: {line}: {fault}")
-    return result
+    """The bytes of a source, and a line for each of its faults."""
+    made, faults = b"", []
+    for place, raw in enumerate(source.read_bytes().splitlines(), 1):
+        try:
+            made += line_part(raw)
+        except ValueError as fault:
+            faults.append(f"{source}:{place}: {fault}")
+    return made, faults
+
+
+def sources_of(arguments):
+    """The sources that are named, or else all under this folder."""
+    for name in arguments:
+        if name == "--check":
+            sys.exit("make.py: --check stands alone")
+        if name.startswith("-"):
+            sys.exit(f"make.py: no such option: {name}\nmake.py --help says more")
+        if not name.endswith(".txt"):
+            sys.exit(f"make.py: {name}: a source is named FILE.txt")
+    if arguments:
+        return [pathlib.Path(name) for name in arguments]
+    return sorted(pathlib.Path(os.path.relpath(source)) for source in pathlib.Path(__file__).parent.glob("*/*.txt"))
+
+
+def differing(traces):
+    """How many traces are not what their sources say; a line for each."""
+    wrong = 0
+    for target, made in traces.items():
+        if not target.exists() or target.read_bytes() != made:
+            wrong += 1
+            print(f"{target} is not what its source says: `make traces` makes it again")
+    return wrong
 
 
 def main(arguments):
-    if arguments not in ([], ["--check"]):
-        sys.exit(__doc__)
-    here = pathlib.Path(__file__).resolve().parent
-    sources = sorted(here.glob("*/*.txt"))
-    wrong = 0
+    if "--help" in arguments or "-h" in arguments:
+        print(__doc__, end="")
+        return 0
+    checked = arguments == ["--check"]
+    sources = sources_of([] if checked else arguments)
+    traces, faults = {}, []
     for source in sources:
-        target = source.with_suffix(".trace")
-        made = trace(source)
-        if not arguments:
+        traces[source.with_suffix(".trace")], found = trace(source)
+        faults += found
+    if faults:
+        sys.exit("\n".join(faults))
+    wrong = 0
+    if checked:
+        wrong = differing(traces)
+    else:
+        for target, made in traces.items():
             target.write_bytes(made)
-        elif not target.exists() or target.read_bytes() != made:
-            wrong += 1
-            print(f"{target.relative_to(here)} is not what its source says")
     print(f"traces: {len(sources)} sources, {wrong} wrong")
     return 0 if sources and wrong == 0 else 1
 
 
 if __name__ == "__main__":
-    sys.exit(main(sys.argv[1:]))
+    try:
+        sys.exit(main(sys.argv[1:]))
+    except OSError as failure:
+        sys.exit(f"make.py: {failure.filename}: {failure.strerror}")

@@ -16,7 +16,16 @@ import sys
 
 
 def entry(name, trace):
+    """A trace as it stands in a pack."""
     return len(name).to_bytes(4, "little") + len(trace).to_bytes(4, "little") + name + trace
+
+
+def listing(here, name):
+    """NAME.list; says so where it is missing."""
+    path = here / f"{name}.list"
+    if not path.exists():
+        sys.exit(f"traces/{name}.list is missing: `make traces` makes it")
+    return path.read_bytes()
 
 
 def stored_run(here):
@@ -26,7 +35,7 @@ def stored_run(here):
                    for path in here.glob("*/*.trace") if path.parent.name != "recorded")
     for name in names:
         pack += entry(name.encode(), (here / f"{name}.trace").read_bytes())
-        listed += b"trace %b\n" % name.encode() + (here / f"{name}.list").read_bytes()
+        listed += b"trace %b\n" % name.encode() + listing(here, name)
     listed += b"%d traces\n" % len(names)
     return {"stdin": pack, "stdout": listed}
 

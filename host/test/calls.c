@@ -12,8 +12,12 @@
 
 _Static_assert(SSD1815B_MEMORY_SIZE == SSD1815B_PAGES * SSD1815B_COLUMNS,
                "132 bytes to a page");
-_Static_assert(SSD1815B_FRAME_SIZE == (SSD1815B_ROWS + 1) * SSD1815B_COLUMNS,
+_Static_assert(SSD1815B_FRAME_ROWS == SSD1815B_ROWS + 1,
                "the panel rows and the icon line");
+_Static_assert(SSD1815B_ICON_ROW == SSD1815B_FRAME_ROWS - 1,
+               "the icon line is the last row");
+_Static_assert(SSD1815B_FRAME_SIZE == SSD1815B_FRAME_ROWS * SSD1815B_COLUMNS,
+               "132 places to a row");
 _Static_assert(SSD1815B_STATE_SIZE == SSD1815B_FRESH + 1,
                "fresh is the last of the image");
 

@@ -5,42 +5,11 @@
 set -euo pipefail
 
 tool=("$@")
-here=$(mktemp -d)
-trap 'rm -rf "$here"' EXIT
-failed=0
-made=0
+# shellcheck source=host/test/checks.sh
+. "$(dirname "$0")/checks.sh"
 
-# Runs the tool on what stands on standard input; keeps all that it answers.
-run() {
-  status=0
-  "${tool[@]}" "$@" > "$here/out" 2> "$here/err" || status=$?
-}
-
-# check WHAT CONDITION...: a condition that must hold.
-check() {
-  local what=$1
-  shift
-  made=$((made + 1))
-  if ! "$@"; then
-    failed=$((failed + 1))
-    echo "tool: not so: $what" >&2
-    head -c 2000 "$here/out" | LC_ALL=C cat -v | sed 's/^/  out: /' >&2
-    sed 's/^/  err: /' "$here/err" >&2
-  fi
-}
-
-status_is() { [ "$status" -eq "$1" ]; }
-out_is() { [ "$(cat "$here/out")" = "$1" ]; }
-out_has() { grep -qxF -- "$1" "$here/out"; }
-line_is() { [ "$(sed -n "$1p" "$here/out")" = "$2" ]; }
-err_has() { grep -qF -- "$1" "$here/err"; }
-nothing_on() { [ ! -s "$here/$1" ]; }
-
-# bytes HEX...: those bytes.
-bytes() {
-  local byte
-  for byte in "$@"; do printf '%b' "\\x$byte"; done
-}
+# Runs the tool on what stands on standard input.
+run() { ran "${tool[@]}" "$@"; }
 
 sample=(01 00 01 00 AF 02 00 02 00 03 01)
 
@@ -85,23 +54,40 @@ says() {
   check "refused: status 1 ($words)" status_is 1
   check "refused: $words" err_has "$words"
 }
-says 'refused 3 at 4: a command byte outside the table' 01 00 01 00 30
-says 'refused 4 at 5: B9 to BF name no page' 02 00 01 00 AF B9
-says 'refused 5 at 5: n of D3 or D4 not allowed' 02 00 01 00 D3 40
+says 'refused 3 at 4 (0x4): a command byte outside the table' 01 00 01 00 30
+says 'refused 4 at 5 (0x5): B9 to BF name no page' 02 00 01 00 AF B9
+says 'refused 5 at 5 (0x5): n of D3 or D4 not allowed' 02 00 01 00 D3 40
 says 'awaited is the n of D3' 02 00 01 00 D3 40
-says 'refused 6 at 9: a data write or read while a code is awaited' 01 00 01 00 81 01 00 02 00 00
+says 'refused 6 at 9 (0x9): a data write or read while a code is awaited' 01 00 01 00 81 01 00 02 00 00
 says 'awaited is the n of 81' 01 00 01 00 81 01 00 02 00 00
-says 'refused 7 at 10: a data write or read with column above 131' 02 00 01 00 0F 18 01 00 02 00 AA
+says 'refused 7 at 10 (0xA): a data write or read with column above 131' 02 00 01 00 0F 18 01 00 02 00 AA
 says 'the column is 143' 02 00 01 00 0F 18 01 00 02 00 AA
-says 'refused 8 at 0: one to three bytes left' 01 00 01
+says 'refused 8 at 0 (0x0): one to three bytes left' 01 00 01
 says 'left for a header of 4 bytes: 3' 01 00 01
 says 'the header says 513 bytes of payload; left: 1' 01 02 01 00 AF
-says 'refused 9 at 5: kind not 1 to 4' 01 00 01 00 AF 00 00 05 00
+says 'the header says 1 byte of payload; left: 0' 01 00 01 00
+says 'refused 9 at 5 (0x5): kind not 1 to 4' 01 00 01 00 AF 00 00 05 00
 says 'the header says kind 257, 0 bytes of payload' 00 00 01 01
-says 'refused 10 at 12: a compared read differs' 03 00 02 00 11 22 33 02 00 03 00 00 07
+says 'the header says kind 0, 1 byte of payload' 01 00 00 00 AF
+says 'refused 10 at 12 (0xC): a compared read differs' 03 00 02 00 11 22 33 02 00 03 00 00 07
 says 'recorded is 07, the model reads 00 (hex), at page 0, column 3' 03 00 02 00 11 22 33 02 00 03 00 00 07
-says 'record 1, data read, 2 bytes from 11; byte 1 of them is 07 (hex)' 03 00 02 00 11 22 33 02 00 03 00 00 07
-says 'bytes from 7 (hex): 02 00 03 00 00 [07]' 03 00 02 00 11 22 33 02 00 03 00 00 07
+says 'record 1, data read, payload of 2 bytes from 11, its byte 1 is 07 (hex)' 03 00 02 00 11 22 33 02 00 03 00 00 07
+says 'record 0, command bytes, payload of 1 byte from 4, its byte 0 is 30 (hex)' 01 00 01 00 30
+
+# shows WORDS BYTES...: the last line, whole.
+shows() {
+  says "$@"
+  check "refused: the line is no longer than '$1'" [ "$(tail -n 1 "$here/err")" = "  $1" ]
+}
+shows 'in hex, from byte 7 (0x7) on: 02 00 03 00 00 [07]' 03 00 02 00 11 22 33 02 00 03 00 00 07
+shows 'in hex, from byte 0 (0x0) on: 02 00 01 00 [30] AF' 02 00 01 00 30 AF 03 00 01 00
+shows 'in hex, from byte 5 (0x5) on: [00] 00 05 00' 01 00 01 00 AF 00 00 05 00 11 22
+shows 'in hex, from byte 0 (0x0) on: [01] 00 01' 01 00 01
+shows 'in hex, from byte 0 (0x0) on: [01] 02 01 00 AF' 01 02 01 00 AF
+mapfile -t stripes < <(printf 'AE\nAF\n%.0s' {1..13})
+says 'refused 3 at 30 (0x1E): a command byte outside the table' 34 00 01 00 "${stripes[@]}" 30 "${stripes[@]:1}"
+shows 'in hex, from byte 18 (0x12) on: AE AF AE AF AE AF AE AF AE AF AE AF [30] AF AE AF AE AF AE AF AE AF AE AF' \
+  34 00 01 00 "${stripes[@]}" 30 "${stripes[@]:1}"
 
 # ---- show ----
 
@@ -112,7 +98,7 @@ check 'show: 32 lines of panel rows, 1 of icons, 3 edges' [ "$(wc -l < "$here/ou
 check 'show: rows 0 and 1' line_is 2 "│█▀$(printf '%130s' '')│"
 run show < <(bytes 03 00 01 00 A5 AF B9)
 check 'show: a refused run, status 1' status_is 1
-check 'show: the place in words' out_has 'refused 4 at 6: B9 to BF name no page'
+check 'show: the place in words' out_has 'refused 4 at 6 (0x6): B9 to BF name no page'
 check 'show: the icon line apart' line_is 35 "│$blocks│"
 
 # ---- picture ----
@@ -140,19 +126,33 @@ check 'state: multiplex' out_has 'multiplex          15, 16 rows in use'
 check 'state: awaited code' out_has 'awaited code       D3'
 check 'state: standby' out_has 'power save         standby'
 check 'state: image' out_has 'image              000000000F2004000000000000000100000102D3000001'
-check 'state: run' out_has 'run                0 at 10, whole records 1'
+check 'state: run' out_has 'run                taken, number 0 at 10, whole records 1'
 run state < <(bytes 01 00 01 00 A5)
 check 'state: sleep' out_has 'power save         sleep'
 run state < <(bytes 03 00 01 00 A5 AF B9)
 check 'state: no power save with display on' out_has 'power save         no'
 check 'state: refused, status 1' status_is 1
-check 'state: refused, in words' out_has 'refused 4 at 6: B9 to BF name no page'
+check 'state: refused run' out_has 'run                refused, number 4 at 6, whole records 0'
+check 'state: refused, in words' out_has 'refused 4 at 6 (0x6): B9 to BF name no page'
 
 # ---- command line and errors ----
 
-run --help
-check '--help: status 0' status_is 0
-check '--help: on standard output' grep -q '^usage: ssd1815b' "$here/out"
+# helps ARGUMENTS...: the help, and nothing else.
+helps() {
+  run "$@" < /dev/null
+  check "help: status 0 ($*)" status_is 0
+  check "help: on standard output ($*)" grep -q '^usage: ssd1815b' "$here/out"
+  check "help: nothing on standard error ($*)" nothing_on err
+}
+helps --help
+helps -h
+helps help
+helps --help x
+helps show --help
+helps list -h
+helps picture --scale --help
+run list help < /dev/null
+check 'help: elsewhere it is a trace' err_has 'cannot open help'
 wrong() {
   local words=$1
   shift
@@ -163,7 +163,8 @@ wrong() {
 }
 wrong 'no command'
 wrong 'no such command: print' print
-wrong 'no such option: --scale' list --scale 2
+wrong 'no such option: --scales' picture --scales 2
+wrong '--scale is for picture alone' list --scale 2
 wrong '--scale needs a number' picture --scale
 wrong 'a scale is a number from 1 to 64, not 0' picture --scale 0
 wrong 'a scale is a number from 1 to 64, not 65' picture --scale 65
@@ -178,5 +179,4 @@ if [ -e /dev/full ]; then
   check 'output that fails: said' err_has 'cannot write standard output'
 fi
 
-echo "tool: $made checks, $failed failed"
-[ "$made" -gt 0 ] && [ "$failed" -eq 0 ]
+checks_end tool

@@ -52,12 +52,14 @@ struct options {
   unsigned scale;
 };
 
+/* Says what is wrong with the command line; answers false. */
 static bool wrong(const char *why, const char *what)
 {
   fprintf(stderr, "ssd1815b: %s%s\nssd1815b --help says more\n", why, what);
   return false;
 }
 
+/* The number of --scale, or says that it is none. */
 static bool scale_of(const char *text, unsigned *scale)
 {
   char *end;
@@ -70,6 +72,7 @@ static bool scale_of(const char *text, unsigned *scale)
   return true;
 }
 
+/* The command of that name, or says that there is none. */
 static bool command_of(const char *text, enum command *command)
 {
   for (int i = 0; i < COMMANDS; i++) {
@@ -81,6 +84,18 @@ static bool command_of(const char *text, enum command *command)
   return wrong("no such command: ", text);
 }
 
+/* Help is asked for: by its options anywhere, or as the command. */
+static bool help_wanted(int argc, char **argv)
+{
+  for (int i = 1; i < argc; i++) {
+    if (strcmp(argv[i], "--help") == 0 || strcmp(argv[i], "-h") == 0) {
+      return true;
+    }
+  }
+  return argc > 1 && strcmp(argv[1], "help") == 0;
+}
+
+/* The command line, or says what is wrong with it. */
 static bool options_of(int argc, char **argv, struct options *options)
 {
   *options = (struct options){ LIST, NULL, USUAL_SCALE };
@@ -91,7 +106,10 @@ static bool options_of(int argc, char **argv, struct options *options)
     return false;
   }
   for (int i = 2; i < argc; i++) {
-    if (strcmp(argv[i], "--scale") == 0 && options->command == PICTURE) {
+    if (strcmp(argv[i], "--scale") == 0) {
+      if (options->command != PICTURE) {
+        return wrong("--scale is for picture alone", "");
+      }
       if (++i == argc) {
         return wrong("--scale needs a number", "");
       }
@@ -120,6 +138,7 @@ static bool written(void)
   return true;
 }
 
+/* Lists as document 01's program does; answers the status. */
 static int list(const struct input *input)
 {
   static struct played played;
@@ -135,6 +154,7 @@ static int list(const struct input *input)
   return outcome == LISTING_TAKEN ? TAKEN : REFUSED;
 }
 
+/* The other commands; answers the status. */
 static int draw_or_tell(const struct options *options,
                         const struct input *input)
 {
@@ -157,7 +177,7 @@ static int draw_or_tell(const struct options *options,
 
 int main(int argc, char **argv)
 {
-  if (argc == 2 && strcmp(argv[1], "--help") == 0) {
+  if (help_wanted(argc, argv)) {
     fputs(usage, stdout);
     return written() ? TAKEN : FAILED;
   }

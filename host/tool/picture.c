@@ -33,7 +33,7 @@ static void put_row(FILE *out, const uint8_t *row, unsigned scale)
 void picture(FILE *out, const struct played *played, unsigned scale)
 {
   fprintf(out, "P4\n%u %u\n", SSD1815B_COLUMNS * scale,
-          (SSD1815B_ROWS + GAP + 1) * scale);
+          (SSD1815B_FRAME_ROWS + GAP) * scale);
   for (size_t row = 0; row < SSD1815B_ROWS; row++) {
     put_row(out, played->frame + row * SSD1815B_COLUMNS, scale);
   }

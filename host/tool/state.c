@@ -51,7 +51,8 @@ void state(FILE *out, const struct played *played)
   for (int place = 0; place < SSD1815B_STATE_SIZE; place++) {
     fprintf(out, "%02X", played->state[place]);
   }
-  fprintf(out, "\n%-18s %u at %zu, whole records %zu\n", "run", played->number,
-          played->offset, played->count);
+  fprintf(out, "\n%-18s %s, number %u at %zu, whole records %zu\n", "run",
+          played->number == SSD1815B_TAKEN ? "taken" : "refused",
+          played->number, played->offset, played->count);
   stop_print(out, played);
 }

@@ -68,6 +68,26 @@ static const char *kind_name(size_t kind)
   return names[kind <= RESET_PIN ? kind : 0];
 }
 
+/* The ending of a noun of which there are so many. */
+static const char *plural(size_t count)
+{
+  return count == 1 ? "" : "s";
+}
+
+/* The recorded byte beside the one that the model reads. */
+static void print_read(FILE *out, const struct played *played)
+{
+  uint8_t after[SSD1815B_STATE_SIZE];
+  uint8_t byte;
+  uint8_t dummy;
+  memcpy(after, played->state, sizeof after);
+  ssd1815b_read(after, sizeof after, played->memory, sizeof played->memory,
+                &byte, &dummy);
+  fprintf(out, "  recorded is %02X, the model reads %02X (hex), at page %u,"
+          " column %u\n", played->trace[played->offset], byte,
+          played->state[SSD1815B_PAGE], played->state[SSD1815B_COLUMN]);
+}
+
 /* What the model holds there, where that tells more than the number. */
 static void print_particulars(FILE *out, const struct played *played,
                               struct record record)
@@ -87,41 +107,55 @@ static void print_particulars(FILE *out, const struct played *played,
     if (left < HEADER_SIZE) {
       fprintf(out, "  left for a header of 4 bytes: %zu\n", left);
     } else {
-      fprintf(out, "  the header says %zu bytes of payload; left: %zu\n",
-              record.length, left - HEADER_SIZE);
+      fprintf(out, "  the header says %zu byte%s of payload; left: %zu\n",
+              record.length, plural(record.length), left - HEADER_SIZE);
     }
     break;
   case SSD1815B_KIND_UNKNOWN:
-    fprintf(out, "  the header says kind %zu, %zu bytes of payload\n",
-            record.kind, record.length);
+    fprintf(out, "  the header says kind %zu, %zu byte%s of payload\n",
+            record.kind, record.length, plural(record.length));
     break;
-  case SSD1815B_READ_DIFFERS: {
-    uint8_t after[SSD1815B_STATE_SIZE];
-    uint8_t byte;
-    uint8_t dummy;
-    memcpy(after, state, sizeof after);
-    ssd1815b_read(after, sizeof after, played->memory, sizeof played->memory,
-                  &byte, &dummy);
-    fprintf(out, "  recorded is %02X, the model reads %02X (hex), at page %u,"
-            " column %u\n", played->trace[played->offset], byte,
-            state[SSD1815B_PAGE], state[SSD1815B_COLUMN]);
+  case SSD1815B_READ_DIFFERS:
+    print_read(out, played);
     break;
-  }
   default:
     break;
   }
 }
 
-/* The bytes around the place, with a mark on either side of the place's. */
+/* The record, and the place in it. */
+static void print_place(FILE *out, const struct played *played,
+                        struct record record)
+{
+  if (played->number == SSD1815B_HEADER_CUT
+      || played->number == SSD1815B_KIND_UNKNOWN) {
+    fprintf(out, "  record %zu, its header", played->count);
+  } else {
+    fprintf(out, "  record %zu, %s, payload of %zu byte%s from %zu, its byte"
+            " %zu is %02X (hex)", played->count, kind_name(record.kind),
+            record.length, plural(record.length), record.first + HEADER_SIZE,
+            played->offset - record.first - HEADER_SIZE,
+            played->trace[played->offset]);
+  }
+  fprintf(out, "; records and bytes count from 0\n");
+}
+
+/* The bytes of the record around the place, with a mark on either side of the
+** place's. */
 static void print_bytes(FILE *out, const struct played *played,
                         struct record record)
 {
   enum { AROUND = 12 };
   size_t place = played->offset;
   size_t from = place - record.first > AROUND ? place - AROUND : record.first;
-  size_t to = played->trace_len - place > AROUND ? place + AROUND
-                                                 : played->trace_len;
-  fprintf(out, "  bytes from %zu (hex):", from);
+  size_t to = record.first + HEADER_SIZE + record.length;
+  if (to > played->trace_len) {
+    to = played->trace_len;
+  }
+  if (to - place > AROUND) {
+    to = place + AROUND;
+  }
+  fprintf(out, "  in hex, from byte %zu (0x%zX) on:", from, from);
   for (size_t i = from; i < to; i++) {
     fprintf(out, i == place ? " [%02X]" : " %02X", played->trace[i]);
   }
@@ -134,19 +168,9 @@ void stop_print(FILE *out, const struct played *played)
     return;
   }
   struct record record = record_at(played);
-  fprintf(out, "refused %u at %zu: %s\n", played->number, played->offset,
-          meaning(played->number));
+  fprintf(out, "refused %u at %zu (0x%zX): %s\n", played->number,
+          played->offset, played->offset, meaning(played->number));
   print_particulars(out, played, record);
-  if (played->number == SSD1815B_HEADER_CUT
-      || played->number == SSD1815B_KIND_UNKNOWN) {
-    fprintf(out, "  record %zu, its header", played->count);
-  } else {
-    fprintf(out, "  record %zu, %s, %zu bytes from %zu; byte %zu of them is"
-            " %02X (hex)", played->count, kind_name(record.kind), record.length,
-            record.first + HEADER_SIZE,
-            played->offset - record.first - HEADER_SIZE,
-            played->trace[played->offset]);
-  }
-  fprintf(out, "; records and bytes count from 0\n");
+  print_place(out, played, record);
   print_bytes(out, played, record);
 }

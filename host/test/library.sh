@@ -1,0 +1,46 @@
+#!/usr/bin/env bash
+# Tests of the archive by itself, as host/README.md has it: what it needs of
+# others, and the line that links a program of one's own.
+#
+#   CC=COMPILER NM=NM library.sh LIBRARY [RUN...]      RUN... runs a program
+set -euo pipefail
+
+library=$1
+run=("${@:2}")
+# shellcheck source=host/test/checks.sh
+. "$(dirname "$0")/checks.sh"
+readme=$(dirname "$0")/../README.md
+
+# What the archive's objects leave to others.
+needed() { "$NM" -u "$library" | awk '$1 == "U" { print $2 }' | sort -u; }
+
+ran needed
+check 'the library needs memset and nothing else' out_is memset
+# shellcheck disable=SC2016  # backquotes of the text
+check 'host/README.md says so' grep -qF 'needs `memset` and nothing else' "$readme"
+
+cat > "$here/mine.c" <<'END'
+#include "ssd1815b.h"
+
+int main(void)
+{
+  uint8_t state[SSD1815B_STATE_SIZE];
+  uint8_t memory[SSD1815B_MEMORY_SIZE];
+  uint8_t frame[SSD1815B_FRAME_ROWS * SSD1815B_COLUMNS];
+
+  ssd1815b_start(state, sizeof state, memory, sizeof memory);
+  ssd1815b_command(state, sizeof state, memory, sizeof memory, 0xAF);
+  ssd1815b_write(state, sizeof state, memory, sizeof memory, 0x03);
+  ssd1815b_draw(state, sizeof state, memory, sizeof memory, frame, sizeof frame);
+  return frame[0] == 1 && frame[SSD1815B_COLUMNS] == 1 ? 0 : 1;
+}
+END
+line=$(sed -n 's/^    gcc \(.*\)$/\1/p' "$readme")
+check 'host/README.md has the line' [ -n "$line" ]
+read -ra words <<< "${line/mine.c/$here/mine.c}"
+ran "$CC" "${words[@]}" -o "$here/mine"
+check 'the line links' status_is 0
+ran "${run[@]}" "$here/mine"
+check 'rows 0 and 1 are lit at their first place' status_is 0
+
+checks_end library
