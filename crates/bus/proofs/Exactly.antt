@@ -1,14 +1,14 @@
 -- Document 01, "Numbers given": a single event's call gives each number exactly when the table says so, with the byte and the dummy mark that it says.
 -- Assumes nothing.
 use mathlib.Core.Path.{_≡_, refl, sym, _∙_, ap, subst}
-use mathlib.Core.Bool.{Bool, true, false, cond, not, _&&_, false≢true}
+use mathlib.Core.Bool.{Bool, true, false, cond, not, _&&_, _||_, false≢true}
 use mathlib.Core.Logic.{_↔_, ⊎-elim}
 use mathlib.Core.List.{List, [], _∷_}
-use Prim.Native.Nat.{ℕ, _<_}
+use Prim.Native.Nat.{ℕ, _≤_, _<_}
 use native.Mathlib.Omega.{arith}
 use lib.Dec.{leb, eqb, lit<}
 use lib.ListN.{length, getD}
-use borrow.Author.Tests.{le-ltb, lt-ltb, eqb-true, eqb-false, not-false}
+use borrow.Author.Tests.{le-ltb, lt-ltb, eqb-true, not-false}
 use Rattle.codes.specs.OneOf.{oneOf}
 use Rattle.codes.specs.Table.{Row, one, two, table, offsetOf, framePhasesOf, commandBy, commandOf, operandBy, operandOf, meaningOf}
 use Rattle.codes.specs.declared.Command.{Command}
@@ -30,7 +30,7 @@ use Rattle.bus.specs.declared.image.Asked.{Asked}
 use Rattle.bus.specs.declared.image.Asked.the-variants.{Found}
 use Rattle.bus.specs.declared.calls.Reply.{Reply}
 use Rattle.bus.proofs.Legal.{long}
-use Rattle.bus.proofs.Kept.{bound, state-facts}
+use Rattle.bus.proofs.Kept.{LegalRegisters, bound, state-facts}
 use Rattle.bus.proofs.Asking.{OneOrTwo, before-refusal}
 use Rattle.bus.proofs.Answers.{StandsFor, Silent, metBy, step-answers, step-silent, was-taken}
 
@@ -73,14 +73,16 @@ ranged true t r = refl
 ranged false true r = refl
 ranged false false r = refl
 
--- in a legal state, and with a memory that is long enough, a data event meets 6 or 7 or is taken
-access-number : (state memory : List ℕ) → short state memory ≡ false → not (legal state) ≡ false → access (registersOf state) (length memory) ≡ numberOfEvent dataRead (registersOf state)
+-- with legal registers and a memory that is long enough, a data event meets 6 or 7 or is taken
+access-number : (r : Registers) (size : ℕ) → LegalRegisters r → memorySize ≤ size → access r size ≡ numberOfEvent dataRead r
 unfolding access largestValues
-access-number state memory p q =
-    let lengths = long state memory p in
-    let r = registersOf state in
-    let page : r .page < pages = omega (arith, bound r (state-facts state (lengths .0) (not-false (legal state) q)) 0 (lit< tt)) in
-    rw (le-ltb (length memory) memorySize (lengths .1), lt-ltb (r .page) pages page)
+access-number r size l m =
+    let page : r .page < pages = omega (arith, bound r l 0 (lit< tt)) in
+    rw (le-ltb size memorySize m, lt-ltb (r .page) pages page)
+
+-- a state that is asked and not refused holds legal registers
+kept-legal : (state memory : List ℕ) → short state memory ≡ false → not (legal state) ≡ false → LegalRegisters (registersOf state)
+kept-legal state memory p q = state-facts state (long state memory p .0) (not-false (legal state) q)
 
 -- what is asked before an event, as the table has it
 asked-table : (event : Event) (state memory : List ℕ) → askedBefore event state memory ≡ cond (short state memory) (Asked.Refused tooShort) (cond (asksRanges event && not (legal state)) (Asked.Refused outOfRange) (Found (registersOf state)))
@@ -93,8 +95,8 @@ asked-table resetPulse state memory = refl
 -- where it is not refused, an event meets what the table says
 met-number : (event : Event) (state memory : List ℕ) → short state memory ≡ false → asksRanges event && not (legal state) ≡ false → metBy event (registersOf state) (length memory) ≡ numberOfEvent event (registersOf state)
 met-number (commandByte b) state memory p q = refl
-met-number (dataWritten b) state memory p q = access-number state memory p q
-met-number dataRead state memory p q = access-number state memory p q
+met-number (dataWritten b) state memory p q = access-number _ _ (kept-legal state memory p q) (long state memory p .1)
+met-number dataRead state memory p q = access-number _ _ (kept-legal state memory p q) (long state memory p .1)
 met-number resetPulse state memory p q = refl
 
 -- the reply of a call is the one that the table gives
@@ -120,49 +122,75 @@ one-of-each : (P : ℕ → Type 0) (ms : List ℕ) (n : ℕ) → Each P ms → o
 one-of-each P [] n p e = absurd (false≢true e)
 one-of-each P (m ∷ ms) n p e = ⊎-elim (λ q. subst P (sym (eqb-true n m q)) (p .0)) (one-of-each P ms n (p .1)) (either (eqb n m) (oneOf ms n) e)
 
-abbrev NotTwo : Command → Type 0
-NotTwo named = eqb (numberOfCommand named) outOfRange ≡ false
+-- a number that is neither 1 nor 2
+abbrev pub Neither : ℕ → Type 0
+Neither number = (eqb number tooShort || eqb number outOfRange) ≡ false
+
+abbrev NamesNeither : Command → Type 0
+NamesNeither named = Neither (numberOfCommand named)
 
 -- a code that may be awaited has its n
-operand-number : (code n : ℕ) → oneOf awaitedCodes code ≡ true → eqb code 0 ≡ false → NotTwo (operandOf code n)
+operand-number : (code n : ℕ) → oneOf awaitedCodes code ≡ true → eqb code 0 ≡ false → NamesNeither (operandOf code n)
 unfolding awaitedCodes operandOf operandBy table offsetOf framePhasesOf
 operand-number code n h none =
-    one-of-each (λ code. eqb code 0 ≡ false → NotTwo (operandOf code n)) awaitedCodes code
-    (λ z. absurd (false≢true (sym z)), (λ z. refl, (λ z. refl, (λ z. refl, (λ z. refl, (λ z. chosen NotTwo (leb n 0x3F) _ _ (λ e. refl) (λ e. refl), (λ z. chosen NotTwo (oneOf (0x00 ∷ 0x10 ∷ 0x20 ∷ 0x30 ∷ []) n) _ _ (λ e. refl) (λ e. refl), tt)))))))
+    one-of-each (λ code. eqb code 0 ≡ false → NamesNeither (operandOf code n)) awaitedCodes code
+    (λ z. absurd (false≢true (sym z)), (λ z. refl, (λ z. refl, (λ z. refl, (λ z. refl, (λ z. chosen NamesNeither (leb n 0x3F) _ _ (λ e. refl) (λ e. refl), (λ z. chosen NamesNeither (oneOf (0x00 ∷ 0x10 ∷ 0x20 ∷ 0x30 ∷ []) n) _ _ (λ e. refl) (λ e. refl), tt)))))))
     h none
 
--- no command of the table is refused with 2
+-- no command of the table is refused with 1 or 2
 abbrev EachRow : List Row → Type 0
 EachRow [] = Unit {0}
-EachRow (one first last means ∷ rows) = ((b : ℕ) → NotTwo (means b)) × EachRow rows
+EachRow (one first last means ∷ rows) = ((b : ℕ) → NamesNeither (means b)) × EachRow rows
 EachRow (two code gives ∷ rows) = EachRow rows
 
-command-by : (rows : List Row) (b : ℕ) → EachRow rows → NotTwo (commandBy rows b)
+command-by : (rows : List Row) (b : ℕ) → EachRow rows → NamesNeither (commandBy rows b)
 unfolding commandBy
 command-by [] b s = refl
-command-by (one first last means ∷ rows) b s = chosen NotTwo (leb first b && leb b last) _ _ (λ e. s .0 b) (λ e. command-by rows b (s .1))
-command-by (two code gives ∷ rows) b s = chosen NotTwo (eqb b code) _ _ (λ e. refl) (λ e. command-by rows b s)
+command-by (one first last means ∷ rows) b s = chosen NamesNeither (leb first b && leb b last) _ _ (λ e. s .0 b) (λ e. command-by rows b (s .1))
+command-by (two code gives ∷ rows) b s = chosen NamesNeither (eqb b code) _ _ (λ e. refl) (λ e. command-by rows b s)
 
-command-number : (b : ℕ) → NotTwo (commandOf b)
+command-number : (b : ℕ) → NamesNeither (commandOf b)
 unfolding commandOf table
 command-number b = command-by table b (λ b. refl, (λ b. refl, (λ b. refl, (λ b. refl, (λ b. refl, (λ b. refl, (λ b. refl, (λ b. refl, (λ b. refl, (λ b. refl, (λ b. refl, (λ b. refl, (λ b. refl, (λ b. refl, (λ b. refl, (λ b. refl, (λ b. refl, (λ b. refl, (λ b. refl, (λ b. refl, tt))))))))))))))))))))
 
--- where it is not refused with 1 or 2 before, no event meets 2
-data-not-two : (r : Registers) → eqb (numberOfEvent dataRead r) outOfRange ≡ false
-data-not-two r =
-    chosen (λ number. eqb number outOfRange ≡ false) (eqb (r .awaited) 0) _ _
-    (λ e. chosen (λ number. eqb number outOfRange ≡ false) (leb (r .column) lastColumn) _ _ (λ e. refl) (λ e. refl))
-    (λ e. refl)
+data-neither : (r : Registers) → Neither (numberOfEvent dataRead r)
+data-neither r = chosen Neither (eqb (r .awaited) 0) _ _ (λ e. chosen Neither (leb (r .column) lastColumn) _ _ (λ e. refl) (λ e. refl)) (λ e. refl)
 
-not-two : (event : Event) (state memory : List ℕ) → short state memory ≡ false → asksRanges event && not (legal state) ≡ false → eqb (numberOfEvent event (registersOf state)) outOfRange ≡ false
+event-neither : (event : Event) (r : Registers) → LegalRegisters r → Neither (numberOfEvent event r)
 unfolding meaningOf
-not-two (commandByte b) state memory p q =
-    let r = registersOf state in
-    let l = state-facts state (long state memory p .0) (not-false (legal state) q) in
-    chosen NotTwo (eqb (r .awaited) 0) _ _ (λ e. command-number b) (operand-number (r .awaited) b (l .code))
-not-two (dataWritten b) state memory p q = data-not-two (registersOf state)
-not-two dataRead state memory p q = data-not-two (registersOf state)
-not-two resetPulse state memory p q = refl
+event-neither (commandByte b) r l = chosen NamesNeither (eqb (r .awaited) 0) _ _ (λ e. command-number b) (operand-number (r .awaited) b (l .code))
+event-neither (dataWritten b) r l = data-neither r
+event-neither dataRead r l = data-neither r
+event-neither resetPulse r l = refl
+
+-- with legal registers and a memory that is long enough, no event meets 1 or 2
+pub met-neither : (event : Event) (r : Registers) (size : ℕ) → LegalRegisters r → memorySize ≤ size → Neither (metBy event r size)
+met-neither (commandByte b) r size l m = event-neither (commandByte b) r l
+met-neither (dataWritten b) r size l m = rw (access-number r size l m) (data-neither r)
+met-neither dataRead r size l m = rw (access-number r size l m) (data-neither r)
+met-neither resetPulse r size l m = refl
+
+-- nor does one that is not refused before it
+not-before : (event : Event) (state memory : List ℕ) → short state memory ≡ false → asksRanges event && not (legal state) ≡ false → Neither (numberOfEvent event (registersOf state))
+not-before (commandByte b) state memory p q = event-neither (commandByte b) _ (kept-legal state memory p q)
+not-before (dataWritten b) state memory p q = data-neither (registersOf state)
+not-before dataRead state memory p q = data-neither (registersOf state)
+not-before resetPulse state memory p q = refl
+
+pub not-one : {number : ℕ} → Neither number → number ≡ tooShort → ⊥
+not-one h e = false≢true (sym (subst Neither e h))
+
+pub not-two : {number : ℕ} → Neither number → number ≡ outOfRange → ⊥
+not-two h e = false≢true (sym (subst Neither e h))
+
+-- 1 is given exactly when a lent state or memory is too short
+pub one-given : (event : Event) (state memory : List ℕ) → call event state memory .reply .number ≡ tooShort ↔ short state memory ≡ true
+one-given event state memory = rw (number-given event state memory) (by (short state memory) (asksRanges event && not (legal state)) refl refl)
+  where
+    by : (s t : Bool) → short state memory ≡ s → asksRanges event && not (legal state) ≡ t → cond s tooShort (cond t outOfRange (numberOfEvent event (registersOf state))) ≡ tooShort ↔ s ≡ true
+    by true t p q = (λ e. refl, λ h. refl)
+    by false true p q = (λ e. absurd (omega (arith, e)), λ h. absurd (false≢true h))
+    by false false p q = (λ e. absurd (not-one (not-before event state memory p q) e), λ h. absurd (false≢true h))
 
 -- 2 is given exactly when the image is out of its ranges, where 1 does not go first; it is not asked at the reset pin
 pub two-given : (event : Event) (state memory : List ℕ) → call event state memory .reply .number ≡ outOfRange ↔ (short state memory ≡ false) × (asksRanges event && not (legal state) ≡ true)
@@ -171,7 +199,7 @@ two-given event state memory = rw (number-given event state memory) (by (short s
     by : (s t : Bool) → short state memory ≡ s → asksRanges event && not (legal state) ≡ t → cond s tooShort (cond t outOfRange (numberOfEvent event (registersOf state))) ≡ outOfRange ↔ (s ≡ false) × (t ≡ true)
     by true t p q = (λ e. absurd (omega (arith, e)), λ h. absurd (false≢true (sym (h .0))))
     by false true p q = (λ e. (refl, refl), λ h. refl)
-    by false false p q = (λ e. absurd (eqb-false _ _ (not-two event state memory p q) e), λ h. absurd (false≢true (h .1)))
+    by false false p q = (λ e. absurd (not-two (not-before event state memory p q) e), λ h. absurd (false≢true (h .1)))
 
 -- an event is taken: what is asked before it finds registers, and its step from them is taken
 pub record IsTaken (event : Event) (state memory : List ℕ) : Type 0 where

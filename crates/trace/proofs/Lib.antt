@@ -20,5 +20,6 @@ pub mod Runs
 pub mod ByCalls
 pub mod RecordStops
 pub mod RunStops
+pub mod FirstAsked
 pub mod Exactly
 pub mod Alone

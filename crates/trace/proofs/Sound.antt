@@ -24,7 +24,7 @@ Refusing P (refuses number) = P number
 Refusing P (gives a) = Unit {0}
 
 -- a header is refused with 9, and then its kind is none
-headed : {kind : ℕ} {payload : List ℕ} {result : Result (List Recorded)} → Kind kind payload result → Refusing (λ number. number ≡ kindUnknown) result
+pub headed : {kind : ℕ} {payload : List ℕ} {result : Result (List Recorded)} → Kind kind payload result → Refusing (λ number. number ≡ kindUnknown) result
 headed (commands k) = tt
 headed (writes k) = tt
 headed (reads k) = tt
