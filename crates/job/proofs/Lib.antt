@@ -3,3 +3,4 @@ pub mod Sample
 pub mod SameSizes
 pub mod Seen
 pub mod Spread
+pub mod FinalFrame
