@@ -46,7 +46,7 @@ use Rattle.bus.specs.Image.{short, legal}
 use Rattle.bus.specs.declared.registers.Registers.{Registers}
 use Rattle.bus.specs.declared.calls.Reply.{Reply}
 
--- 3 for a byte outside the table, 4 for B9-BF, 5 for an n that is not allowed
+-- 3 for a byte outside the table, 4 for B9-BF, 5 for an n that is not allowed; 2 for an n whose code is none of the seven, which a call has asked before
 abbrev pub numberOfCommand : Command → ℕ
 numberOfCommand (ColumnLow value) = taken
 numberOfCommand (ColumnHigh value) = taken
