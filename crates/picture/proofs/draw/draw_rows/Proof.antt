@@ -8,15 +8,16 @@ use Prim.Native.Nat.{ℕ, _+_, _*_, _-_, _≤_}
 use native.Mathlib.Omega.{arith}
 use denote.Ref.{now}
 use lib.ListN.{drop, length-take, length-drop}
-use Rattle.constants.specs.Sizes.{width, height}
+use Rattle.constants.specs.Sizes.{width}
 use Rattle.bus.specs.declared.registers.Registers.{Registers}
 use Rattle.picture.proofs.Lines.{grid-kept, grid-turn}
-use Rattle.picture.specs.Rows.{panelRow, rowShows}
+use Rattle.picture.specs.Scan.{panelRow, rowShows}
+use Rattle.picture.specs.Rows.{scanOf}
 use Rattle.picture.specs.Frame.{segment, grid, frame}
 
 -- what each place shows
 abbrev shown : Registers → List ℕ → ℕ → ℕ → ℕ
-shown r memory y = segment width r memory (rowShows height r (panelRow y))
+shown r memory y = segment r memory (rowShows (scanOf r) (panelRow y))
 
 abbrev Inv-loop : tie.InvT-loop
 Inv-loop registers memory places₀ y₀ places y = (y ≤ 65) × (places ≡ grid width y (shown registers memory) ++ drop (y * width) places₀)

@@ -8,9 +8,10 @@ use Prim.Native.Nat.{_+_, _-_, _*_, _/_}
 use native.Mathlib.Omega.{arith}
 use borrow.Author.Tests.{eq-eqb, ne-eqb}
 use denote.Ref.{now}
-use Rattle.picture.specs.Frame.{shownBit, columnOf}
+use Rattle.picture.specs.Scan.{columnOf}
+use Rattle.picture.specs.Frame.{shownBit}
 use Rattle.picture.proofs.Lines.{line-same}
-use Rattle.picture.proofs.Bits.{page-bit}
+use Rattle.picture.proofs.PageBits.{page-bit}
 
 cast-number : tie.Need-cast-number
 cast-number c = search needs

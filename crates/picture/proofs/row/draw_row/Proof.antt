@@ -5,11 +5,11 @@ use mathlib.Core.Path.{_∙_, sym}
 use native.Mathlib.Omega.{arith}
 use borrow.Author.Tests.{eq-eqb, ne-eqb}
 use denote.Ref.{now}
-use Rattle.constants.specs.Sizes.{height}
+use Rattle.picture.specs.Rows.{scanOf}
 use Rattle.picture.specs.Frame.{segment, whileOn}
 use Rattle.picture.proofs.Lines.{line-same}
-use Rattle.picture.proofs.Lit.{all-lit}
-use Rattle.picture.proofs.RowRule.{ram-within}
+use Rattle.picture.proofs.AllLit.{all-lit}
+use Rattle.picture.proofs.RamRows.{ram-within}
 use Rattle.picture.proofs.row.draw_row.Statement.{statement}
 use Rattle.picture.proofs.row.draw_row.Tie as tie
 
@@ -35,7 +35,7 @@ unfolding segment
 returns-2 c =
     let d = c .before .before .before .before in
     let a = d .before .before .before .before .before .before .before .before .args in
-    c .before .before .fill2 .ensures ∙ line-same 132 _ _ (λ x h. rw (ne-eqb _ _ (d .before .before .before .before .if1 .left), all-lit 132 (a .registers) (now (a .memory)) (a .row) x (d .if3 .taken) (d .before .before .if2 .taken)))
+    c .before .before .fill2 .ensures ∙ line-same 132 _ _ (λ x h. rw (ne-eqb _ _ (d .before .before .before .before .if1 .left), all-lit (a .registers) (now (a .memory)) (a .row) x (d .if3 .taken) (d .before .before .if2 .taken)))
 
 row-shows-requires : tie.Need-row-shows-requires
 row-shows-requires c κs = search needs
@@ -57,7 +57,7 @@ draw-bits-requires c κs =
     let d = c .before .before .before .before in
     let start = d .before .before .before .before .before .before .before .before .before in
     let a = start .args in
-    (ram-within height (a .registers) (a .row) (omega arith) (sym (d .before .before .row-shows .ensures) ∙ d .ram .given .1), omega (arith, start .pre), omega (arith, start .pre))
+    (ram-within (scanOf (a .registers)) (omega arith) (a .row) (sym (d .before .before .row-shows .ensures) ∙ d .ram .given .1), omega (arith, start .pre), omega (arith, start .pre))
 
 same-length-3 : tie.Need-same-length-3
 same-length-3 c = search needs

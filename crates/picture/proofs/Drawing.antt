@@ -16,7 +16,8 @@ use Rattle.bus.specs.Image.{short, legal, asked}
 use Rattle.bus.specs.declared.image.Asked.{Asked}
 use Rattle.constants.specs.Sizes.{height, frameRows, frameSize, width}
 use Rattle.bus.specs.declared.registers.Registers.{Registers}
-use Rattle.picture.specs.Rows.{panelRow, rowShows}
+use Rattle.picture.specs.Scan.{panelRow, rowShows}
+use Rattle.picture.specs.Rows.{scanOf}
 use Rattle.picture.specs.Frame.{turned, shownBit, whileOn, segment, frame, placeOf}
 use Rattle.picture.specs.declared.rows.Shown.{Shown}
 use Rattle.codes.proofs.Tests.{chosen}
@@ -59,10 +60,10 @@ past state memory was = by-cases (ltb (length was) frameSize) (asked state memor
     by-cases false (Asked.Refused number) = refl
 
 -- each place is dark, 0, or lit, 1
-pub dark-or-lit : (r : Registers) (memory : List ℕ) (y x : ℕ) → y < frameRows → x < width → placeOf y x (frame r memory) < 2
+pub dark-or-lit : (r : Registers) (memory : List ℕ) (y x : ℕ) → y < frameRows → x < width → placeOf width y x (frame r memory) < 2
 unfolding segment whileOn shownBit turned
-dark-or-lit r memory y x l k = rw (frame-place r memory y x l k) (chosen (λ v. v < 2) (eqb (r .on) 0) _ _ (λ e. omega arith) (λ e. shade (rowShows height r (panelRow y))))
+dark-or-lit r memory y x l k = rw (frame-place r memory y x l k) (chosen (λ v. v < 2) (eqb (r .on) 0) _ _ (λ e. omega arith) (λ e. shade (rowShows (scanOf r) (panelRow y))))
   where
-    shade : (shown : Shown) → whileOn width r memory shown x < 2
+    shade : (shown : Shown) → whileOn r memory shown x < 2
     shade Shown.Dark = omega arith
     shade (Shown.Ram row) = chosen (λ v. v < 2) (eqb (r .entire) 1) _ _ (λ e. omega arith) (λ e. mod-lt _ (omega arith))
