@@ -1,69 +1,96 @@
--- What draw's one equation comes to: one outcome for each input, its number, what a refusal and a drawing leave of the lent frame, and what each place can be.
+-- What the call that draws and the frame that it leaves come to.
 -- Assumes nothing.
-use mathlib.Core.Path.{_≡_, refl, sym, _∙_, ap}
-use mathlib.Core.Logic.{_≢_}
-use mathlib.Core.Bool.{Bool, true, false, cond, _||_}
-use mathlib.Core.List.{List}
+use mathlib.Core.Path.{_≡_, refl}
+use mathlib.Core.Logic.{_≢_, _↔_}
+use mathlib.Core.Bool.{Bool, true, false, cond, _||_, true≢false, false≢true}
+use mathlib.Core.List.{List, _++_}
 use Prim.Native.Nat.{ℕ, _<_}
 use native.Mathlib.Omega.{arith}
 use native.Mathlib.Nat.{mod-lt}
 use lib.Dec.{ltb, eqb}
 use lib.ListN.{length, drop}
 use lib.Seq.{drop-at}
+use Rattle.constants.specs.Sizes.{frameRows, frameSize, width}
 use Rattle.constants.specs.Numbers.{taken, tooShort, outOfRange}
 use Rattle.bus.specs.Registers.{registersOf}
 use Rattle.bus.specs.Image.{short, legal, asked}
 use Rattle.bus.specs.declared.image.Asked.{Asked}
-use Rattle.constants.specs.Sizes.{height, frameRows, frameSize, width}
 use Rattle.bus.specs.declared.registers.Registers.{Registers}
+use Rattle.codes.proofs.Tests.{chosen}
 use Rattle.picture.specs.Scan.{panelRow, rowShows}
 use Rattle.picture.specs.Rows.{scanOf}
 use Rattle.picture.specs.Frame.{turned, shownBit, whileOn, segment, frame, placeOf}
+use Rattle.picture.specs.Draw.{Drawn, drawn, drawOn, draw}
+use Rattle.picture.specs.Drawing.{DrawCall, Drawing}
 use Rattle.picture.specs.declared.rows.Shown.{Shown}
-use Rattle.codes.proofs.Tests.{chosen}
-use Rattle.picture.specs.Draw.{drawn, drawOn, draw}
-use Rattle.picture.proofs.Places.{frame-length, frame-place}
+use Rattle.picture.proofs.Places.{frame-length, frame-row, frame-place, off-dark}
 
--- two outcomes that satisfy the statement are equal
-pub once : (state memory was : List ℕ) {n m : ℕ} {left later : List ℕ} → drawn n left ≡ draw state memory was → drawn m later ≡ draw state memory was → (n ≡ m) × (left ≡ later)
-once state memory was p q = (ap (λ d. d .number) (p ∙ sym q), ap (λ d. d .frame) (p ∙ sym q))
+-- the outcome by what the frame's length, the other two lengths and the ranges test to
+module _ (state memory was : List ℕ) where
+  abbrev outcome : (f s l : Bool) → Drawn
+  outcome f s l = cond f (drawn tooShort was) (drawOn (cond s (Asked.Refused tooShort) (cond l (Asked.Found (registersOf state)) (Asked.Refused outOfRange))) memory was)
 
--- 1 exactly where a lent state, memory or frame is too short, else 2 exactly where the image is out of its ranges
-pub number : (state memory was : List ℕ) → draw state memory was .number ≡ cond (ltb (length was) frameSize || short state memory) tooShort (cond (legal state) taken outOfRange)
-unfolding draw drawOn asked
-number state memory was = by-cases (ltb (length was) frameSize) (short state memory) (legal state)
-  where
-    by-cases : (f s l : Bool) → cond f (drawn tooShort was) (drawOn (cond s (Asked.Refused tooShort) (cond l (Asked.Found (registersOf state)) (Asked.Refused outOfRange))) memory was) .number ≡ cond (f || s) tooShort (cond l taken outOfRange)
-    by-cases true s l = refl
-    by-cases false true l = refl
-    by-cases false false true = refl
-    by-cases false false false = refl
+  one : (f s l : Bool) → (outcome f s l .number ≡ tooShort) ↔ (f || s ≡ true)
+  unfolding drawOn
+  one true s l = (λ e. refl, λ e. refl)
+  one false true l = (λ e. refl, λ e. refl)
+  one false false true = (λ e. absurd (omega arith), λ e. absurd (false≢true e))
+  one false false false = (λ e. absurd (omega arith), λ e. absurd (false≢true e))
 
--- a refusal writes nothing
-pub refusal : (state memory was : List ℕ) → draw state memory was .number ≢ taken → draw state memory was .frame ≡ was
-unfolding draw drawOn
-refusal state memory was n = by-cases (ltb (length was) frameSize) (asked state memory) n
-  where
-    by-cases : (f : Bool) (asking : Asked) → cond f (drawn tooShort was) (drawOn asking memory was) .number ≢ taken → cond f (drawn tooShort was) (drawOn asking memory was) .frame ≡ was
-    by-cases true asking n = refl
-    by-cases false (Asked.Found r) n = absurd (n refl)
-    by-cases false (Asked.Refused number) n = refl
+  two : (f s l : Bool) → (outcome f s l .number ≡ outOfRange) ↔ (f || s ≡ false) × (l ≡ false)
+  unfolding drawOn
+  two true s l = (λ e. absurd (omega arith), λ e. absurd (true≢false (e .0)))
+  two false true l = (λ e. absurd (omega arith), λ e. absurd (true≢false (e .0)))
+  two false false true = (λ e. absurd (omega arith), λ e. absurd (true≢false (e .1)))
+  two false false false = (λ e. (refl, refl), λ e. refl)
 
--- bytes past the needed length never change
-pub past : (state memory was : List ℕ) → drop frameSize (draw state memory was .frame) ≡ drop frameSize was
-unfolding draw drawOn
-past state memory was = by-cases (ltb (length was) frameSize) (asked state memory)
-  where
-    by-cases : (f : Bool) (asking : Asked) → drop frameSize (cond f (drawn tooShort was) (drawOn asking memory was) .frame) ≡ drop frameSize was
-    by-cases true asking = refl
-    by-cases false (Asked.Found r) = drop-at (frame r memory) (drop frameSize was) frameSize (frame-length r memory)
-    by-cases false (Asked.Refused number) = refl
+  zero : (f s l : Bool) → (outcome f s l .number ≡ taken) ↔ (f || s ≡ false) × (l ≡ true)
+  unfolding drawOn
+  zero true s l = (λ e. absurd (omega arith), λ e. absurd (true≢false (e .0)))
+  zero false true l = (λ e. absurd (omega arith), λ e. absurd (true≢false (e .0)))
+  zero false false true = (λ e. (refl, refl), λ e. refl)
+  zero false false false = (λ e. absurd (omega arith), λ e. absurd (false≢true (e .1)))
+
+  refused : (f s l : Bool) → outcome f s l .number ≢ taken → outcome f s l .frame ≡ was
+  unfolding drawOn
+  refused true s l n = refl
+  refused false true l n = refl
+  refused false false true n = absurd (n refl)
+  refused false false false n = refl
+
+  done : (f s l : Bool) → outcome f s l .number ≡ taken → outcome f s l .frame ≡ frame (registersOf state) memory ++ drop frameSize was
+  unfolding drawOn
+  done true s l e = absurd (omega arith)
+  done false true l e = absurd (omega arith)
+  done false false true e = refl
+  done false false false e = absurd (omega arith)
+
+  past : (f s l : Bool) → drop frameSize (outcome f s l .frame) ≡ drop frameSize was
+  unfolding drawOn
+  past true s l = refl
+  past false true l = refl
+  past false false true = drop-at (frame (registersOf state) memory) (drop frameSize was) frameSize (frame-length (registersOf state) memory)
+  past false false false = refl
+
+  draw-call : DrawCall state memory was
+  unfolding draw asked
+  draw-call =
+      let f = ltb (length was) frameSize in
+      let s = short state memory in
+      let l = legal state in
+      record { one = one f s l; two = two f s l; zero = zero f s l; refused = refused f s l; drawn = done f s l; past = past f s l }
 
 -- each place is dark, 0, or lit, 1
-pub dark-or-lit : (r : Registers) (memory : List ℕ) (y x : ℕ) → y < frameRows → x < width → placeOf width y x (frame r memory) < 2
+dark-or-lit : (r : Registers) (memory : List ℕ) (y x : ℕ) → y < frameRows → x < width → placeOf width y x (frame r memory) < 2
 unfolding segment whileOn shownBit turned
 dark-or-lit r memory y x l k = rw (frame-place r memory y x l k) (chosen (λ v. v < 2) (eqb (r .on) 0) _ _ (λ e. omega arith) (λ e. shade (rowShows (scanOf r) (panelRow y))))
   where
     shade : (shown : Shown) → whileOn r memory shown x < 2
     shade Shown.Dark = omega arith
     shade (Shown.Ram row) = chosen (λ v. v < 2) (eqb (r .entire) 1) _ _ (λ e. omega arith) (λ e. mod-lt _ (omega arith))
+
+pub drawing : Drawing
+drawing = record {
+  call = draw-call;
+  picture = λ r memory. record { size = frame-length r memory; darkOrLit = dark-or-lit r memory; ownRow = frame-row r memory; off = off-dark r memory };
+}

@@ -14,7 +14,7 @@ use Rattle.bus.specs.declared.registers.Registers.{Registers}
 use Rattle.picture.specs.Scan.{panelRow, comOf, used, ramRowOf, panelShows, rowShows, columnOf}
 use Rattle.picture.specs.Rows.{scanOf}
 use Rattle.picture.specs.Frame.{bit, shownBit, whileOn, segment, frame}
-use Rattle.picture.specs.Ignored.{drawNothing, DrawAlike, SameBits}
+use Rattle.picture.specs.Ignored.{drawNothing, DrawAlike, SameBits, Ignored}
 use Rattle.picture.specs.declared.rows.RamRow.{RamRow}
 use Rattle.picture.specs.declared.rows.Shown.{Shown}
 use Rattle.picture.proofs.Lines.{grid-same}
@@ -52,7 +52,7 @@ unfolding frame rowShows panelShows used ramRowOf comOf
 frame-seen r memory = grid-same width frameRows _ _ (λ y x l k. segment-seen r memory (rowShows (scanOf r) (panelRow y)) x)
 
 -- settings that draw alike draw the same frame from every memory
-pub held-draw-nothing : (r s : Registers) → DrawAlike r s → (memory : List ℕ) → frame r memory ≡ frame s memory
+held-draw-nothing : (r s : Registers) → DrawAlike r s → (memory : List ℕ) → frame r memory ≡ frame s memory
 held-draw-nothing r s a memory = frame-seen r memory ∙ ap (λ seen. frame seen memory) (seen-alike r s a) ∙ sym (frame-seen s memory)
 
 -- a RAM row's bit in a column
@@ -67,10 +67,13 @@ bit-same memory other e row column l k = by (decLt (row .0) height)
         rw icons (omega (arith, e .icons column k))
 
 -- memories with the same bits are drawn as the same frame by every setting
-pub rest-ignored : (r : Registers) (memory other : List ℕ) → SameBits memory other → frame r memory ≡ frame r other
+rest-ignored : (r : Registers) (memory other : List ℕ) → SameBits memory other → frame r memory ≡ frame r other
 unfolding frame segment whileOn shownBit
 rest-ignored r memory other e = grid-same width frameRows _ _ (λ y x l k. place y x k (rowShows (scanOf r) (panelRow y)) refl)
   where
     place : (y x : ℕ) → x < width → (shown : Shown) → rowShows (scanOf r) (panelRow y) ≡ shown → segment r memory (rowShows (scanOf r) (panelRow y)) x ≡ segment r other (rowShows (scanOf r) (panelRow y)) x
     place y x k Shown.Dark q = rw q
     place y x k (Shown.Ram row) q = rw (q, bit-same memory other e row (columnOf width (r .«column_direction») x) (ram-within (scanOf r) (omega arith) (panelRow y) q) (columns-bijection width (r .«column_direction») .thereIn x k))
+
+pub ignored : Ignored
+ignored = record { settings = held-draw-nothing; restOfPage8 = rest-ignored }

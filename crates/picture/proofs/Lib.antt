@@ -1,13 +1,28 @@
-pub mod Samples
-pub mod Demand3
-pub mod Drawing
+-- a row of places, and rows one after the other
 pub mod Lines
+-- the frame: its length, its rows and its places
 pub mod Places
+-- a RAM row that is shown is one of the memory
 pub mod RamRows
-pub mod Turns
-pub mod AllRows
-pub mod Bijection
-pub mod Flipped
+-- a page that is lent on has its RAM rows' bits
 pub mod PageBits
-pub mod Ignored
+-- entire on with all rows in use lights every row
 pub mod AllLit
+-- what the call and its frame come to; demand 1 for drawing
+pub mod Drawing
+-- one outcome for each public call
+pub mod Settled
+-- bijections of the numbers below n
+pub mod Bijection
+-- the row rule with all rows in use is a turn of the rows, over any size
+pub mod Turns
+-- with all rows in use, which RAM row each row shows, over any scan; rows and columns are bijections
+pub mod AllRows
+-- one bit of the memory flipped
+pub mod Flipped
+-- demand 3
+pub mod Demand3
+-- what drawing does not ask
+pub mod Ignored
+-- the twelve sample events
+pub mod Samples

@@ -11,7 +11,11 @@ use crate::rows::RamRow;
 use crate::rows::Shown;
 use crate::rows::row_shows;
 use bus::registers::Registers;
+use constants::sizes::HEIGHT;
 use constants::sizes::WIDTH;
+
+// The multiplex with which all 64 rows are in use.
+const ALL_ROWS: u8 = HEIGHT - 1;
 
 // Draws one row of the frame into its own 132 bytes. Where all 64 rows are in use entire on lights every one, and the rule is not asked (DECISIONS 38).
 pub fn draw_row(registers: Registers, memory: &[u8], row: PanelRow, places: &mut [u8])
@@ -23,7 +27,7 @@ pub fn draw_row(registers: Registers, memory: &[u8], row: PanelRow, places: &mut
         return;
     }
     if registers.entire == 1 {
-        if registers.multiplex == 63 {
+        if registers.multiplex == ALL_ROWS {
             fill(places, 1);
             return;
         }
