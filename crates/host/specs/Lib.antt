@@ -1,3 +1,5 @@
 pub mod Start
 pub mod Events
+pub mod PowerState
+pub mod Record
 pub mod List

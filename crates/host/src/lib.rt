@@ -4,5 +4,7 @@ mod clear;
 pub mod draw;
 pub mod events;
 pub mod list;
+pub mod power_state;
+pub mod record;
 pub mod run;
 pub mod start;
