@@ -1,4 +1,3 @@
-pub mod Start
 pub mod Events
 pub mod PowerState
 pub mod Record

@@ -1,6 +1,5 @@
 // What the rig's C host calls: document 01's calls on numbers, images and byte slices, exported under one prefix. host/ssd1815b.h
 // declares them. Each has the statement of the call below it.
-mod clear;
 pub mod draw;
 pub mod events;
 pub mod list;
