@@ -4,5 +4,6 @@ pub mod Memory
 pub mod Events
 pub mod Chip
 pub mod Image
+pub mod Start
 pub mod Calls
 pub mod Given
