@@ -6,3 +6,6 @@ pub mod Chip
 pub mod Image
 pub mod Calls
 pub mod Given
+pub mod Bytes
+pub mod StaysLegal
+pub mod CallsOnChip
