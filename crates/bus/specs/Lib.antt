@@ -7,3 +7,6 @@ pub mod Image
 pub mod Start
 pub mod Calls
 pub mod Given
+pub mod Bytes
+pub mod StaysLegal
+pub mod CallsOnChip
