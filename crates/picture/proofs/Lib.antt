@@ -26,3 +26,5 @@ pub mod Demand3
 pub mod Ignored
 -- the twelve sample events
 pub mod Samples
+-- the same of the calls
+pub mod SamplesByCalls

@@ -16,3 +16,5 @@ pub mod Ignored
 pub mod Demand3
 -- the twelve sample events
 pub mod Samples
+-- the same of the calls
+pub mod SamplesByCalls
