@@ -13,3 +13,4 @@ pub mod Stored
 pub mod Waiting
 pub mod StaysLegal
 pub mod CallsOnChip
+pub mod Tests

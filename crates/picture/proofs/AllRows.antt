@@ -19,7 +19,7 @@ use Rattle.picture.specs.Scan.{Scan, panelRow, ramRow, comOf, ramRowOf, 
 use Rattle.picture.specs.Rows.{rowsInUse, scanOf}
 use Rattle.picture.specs.Frame.{bit, turned, shownBit, frame, placeOf}
 use Rattle.picture.specs.Demand3.{Full, scroll}
-use Rattle.codes.proofs.Tests.{chosen}
+use Rattle.bus.proofs.Tests.{chosen}
 use Rattle.picture.proofs.Bijection.{Bijection}
 use Rattle.picture.proofs.Turns.{turnOf, backOf, amount, amount-below, turn-below, back-below, turn-back, back-turn, rule}
 use Rattle.picture.proofs.AllLit.{all-used}

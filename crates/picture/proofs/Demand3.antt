@@ -2,7 +2,7 @@
 -- Assumes nothing.
 use mathlib.Core.Path.{_≡_, refl, sym, _∙_, ap, subst₂}
 use mathlib.Core.Bool.{Bool, true, false, cond, false≢true}
-use mathlib.Core.List.{List, [], _∷_}
+use mathlib.Core.List.{List}
 use Prim.Native.Nat.{ℕ, zero, suc, _+_, _-_, _/_, _%_, _^_, _≤_, _<_}
 use native.Mathlib.Omega.{arith}
 use native.Mathlib.Nat.{mod-lt, le-of-eq, zero-div}
@@ -14,16 +14,13 @@ use lib.Pow.{pow-lt}
 use lib.ListN.{length, getD, set, replicate, length-set, length-replicate, getD-replicate, List·getD-eq-default}
 use lib.Seq.{getD-set-same, getD-set-other}
 use Rattle.constants.specs.Sizes.{width, memorySize, height, frameRows}
-use Rattle.codes.specs.Table.{table, commandBy, commandOf, meaningOf}
-use Rattle.bus.specs.Registers.{largestValues, powerOn}
+use Rattle.bus.specs.Places.{on}
+use Rattle.bus.specs.Registers.{ranges, largestValues, powerOn, _with_≔_}
 use Rattle.bus.specs.Memory.{address}
-use Rattle.bus.specs.Events.{obeyed, command}
-use Rattle.bus.specs.Chip.{commandByte, step, registersAfter, chipAfter, after}
 use Rattle.bus.specs.Image.{within, awaitedCodes, legal}
 use Rattle.bus.specs.declared.registers.Registers.{Registers}
 use Rattle.picture.specs.Scan.{ramRow, columnOf}
 use Rattle.picture.specs.Frame.{bit, turned, shownBit, line, frame, rowOf, placeOf}
-use Rattle.picture.specs.Samples.{fromPowerOn}
 use Rattle.picture.specs.Demand3.{Full, flipped, ShowsAt, LitBy, OnePlace, SomeBit, raised, Scrolls, Content, scroll, Agree, Demand3}
 use Rattle.picture.specs.declared.rows.RamRow.{RamRow}
 use Rattle.picture.proofs.Lines.{line-same, grid-same}
@@ -264,9 +261,9 @@ module _ (r s : Registers) (b : Bounds r) (d : Bounds s) (same : (memory : List 
         line = turns .1;
       }
 
--- the demand is not empty: after AF from power-on the chip is set so
-pub full-once-on : Full (fromPowerOn (commandByte 0xAF ∷ []) .registers)
-unfolding largestValues powerOn within awaitedCodes legal table commandBy commandOf obeyed command step registersAfter chipAfter after meaningOf
+-- the demand is not empty: power-on with the display on is such a setting
+pub full-once-on : Full (powerOn with on ≔ 1)
+unfolding ranges largestValues powerOn within awaitedCodes legal
 full-once-on = record { inRange = refl; allRows = refl; on = refl; notLit = refl }
 
 pub demand3 : Demand3

@@ -16,7 +16,7 @@ use Rattle.bus.specs.Registers.{registersOf}
 use Rattle.bus.specs.Image.{short, legal, asked}
 use Rattle.bus.specs.declared.image.Asked.{Asked}
 use Rattle.bus.specs.declared.registers.Registers.{Registers}
-use Rattle.codes.proofs.Tests.{chosen}
+use Rattle.bus.proofs.Tests.{chosen}
 use Rattle.picture.specs.Scan.{panelRow, rowShows}
 use Rattle.picture.specs.Rows.{scanOf}
 use Rattle.picture.specs.Frame.{turned, shownBit, whileOn, segment, frame, placeOf}

@@ -24,7 +24,3 @@ pub mod Flipped
 pub mod Demand3
 -- what drawing does not ask
 pub mod Ignored
--- the twelve sample events
-pub mod Samples
--- the same of the calls
-pub mod SamplesByCalls

@@ -4,7 +4,7 @@ use mathlib.Core.Path.{_≡_, subst}
 use Prim.Native.Nat.{ℕ, _≤_, _<_}
 use native.Mathlib.Nat.{mod-lt, le-of-lt, le-refl}
 use lib.Dec.{ltb, eqb}
-use Rattle.codes.proofs.Tests.{chosen}
+use Rattle.bus.proofs.Tests.{chosen}
 use Rattle.picture.specs.Scan.{Scan, comOf, used, ramRowOf, panelShows, rowShows}
 use Rattle.picture.specs.declared.rows.PanelRow.{PanelRow}
 use Rattle.picture.specs.declared.rows.Com.{Com}

@@ -4,7 +4,7 @@ use mathlib.Core.Path.{_≡_}
 use mathlib.Core.Bool.{false}
 use mathlib.Core.List.{List, [], _∷_}
 use lib.ListN.{getD}
-use Rattle.codes.specs.OneOf.{oneOf}
+use Rattle.bus.specs.Image.{oneOf}
 use Rattle.constants.specs.Sizes.{width, iconPage}
 use Rattle.bus.specs.Places.{page, column, contrast, ratio, power, bias, quarter, held, phases, indicator, mode, awaited, modify, saved, fresh}
 use Rattle.bus.specs.Registers.{imageOf}

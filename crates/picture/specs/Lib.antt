@@ -14,7 +14,3 @@ pub mod Settled
 pub mod Ignored
 -- demand 3
 pub mod Demand3
--- the twelve sample events
-pub mod Samples
--- the same of the calls
-pub mod SamplesByCalls

@@ -19,14 +19,14 @@ use Rattle.bus.specs.StaysLegal.{Accepted}
 use Rattle.bus.specs.CallsOnChip.{Lent, lent, afterCalls}
 use Rattle.bus.proofs.StaysLegal.{staysLegal}
 use Rattle.bus.proofs.CallsOnChip.{callsOnChip}
 use Rattle.picture.specs.Frame.{frame, rowOf}
 use Rattle.picture.specs.Draw.{Drawn, drawn, draw}
-use Rattle.picture.specs.Samples.{started, fromPowerOn, numberFor, picture}
-use Rattle.picture.specs.Samples.{Shows as Chip·Shows}
-use Rattle.picture.specs.SamplesByCalls.{left, register, memoryByte, answerTo, Draws, Shows, SamplesByCalls}
+use Rattle.samples.specs.Samples.{started, fromPowerOn, numberFor, picture}
+use Rattle.samples.specs.Samples.{Shows as Chip·Shows}
+use Rattle.samples.specs.SamplesByCalls.{left, register, memoryByte, answerTo, Draws, Shows, SamplesByCalls}
 use Rattle.picture.proofs.Places.{frame-length}
 use Rattle.picture.proofs.Drawing.{drawing}
-use Rattle.picture.proofs.Samples.{samples}
+use Rattle.samples.proofs.Samples.{samples}
 
 -- the image of power-on and a memory that is long enough are accepted
 at-power-on : (memory : List ℕ) → memorySize ≤ length memory → Accepted (imageOf powerOn) memory

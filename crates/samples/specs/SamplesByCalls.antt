@@ -13,10 +13,10 @@ use Rattle.bus.specs.Memory.{address}
 use Rattle.bus.specs.Chip.{Event, commandByte, dataWritten}
 use Rattle.bus.specs.Calls.{call}
 use Rattle.bus.specs.CallsOnChip.{Lent, afterCalls}
 use Rattle.picture.specs.Scan.{ramRow}
 use Rattle.picture.specs.Frame.{bit, line, grid, rowOf}
 use Rattle.picture.specs.Draw.{drawn, draw}
-use Rattle.picture.specs.Samples.{commands, toLastColumn, columnFive, twoWrites, startThreeOffsetTwo}
+use Rattle.samples.specs.Samples.{commands, toLastColumn, columnFive, twoWrites, startThreeOffsetTwo}
 
 -- The state and memory that the calls of events leave, from the image of power-on with zero memory.
 abbrev pub left : List Event → Lent
