@@ -169,7 +169,8 @@ $(COMPARE): $(call objects,host/compare/*.c) $(LINKED) \
             $(addprefix $(OUT)/host/tool/,listing.o played.o registers.o)
 $(CALLS): $(OUT)/host/test/calls.o $(OUT)/host/compare/room.o $(LINKED)
 $(SAMPLES): $(OUT)/host/test/samples.o $(LINKED)
-$(PARTS): $(OUT)/host/test/parts.o $(OUT)/host/tool/played.o $(LINKED)
+$(PARTS): $(OUT)/host/test/parts.o $(LINKED) \
+          $(addprefix $(OUT)/host/tool/,played.o progress.o replay.o)
 # The tool as it is where libstb-dev is missing.
 $(NO_PNG): $(filter-out %/png.o,$(call objects,host/tool/*.c)) \
            $(OUT)/host/tool/no_png.o $(LINKED)

@@ -1,13 +1,16 @@
 /*
 ** A trace that the tool plays part by part (tool/played.h) beside one run of
 ** the whole: number, offset, count, state and memory are the same, wherever
-** the parts end; and so after so many records.
+** the parts end; and so after so many records.  Event by event
+** (tool/replay.h) it comes to the same state, by images that follow on one
+** another.
 */
 #include <stdbool.h>
 #include <string.h>
 
 #include "check.h"
 #include "played.h"
+#include "replay.h"
 
 enum { LONGEST = 400, LARGEST_NUMBER = 10 };
 
@@ -115,6 +118,45 @@ static void same_after(size_t records)
   same(whole, in_parts(1 + below(30), records));
 }
 
+/* What a replay has shown. */
+struct shown {
+  uint8_t image[SSD1815B_STATE_SIZE];
+  size_t until;   /* the offset after the last event */
+  size_t events;
+};
+
+static void see(const struct event *event, void *context)
+{
+  struct shown *shown = context;
+  CHECK(memcmp(event->before, shown->image, sizeof shown->image) == 0);
+  CHECK(event->offset >= shown->until);
+  memcpy(shown->image, event->after, sizeof shown->image);
+  shown->until = event->offset + 1;
+  shown->events++;
+}
+
+/* How many events the run took, by the lengths alone. */
+static size_t events_taken(const struct played *played)
+{
+  size_t events = 0;
+  size_t at = 0;
+  for (size_t i = 0; i < played->count; i++) {
+    events += trace[at + 2] == 4 ? 1u : trace[at];
+    at += 4u + trace[at];
+  }
+  return played->offset > at ? events + played->offset - at - 4 : events;
+}
+
+static void same_events(struct played whole)
+{
+  struct shown shown = { { 0 }, 0, 0 };
+  struct played none = one_run(0);
+  memcpy(shown.image, none.state, sizeof shown.image);
+  replay(&whole, see, &shown);
+  CHECK(memcmp(shown.image, whole.state, sizeof shown.image) == 0);
+  CHECK(shown.events == events_taken(&whole));
+}
+
 int main(void)
 {
   for (int round = 0; round < 3000; round++) {
@@ -125,6 +167,7 @@ int main(void)
     same(whole, in_parts(1 + below(60), ALL_RECORDS));
     same(whole, in_parts(LONGEST, ALL_RECORDS));
     same_after(below(20));
+    same_events(whole);
   }
   for (int number = 3; number <= LARGEST_NUMBER; number++) {
     CHECK(answered[number] > 0);

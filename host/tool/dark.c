@@ -66,7 +66,8 @@ static const char *reason(const struct played *played)
   /* The image is legal and whole, so this does not refuse. */
   ssd1815b_power_state(played->state, sizeof played->state, &power);
   if (power == SSD1815B_SLEEP) {
-    return "sleep: display off, entire on, indicator off; A4 and AF show memory";
+    return "sleep: display off, entire on, indicator off; A4 and AF show"
+           " memory";
   }
   if (power == SSD1815B_STANDBY) {
     return "standby: display off, entire on, indicator on; A4 and AF show"

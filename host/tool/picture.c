@@ -75,11 +75,11 @@ enum status picture(const struct options *options, const struct played *played)
     pbm_write(out, played->frame, options->scale);
   }
   done = done && fflush(out) == 0 && !ferror(out);
+  if (out != NULL && out != stdout) {
+    done = fclose(out) == 0 && done;
+  }
   if (!done) {
     fprintf(stderr, "ssd1815b: cannot write %s: %s\n", name, strerror(errno));
-  }
-  if (out != NULL && out != stdout) {
-    fclose(out);
   }
   stop_print(stderr, played);
   return done ? status_of(played) : FAILED;
