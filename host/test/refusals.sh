@@ -160,7 +160,10 @@ looks_like_nothing 00 00 01 01
 looks_like_nothing 01 00 01 00 AF 05 00 01 00
 looks_like_nothing AB CD EF E1 F2
 looks_like_nothing 01 00 01 00 30
-# Text that a good trace goes on with is no text source.
+# Text, or a picture's beginning, that a good trace goes on with is neither; and
+# a few bytes are no filling.
 looks_like_nothing 01 00 01 00 AF 63 6F 6D 6D 61 6E 64
+looks_like_nothing 01 00 01 00 AF 50 34 0A 31
+looks_like_nothing 01 00 01 00 AF 00 00 00
 
 checks_end refusals

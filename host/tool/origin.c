@@ -11,12 +11,11 @@ struct origin {
   uint8_t to;
 };
 
-/* Keeps the last event after which a code is awaited that was not before. */
+/* Keeps the last event after which a code is awaited. */
 static void see_code(const struct event *event, void *context)
 {
   struct origin *origin = context;
-  uint8_t awaited = event->after[SSD1815B_AWAITED_CODE];
-  if (awaited != 0 && awaited != event->before[SSD1815B_AWAITED_CODE]) {
+  if (event->after[SSD1815B_AWAITED_CODE] != 0) {
     origin->event = *event;
   }
 }
