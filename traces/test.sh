@@ -18,7 +18,7 @@ tool=("${@:2}")
 
 # A folder of traces with one trace in it, and its stored run.
 copy=$here/copy
-mkdir -p "$copy/traces/rules" "$copy/traces/recorded" "$copy/crates/lists"
+mkdir -p "$copy/traces/rules" "$copy/traces/recorded" "$copy/crates/listpack"
 cp "$traces"/{check.sh,make.py,pack.py} "$copy/traces"
 cp "$traces"/rules/bits.* "$copy/traces/rules"
 "$copy/traces/pack.py"

@@ -1,11 +1,10 @@
 -- The chip as a machine: its state is registers and display memory, and each bus event is a step.
 use Prim.Native.Nat.{ℕ}
-use mathlib.Core.List.{List}
+use mathlib.Core.List.{List, [], _∷_}
 use lib.ListN.{length}
 use Rattle.bus.specs.Events.{command, write, written, read, resetPin}
 use Rattle.bus.specs.declared.registers.Registers.{Registers}
 use Rattle.bus.specs.declared.answer.Answer.{Answer}
-use Rattle.bus.specs.declared.answer.Answer.the-variants.{Taken, Refused}
 
 pub record Chip : Type 0 where
   pub registers : Registers
@@ -31,8 +30,8 @@ step resetPulse r memory = record { answer = resetPin r; memory = memory }
 
 -- The registers after an answer: those that a taken event leaves, and those before where it was refused.
 unfoldable pub registersAfter : Answer → Registers → Registers
-registersAfter (Taken after) r = after .registers
-registersAfter (Refused number) r = r
+registersAfter (Answer.Taken after) r = after .registers
+registersAfter (Answer.Refused number) r = r
 
 -- The chip after an event.
 unfoldable pub chipAfter : Event → Chip → Chip
@@ -41,3 +40,8 @@ chipAfter event chip =
       registers = registersAfter (step event (chip .registers) (chip .memory) .answer) (chip .registers);
       memory = step event (chip .registers) (chip .memory) .memory;
     }
+
+-- The chip after events, one by one.
+unfoldable pub after : List Event → Chip → Chip
+after [] chip = chip
+after (event ∷ events) chip = after events (chipAfter event chip)

@@ -1,10 +1,12 @@
-pub mod Sizes
-pub mod Numbers
 pub mod Places
 pub mod Registers
 pub mod Memory
 pub mod Events
 pub mod Chip
 pub mod Image
+pub mod Start
 pub mod Calls
 pub mod Given
+pub mod Bytes
+pub mod StaysLegal
+pub mod CallsOnChip

@@ -4,10 +4,11 @@ ghost use Prim.Native.Nat.{_≤_};
 ghost use lib.ListN.{length};
 ghost use Rattle.codes.specs.OneOf.{oneOf};
 ghost use Rattle.bus.specs.Registers.{imageOf, registersOf, largestValues};
-ghost use Rattle.bus.specs.Image.{within, awaitedCodes, legal, short, asked, stored};
-use crate::refusal::OUT_OF_RANGE;
-use crate::refusal::TOO_SHORT;
+ghost use Rattle.bus.specs.Image.{within, awaitedCodes, legal, short, askedState, asked, stored};
 use crate::registers::Registers;
+use constants::refusal::OUT_OF_RANGE;
+use constants::refusal::TOO_SHORT;
+use constants::sizes::IMAGE_SIZE;
 
 // What a lent state and memory are found to be: taken up, with the registers, or refused 1 or 2.
 pub enum Asked {
@@ -47,6 +48,16 @@ pub fn ask(state: &[u8], memory: &[u8]) -> Asked
     ensures { λ r. ⌜ r ≡ asked (now (state .entry)) (now (memory .entry)) ⌝ }
 {
     if short(state, memory) {
+        return Asked::Refused(TOO_SHORT);
+    }
+    ask_state(state)
+}
+
+// Asks a lent state alone, first for its length and then for its ranges.
+pub fn ask_state(state: &[u8]) -> Asked
+    ensures { λ r. ⌜ r ≡ askedState (now (state .entry)) ⌝ }
+{
+    if state.len() < IMAGE_SIZE {
         return Asked::Refused(TOO_SHORT);
     }
     if legal(state) {
@@ -133,8 +144,8 @@ fn load(image: &[u8]) -> Registers
         quarter: image[9],
         held: image[10],
         phases: image[11],
-        mirrored: image[12],
-        rows: image[13],
+        column_direction: image[12],
+        row_direction: image[13],
         entire: image[14],
         reverse: image[15],
         on: image[16],
@@ -180,8 +191,8 @@ impl Registers {
             self.quarter,
             self.held,
             self.phases,
-            self.mirrored,
-            self.rows,
+            self.column_direction,
+            self.row_direction,
             self.entire,
             self.reverse,
             self.on,

@@ -4,5 +4,5 @@ pub mod calls;
 pub mod command;
 pub mod data;
 pub mod image;
-pub mod refusal;
 pub mod registers;
+pub mod start;

@@ -7,17 +7,18 @@ use native.Mathlib.Omega.{arith}
 use borrow.Author.Tests.{ne-eqb}
 use lib.ListN.{length, drop}
 use lib.Seq.{slice, length-slice}
-use Rattle.bus.specs.Numbers.{kindUnknown}
+use Rattle.constants.specs.Numbers.{kindUnknown}
 use Rattle.bus.specs.Chip.{Chip, resetPulse}
-use Rattle.trace.specs.Records.{Record, headerSize, recordAt}
+use Rattle.constants.specs.Sizes.{headerSize}
+use Rattle.trace.specs.Records.{Record, recordAt}
 use Rattle.trace.specs.Front.{frontOf}
 use Rattle.trace.specs.Play.{stopped, playEvents, playRecord}
 use Rattle.trace.specs.Kinds.{event, command, write, readAs, eventsOf, theChip}
 use Rattle.trace.specs.declared.records.Header.{Header}
-use Rattle.trace.specs.declared.records.Front.the-variants.{Whole}
 use Rattle.trace.proofs.Standing.{within-trace, the-record}
+use Rattle.trace.specs.declared.records.Front.{Front}
 
-module _ (trace : List ℕ) (at : ℕ) (header : Header) (h : frontOf (drop at trace) ≡ Whole header) (s : Chip) where
+module _ (trace : List ℕ) (at : ℕ) (header : Header) (h : frontOf (drop at trace) ≡ Front.Whole header) (s : Chip) where
   abbrev payload : List ℕ
   payload = slice (at + headerSize) (at + headerSize + header .length) trace
 

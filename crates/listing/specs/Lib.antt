@@ -1,8 +1,0 @@
-pub mod Sizes
-pub mod Ascii
-pub mod Decimal
-pub mod Runs
-pub mod LongestRuns
-pub mod Text
-pub mod Put
-pub mod Listing

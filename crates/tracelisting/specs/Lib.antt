@@ -1,0 +1,2 @@
+pub mod TraceListing
+pub mod Sample
