@@ -33,8 +33,8 @@ static const char all[] =
   "An option's value may follow = too: --scale=4.\n"
   "\n"
   "A run that is refused is shown as it stands at that place.  The number and\n"
-  "the place, what the number means and what would have been taken are said in\n"
-  "words; by list and picture on standard error.\n"
+  "the place, what the number means and what would have been taken are said\n"
+  "in words; by list and picture on standard error.\n"
   "\n"
   "Status 0: all taken.  1: refused.  2: a wrong command line, or input or\n"
   "output that fails.\n";
@@ -68,11 +68,11 @@ static const char *const usage[COMMANDS] = {
     "\n"
     "  --scale N          each dot N by N, 1 to 64, else 4\n"
     "  --png              PNG, not PBM, on standard output\n"
-    "  -o, --output FILE  to this file, PNG or PBM by its ending .png or .pbm;\n"
-    "                     one that is there is written over\n"
+    "  -o, --output FILE  to this file, PNG or PBM by its ending, .png or\n"
+    "                     .pbm; one that is there is written over\n"
     "\n"
-    "A tool that was built without PNG says so and writes PBM, to FILE.png.pbm\n"
-    "where FILE.png is asked for.\n",
+    "A tool that was built without PNG says so and writes PBM, to\n"
+    "FILE.png.pbm where FILE.png is asked for.\n",
   [STATE] =
     "usage: ssd1815b state [--after N] [TRACE]\n"
     "\n"
