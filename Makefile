@@ -52,7 +52,7 @@ SAMPLES  := $(OUT)/samples
 HEADER   := $(OUT)/header
 BENCH    := $(OUT)/bench/bench
 
-.PHONY: tool show test compare reread calls check-tool check-traces sanitize mutants \
+.PHONY: tool show test compare calls check-tool check-traces sanitize mutants \
         bench instructions traces spread oracle cross clean help
 .DELETE_ON_ERROR:
 
@@ -71,13 +71,12 @@ help:
 	@echo 'make calls         the calls that the oracle has no cases for, the header, the archive'
 	@echo 'make check-tool    the tool: what it prints, and its status'
 	@echo 'make check-traces  every trace, yours in traces/recorded too: oracle beside the tool'
-	@echo 'make reread        the oracle beside the second reading; SEED and TIMES likewise'
 	@echo 'make sanitize      the same tests with address and undefined-behaviour checks'
 	@echo 'make mutants       damaged plain C, which the comparison must catch'
 	@echo 'make bench         the library beside plain C: time'
 	@echo 'make instructions  the library beside plain C: executed instructions'
-	@echo 'make traces        makes traces/*/*.trace, *.list and the pack of crates/lists again'
-	@echo 'make spread        makes the table of crates/job/proofs/Spread.antt again from the oracle'
+	@echo 'make traces        makes traces/*/*.trace, *.list and the pack of crates/listpack again'
+	@echo 'make spread        makes the table of crates/tracelisting/proofs/Spread.antt again from the oracle'
 	@echo 'make clean         removes what was made'
 	@echo 'MODEL=plain        with any of these: plain C in place of the library'
 
@@ -86,12 +85,6 @@ test: compare calls check-tool check-traces
 
 compare: $(COMPARE) oracle
 	host/compare/compare.sh $(ORACLE) $(SEED) $(TIMES) -- $(RUN) $(COMPARE)
-
-# The oracle beside the second reading of documents 00 and 01.
-reread: oracle
-	cargo build --quiet --release --manifest-path reread/Cargo.toml
-	set -o pipefail; oracle/stream.sh $(ORACLE) $(SEED) $(TIMES) \
-	  | reread/target/release/reread
 
 calls: $(CALLS) $(SAMPLES) $(HEADER)
 	$(RUN) $(CALLS)

@@ -1,5 +1,5 @@
 #!/usr/bin/env python3
-"""Makes crates/job/proofs/Spread.antt: the definitions of specs/ beside this second program.
+"""Makes crates/tracelisting/proofs/Spread.antt: the definitions of specs/ beside this second program.
 
 The cases are chosen here, the same at every call; every value that the table
 expects is the oracle's answer to `play`, `run`, `frame` or `list`.  The prover
@@ -18,7 +18,7 @@ import tempfile
 
 HERE = pathlib.Path(__file__).resolve().parent
 ORACLE = HERE / "target" / "release" / "oracle"
-TABLE = HERE.parent / "crates" / "job" / "proofs" / "Spread.antt"
+TABLE = HERE.parent / "crates" / "tracelisting" / "proofs" / "Spread.antt"
 
 WIDTH, ROWS, MEMORY, IMAGE = 132, 65, 1188, 23
 SEED = 0x1815
@@ -489,12 +489,12 @@ use Rattle.picture.specs.Sizes.{frameRows, frameSize}
 use Rattle.picture.specs.Rows.{comOf, used, ramRowOf, panelShows, rowShows}
 use Rattle.picture.specs.Frame.{bit, columnOf, turned, shownBit, whileOn, segment, line as Frame·line, frame, rowOf as Frame·rowOf}
 use Rattle.picture.specs.Draw.{drawOn, draw}
-use Rattle.listing.specs.Ascii.{ascii}
-use Rattle.listing.specs.Decimal.{digits, decimal}
-use Rattle.listing.specs.Runs.{lit, anyLit, leading, runsFrom, runs as Runs·runs}
-use Rattle.listing.specs.Text.{runText, runsText, line, rowOf, lines, frameText, refusedText, listingOf}
+use Rattle.framelisting.specs.Ascii.{ascii}
+use Rattle.framelisting.specs.Decimal.{digits, decimal}
+use Rattle.framelisting.specs.Runs.{lit, anyLit, leading, runsFrom, runs as Runs·runs}
+use Rattle.framelisting.specs.Text.{runText, runsText, line, rowOf, lines, frameText, refusedText, listingOf}
 use Rattle.picture.proofs.Places.{frame-row}
-use Rattle.job.proofs.Seen.{down, rowShown, downShown, map-same, down-shown}
+use Rattle.tracelisting.proofs.Seen.{down, rowShown, downShown, map-same, down-shown}
 
 -- The last digits of a number in a base, so many, before others.
 abbrev digitsBefore : ℕ → ℕ → ℕ → List ℕ → List ℕ

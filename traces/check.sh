@@ -5,7 +5,7 @@
 # only a trace in recorded/ that is taken may be without one.  In refusals/ a
 # trace is refused with the number that its name begins with; in the other
 # folders all is taken, compared reads too.  Traces, listings and the stored run
-# of crates/lists must be what make.py and pack.py make.
+# of crates/listpack must be what make.py and pack.py make.
 #
 #   check.sh ORACLE TOOL...      TOOL... is the command that runs the tool
 set -euo pipefail

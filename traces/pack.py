@@ -1,5 +1,5 @@
 #!/usr/bin/env python3
-"""Makes the stored run of crates/lists, which `rt ci` compares.
+"""Makes the stored run of crates/listpack, which `rt ci` compares.
 
 `stdin` is a pack of every NAME.trace of this folder but recorded/, in the
 order of their names: for each the length of its name and of its trace (four
@@ -44,7 +44,7 @@ def main(arguments):
     if arguments not in ([], ["--check"]):
         sys.exit(__doc__)
     here = pathlib.Path(__file__).resolve().parent
-    program = here.parent / "crates" / "lists"
+    program = here.parent / "crates" / "listpack"
     stale = 0
     for name, content in stored_run(here).items():
         target = program / name
@@ -52,7 +52,7 @@ def main(arguments):
             target.write_bytes(content)
         elif not target.exists() or target.read_bytes() != content:
             stale += 1
-            print(f"crates/lists/{name} is not what the traces and listings say: `make traces` makes it again")
+            print(f"crates/listpack/{name} is not what the traces and listings say: `make traces` makes it again")
     return 0 if stale == 0 else 1
 
 

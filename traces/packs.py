@@ -1,5 +1,5 @@
 #!/usr/bin/env python3
-"""packs.py LISTS ORACLE: the program that lists packs, on packs that are whole,
+"""packs.py LISTPACK ORACLE: the program that lists packs, on packs that are whole,
 cut, and about its limit of 131,072 bytes.  What it must print for a trace is
 what the second program prints.
 """
@@ -57,16 +57,16 @@ def cases(oracle, here):
         yield f"{size} bytes", bytes(size), b"pack too long\n"
 
 
-def main(lists, oracle):
+def main(listpack, oracle):
     here = pathlib.Path(__file__).resolve().parent
     count, wrong = 0, 0
     for name, pack, wanted in cases(oracle, here):
         count += 1
-        found = output([lists], pack)
+        found = output([listpack], pack)
         if found != wanted:
             wrong += 1
-            print(f"lists: {name}: prints {found[-60:]!r}, wanted {wanted[-60:]!r}", file=sys.stderr)
-    print(f"lists: {count} packs, {wrong} differences")
+            print(f"listpack: {name}: prints {found[-60:]!r}, wanted {wanted[-60:]!r}", file=sys.stderr)
+    print(f"listpack: {count} packs, {wrong} differences")
     return 0 if wrong == 0 else 1
 
 

@@ -1,10 +1,10 @@
 #!/usr/bin/env bash
-# program.sh LIST LISTS ORACLE: the listing program on every stored trace, and on inputs about the limit of 65,536 bytes.
+# program.sh LISTTRACE LISTPACK ORACLE: the listing program on every stored trace, and on inputs about the limit of 65,536 bytes.
 # What it must print is what the second program prints. Then both programs on standard input that cannot be read and
 # standard output that cannot be written: one line on standard error, and nothing listed.
 set -euo pipefail
-list=$1
-lists=$2
+listtrace=$1
+listpack=$2
 oracle=$3
 cd "$(dirname "$0")/.."
 
@@ -19,7 +19,7 @@ wrong=0
 compare() {
     input=$(mktemp)
     cat >"$input"
-    "$list" <"$input" >"$found"
+    "$listtrace" <"$input" >"$found"
     "$oracle" list <"$input" >"$wanted"
     compared=$((compared + 1))
     if ! cmp -s "$found" "$wanted"; then
@@ -62,7 +62,7 @@ there.close()
 subprocess.run(sys.argv[1:2], stdin=here, check=True)' "$@"
 }
 
-for program in "$list" "$lists"; do
+for program in "$listtrace" "$listpack"; do
     name=$(basename "$program")
     "$program" <&- >"$found" 2>"$said"
     tells "$name: standard input cannot be read"
@@ -77,5 +77,5 @@ for program in "$list" "$lists"; do
     tells "$name: standard output cannot be written"
 done
 
-echo "list: $compared inputs, $wrong differences"
+echo "listtrace: $compared inputs, $wrong differences"
 [ "$wrong" -eq 0 ]

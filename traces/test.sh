@@ -19,7 +19,7 @@ tool=("${@:2}")
 
 # A folder of traces with one trace in it, and its stored run.
 copy=$here/copy
-mkdir -p "$copy/traces/rules" "$copy/traces/recorded" "$copy/crates/lists"
+mkdir -p "$copy/traces/rules" "$copy/traces/recorded" "$copy/crates/listpack"
 cp "$traces"/{check.sh,list.sh,make.py,pack.py,typed.py} "$copy/traces"
 cp "$traces"/rules/bits.* "$copy/traces/rules"
 "$copy/traces/pack.py"

@@ -10,37 +10,6 @@ use lib.ListN.{length}
 use borrow.Author.Tests.{eqb-true, eqb-false}
 use Rattle.codes.specs.Table.{meaningOf}
 use Rattle.codes.specs.declared.Command.{Command}
-use Rattle.codes.specs.declared.Command.the-variants.{
-  ColumnLow,
-  ColumnHigh,
-  ResistorRatio,
-  PowerControl,
-  StartLine,
-  Contrast,
-  ColumnDirection,
-  Bias,
-  EntireOn,
-  Reverse,
-  Multiplex,
-  HeldByte,
-  QuarterBias,
-  IndicatorOff,
-  IndicatorMode,
-  DisplayOn,
-  Page,
-  NoPage,
-  RowDirection,
-  Offset,
-  FramePhases,
-  EnterReadModifyWrite,
-  SoftwareReset,
-  Nothing,
-  LeaveReadModifyWrite,
-  Await,
-  NotAllowed,
-  NotAwaited,
-  Outside,
-}
 use Rattle.codes.proofs.Tests.{chosen}
 use Rattle.bus.specs.Sizes.{lastColumn, pages, memorySize}
 use Rattle.bus.specs.Numbers.{taken, columnAbove}
@@ -50,49 +19,48 @@ use Rattle.bus.specs.Given.{numberOfCommand, numberOfEvent, isRead}
 use Rattle.bus.specs.declared.registers.Registers.{Registers}
 use Rattle.bus.specs.declared.answer.After.{After}
 use Rattle.bus.specs.declared.answer.Answer.{Answer}
-use Rattle.bus.specs.declared.answer.Answer.the-variants.{Taken, Refused}
 
 -- an answer stands for a number: taken for 0, or refused with it, and then it is one of 1 to 7
 abbrev pub StandsFor : ℕ → Answer → Type 0
-StandsFor number (Taken after) = number ≡ taken
-StandsFor number (Refused refusal) = (number ≡ refusal) × (taken < refusal) × (refusal ≤ columnAbove)
+StandsFor number (Answer.Taken after) = number ≡ taken
+StandsFor number (Answer.Refused refusal) = (number ≡ refusal) × (taken < refusal) × (refusal ≤ columnAbove)
 
 -- a taken event that is no read answers byte 0 and not "dummy"
 abbrev pub Silent : Answer → Type 0
-Silent (Taken after) = (after .byte ≡ 0) × (after .dummy ≡ false)
-Silent (Refused number) = Unit {0}
+Silent (Answer.Taken after) = (after .byte ≡ 0) × (after .dummy ≡ false)
+Silent (Answer.Refused number) = Unit {0}
 
 obeyed-answers : (named : Command) (r : Registers) → StandsFor (numberOfCommand named) (obeyed named r) × Silent (obeyed named r)
 unfolding obeyed
-obeyed-answers (ColumnLow value) r = (refl, (refl, refl))
-obeyed-answers (ColumnHigh value) r = (refl, (refl, refl))
-obeyed-answers (ResistorRatio value) r = (refl, (refl, refl))
-obeyed-answers (PowerControl value) r = (refl, (refl, refl))
-obeyed-answers (StartLine value) r = (refl, (refl, refl))
-obeyed-answers (Contrast value) r = (refl, (refl, refl))
-obeyed-answers (ColumnDirection value) r = (refl, (refl, refl))
-obeyed-answers (Bias value) r = (refl, (refl, refl))
-obeyed-answers (EntireOn value) r = (refl, (refl, refl))
-obeyed-answers (Reverse value) r = (refl, (refl, refl))
-obeyed-answers (Multiplex value) r = (refl, (refl, refl))
-obeyed-answers (HeldByte value) r = (refl, (refl, refl))
-obeyed-answers (QuarterBias value) r = (refl, (refl, refl))
-obeyed-answers IndicatorOff r = (refl, (refl, refl))
-obeyed-answers (IndicatorMode value) r = (refl, (refl, refl))
-obeyed-answers (DisplayOn value) r = (refl, (refl, refl))
-obeyed-answers (Page value) r = (refl, (refl, refl))
-obeyed-answers NoPage r = ((refl, lit≤ tt, lit≤ tt), tt)
-obeyed-answers (RowDirection value) r = (refl, (refl, refl))
-obeyed-answers (Offset value) r = (refl, (refl, refl))
-obeyed-answers (FramePhases value) r = (refl, (refl, refl))
-obeyed-answers EnterReadModifyWrite r = (refl, (refl, refl))
-obeyed-answers SoftwareReset r = (refl, (refl, refl))
-obeyed-answers Nothing r = (refl, (refl, refl))
-obeyed-answers LeaveReadModifyWrite r = (refl, (refl, refl))
-obeyed-answers (Await value) r = (refl, (refl, refl))
-obeyed-answers NotAllowed r = ((refl, lit≤ tt, lit≤ tt), tt)
-obeyed-answers NotAwaited r = ((refl, lit≤ tt, lit≤ tt), tt)
-obeyed-answers Outside r = ((refl, lit≤ tt, lit≤ tt), tt)
+obeyed-answers (Command.ColumnLow value) r = (refl, (refl, refl))
+obeyed-answers (Command.ColumnHigh value) r = (refl, (refl, refl))
+obeyed-answers (Command.ResistorRatio value) r = (refl, (refl, refl))
+obeyed-answers (Command.PowerControl value) r = (refl, (refl, refl))
+obeyed-answers (Command.StartLine value) r = (refl, (refl, refl))
+obeyed-answers (Command.Contrast value) r = (refl, (refl, refl))
+obeyed-answers (Command.ColumnDirection value) r = (refl, (refl, refl))
+obeyed-answers (Command.Bias value) r = (refl, (refl, refl))
+obeyed-answers (Command.EntireOn value) r = (refl, (refl, refl))
+obeyed-answers (Command.Reverse value) r = (refl, (refl, refl))
+obeyed-answers (Command.Multiplex value) r = (refl, (refl, refl))
+obeyed-answers (Command.HeldByte value) r = (refl, (refl, refl))
+obeyed-answers (Command.QuarterBias value) r = (refl, (refl, refl))
+obeyed-answers Command.IndicatorOff r = (refl, (refl, refl))
+obeyed-answers (Command.IndicatorMode value) r = (refl, (refl, refl))
+obeyed-answers (Command.DisplayOn value) r = (refl, (refl, refl))
+obeyed-answers (Command.Page value) r = (refl, (refl, refl))
+obeyed-answers Command.NoPage r = ((refl, lit≤ tt, lit≤ tt), tt)
+obeyed-answers (Command.RowDirection value) r = (refl, (refl, refl))
+obeyed-answers (Command.Offset value) r = (refl, (refl, refl))
+obeyed-answers (Command.FramePhases value) r = (refl, (refl, refl))
+obeyed-answers Command.EnterReadModifyWrite r = (refl, (refl, refl))
+obeyed-answers Command.SoftwareReset r = (refl, (refl, refl))
+obeyed-answers Command.Nothing r = (refl, (refl, refl))
+obeyed-answers Command.LeaveReadModifyWrite r = (refl, (refl, refl))
+obeyed-answers (Command.Await value) r = (refl, (refl, refl))
+obeyed-answers Command.NotAllowed r = ((refl, lit≤ tt, lit≤ tt), tt)
+obeyed-answers Command.NotAwaited r = ((refl, lit≤ tt, lit≤ tt), tt)
+obeyed-answers Command.Outside r = ((refl, lit≤ tt, lit≤ tt), tt)
 
 abbrev Small : ℕ → Type 0
 Small number = number ≤ columnAbove
@@ -105,9 +73,9 @@ access-bound r size =
     (λ e. chosen Small (ltb (r .page) pages) _ _ (λ e. chosen Small (eqb (r .awaited) 0) _ _ (λ e. chosen Small (leb (r .column) lastColumn) _ _ (λ e. lit≤ tt) (λ e. lit≤ tt)) (λ e. lit≤ tt)) (λ e. lit≤ tt))
 
 -- an event that is taken where a number is 0 and else refused with it
-guarded : (number : ℕ) (answer : Answer) → number ≤ columnAbove → StandsFor taken answer → StandsFor number (cond (eqb number taken) answer (Refused number))
+guarded : (number : ℕ) (answer : Answer) → number ≤ columnAbove → StandsFor taken answer → StandsFor number (cond (eqb number taken) answer (Answer.Refused number))
 guarded number answer h p =
-    chosen (StandsFor number) (eqb number taken) answer (Refused number)
+    chosen (StandsFor number) (eqb number taken) answer (Answer.Refused number)
     (λ e. rw (eqb-true number taken e) p)
     (λ e. (refl, omega (arith, eqb-false number taken e), h))
 
@@ -140,9 +108,9 @@ step-silent resetPulse r memory h = (refl, refl)
 -- an answer with 0 is taken
 pub record WasTaken (answer : Answer) : Type 0 where
   pub after : After
-  pub is : answer ≡ Taken after
+  pub is : answer ≡ Answer.Taken after
 
 pub was-taken : (number : ℕ) (answer : Answer) → StandsFor number answer → numberOf answer ≡ taken → WasTaken answer
 unfolding numberOf
-was-taken number (Taken t) s n = record { after = t; is = refl }
-was-taken number (Refused refusal) s n = absurd (omega (arith, s .1))
+was-taken number (Answer.Taken t) s n = record { after = t; is = refl }
+was-taken number (Answer.Refused refusal) s n = absurd (omega (arith, s .1))

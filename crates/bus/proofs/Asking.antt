@@ -14,26 +14,25 @@ use Rattle.bus.specs.Image.{short, legal, asked}
 use Rattle.bus.specs.Calls.{askedBefore}
 use Rattle.bus.specs.declared.registers.Registers.{Registers}
 use Rattle.bus.specs.declared.image.Asked.{Asked}
-use Rattle.bus.specs.declared.image.Asked.the-variants.{Found, Refused}
 
 -- the two answers are never equal
-never : {n : ℕ} {r : Registers} → Refused n ≡ Found r → ⊥
+never : {n : ℕ} {r : Registers} → Asked.Refused n ≡ Asked.Found r → ⊥
 never e = let z : _≡_ {A = ℕ} 0 1 = cc in omega arith
 
-found : (s l : Bool) (own r : Registers) → cond s (Refused tooShort) (cond l (Found own) (Refused outOfRange)) ≡ Found r → (s ≡ false) × (l ≡ true) × (own ≡ r)
+found : (s l : Bool) (own r : Registers) → cond s (Asked.Refused tooShort) (cond l (Asked.Found own) (Asked.Refused outOfRange)) ≡ Asked.Found r → (s ≡ false) × (l ≡ true) × (own ≡ r)
 found true l own r e = absurd (never e)
 found false true own r e = (refl, refl, cc)
 found false false own r e = absurd (never e)
 
 -- found legal: they are long enough, the image is in its ranges, and the registers are the image's
-pub found-legal : (state memory : List ℕ) {r : Registers} → asked state memory ≡ Found r → (short state memory ≡ false) × (legal state ≡ true) × (registersOf state ≡ r)
+pub found-legal : (state memory : List ℕ) {r : Registers} → asked state memory ≡ Asked.Found r → (short state memory ≡ false) × (legal state ≡ true) × (registersOf state ≡ r)
 unfolding asked
 found-legal state memory e = found (short state memory) (legal state) (registersOf state) _ e
 
 -- what is asked first refuses with 1 or 2
 abbrev pub OneOrTwo : Asked → Type 0
-OneOrTwo (Found r) = Unit {0}
-OneOrTwo (Refused number) = (taken < number) × (number ≤ outOfRange)
+OneOrTwo (Asked.Found r) = Unit {0}
+OneOrTwo (Asked.Refused number) = (taken < number) × (number ≤ outOfRange)
 
 pub asked-refusal : (state memory : List ℕ) → OneOrTwo (asked state memory)
 unfolding asked

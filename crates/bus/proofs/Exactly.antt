@@ -25,9 +25,7 @@ use Rattle.bus.specs.Calls.{replyOf, concluded, refused, askedBefore, ca
 use Rattle.bus.specs.declared.registers.Registers.{Registers}
 use Rattle.bus.specs.declared.answer.After.{After}
 use Rattle.bus.specs.declared.answer.Answer.{Answer}
-use Rattle.bus.specs.declared.answer.Answer.the-variants.{Taken, Refused}
 use Rattle.bus.specs.declared.image.Asked.{Asked}
-use Rattle.bus.specs.declared.image.Asked.the-variants.{Found}
 use Rattle.bus.specs.declared.calls.Reply.{Reply}
 use Rattle.bus.proofs.Legal.{long}
 use Rattle.bus.proofs.Kept.{LegalRegisters, bound, state-facts}
@@ -42,15 +40,15 @@ read-reply r memory = by (access r (length memory)) (eqb (access r (length memor
     byte : ℕ
     byte = kept (r .page) (getD memory (address (r .page) (r .column)) 0)
 
-    by : (number : ℕ) (t fresh : Bool) → eqb number taken ≡ t → replyOf (cond t (cond fresh (dummyRead r) (byteRead r memory)) (Refused number)) ≡ record { number = number; byte = cond (t && not fresh) byte 0; dummy = t && fresh }
+    by : (number : ℕ) (t fresh : Bool) → eqb number taken ≡ t → replyOf (cond t (cond fresh (dummyRead r) (byteRead r memory)) (Answer.Refused number)) ≡ record { number = number; byte = cond (t && not fresh) byte 0; dummy = t && fresh }
     by number true true e = rw (eqb-true number taken e)
     by number true false e = rw (eqb-true number taken e)
     by number false fresh e = refl
 
 silent-reply : (number : ℕ) (answer : Answer) → StandsFor number answer → Silent answer → replyOf answer ≡ record { number = number; byte = 0; dummy = false }
 unfolding replyOf numberOf byteOf dummyOf
-silent-reply number (Taken after) n s = rw (n, s .0, s .1)
-silent-reply number (Refused refusal) n s = rw (n .0)
+silent-reply number (Answer.Taken after) n s = rw (n, s .0, s .1)
+silent-reply number (Answer.Refused refusal) n s = rw (n .0)
 
 step-reply : (event : Event) (r : Registers) (memory : List ℕ) → replyOf (step event r memory .answer) ≡ replyWith (metBy event r (length memory)) event r memory
 unfolding step
@@ -60,15 +58,15 @@ step-reply dataRead r memory = read-reply r memory
 step-reply resetPulse r memory = silent-reply _ _ (step-answers resetPulse r memory) (step-silent resetPulse r memory refl)
 
 -- a refusal
-refused-reply : (number : ℕ) (event : Event) (r : Registers) (memory : List ℕ) → eqb number taken ≡ false → replyOf (Refused number) ≡ replyWith number event r memory
+refused-reply : (number : ℕ) (event : Event) (r : Registers) (memory : List ℕ) → eqb number taken ≡ false → replyOf (Answer.Refused number) ≡ replyWith number event r memory
 unfolding replyOf numberOf byteOf dummyOf
 refused-reply number event r memory e = by (isRead event)
   where
-    by : (t : Bool) → replyOf (Refused number) ≡ record { number = number; byte = cond (t && eqb number taken && not (eqb (r .fresh) 1)) (kept (r .page) (getD memory (address (r .page) (r .column)) 0)) 0; dummy = t && eqb number taken && eqb (r .fresh) 1 }
+    by : (t : Bool) → replyOf (Answer.Refused number) ≡ record { number = number; byte = cond (t && eqb number taken && not (eqb (r .fresh) 1)) (kept (r .page) (getD memory (address (r .page) (r .column)) 0)) 0; dummy = t && eqb number taken && eqb (r .fresh) 1 }
     by true = rw e
     by false = refl
 
-ranged : (s t : Bool) (r : Registers) → cond s (Asked.Refused tooShort) (cond t (Found r) (Asked.Refused outOfRange)) ≡ cond s (Asked.Refused tooShort) (cond (not t) (Asked.Refused outOfRange) (Found r))
+ranged : (s t : Bool) (r : Registers) → cond s (Asked.Refused tooShort) (cond t (Asked.Found r) (Asked.Refused outOfRange)) ≡ cond s (Asked.Refused tooShort) (cond (not t) (Asked.Refused outOfRange) (Asked.Found r))
 ranged true t r = refl
 ranged false true r = refl
 ranged false false r = refl
@@ -85,7 +83,7 @@ kept-legal : (state memory : List ℕ) → short state memory ≡ false → not 
 kept-legal state memory p q = state-facts state (long state memory p .0) (not-false (legal state) q)
 
 -- what is asked before an event, as the table has it
-asked-table : (event : Event) (state memory : List ℕ) → askedBefore event state memory ≡ cond (short state memory) (Asked.Refused tooShort) (cond (asksRanges event && not (legal state)) (Asked.Refused outOfRange) (Found (registersOf state)))
+asked-table : (event : Event) (state memory : List ℕ) → askedBefore event state memory ≡ cond (short state memory) (Asked.Refused tooShort) (cond (asksRanges event && not (legal state)) (Asked.Refused outOfRange) (Asked.Found (registersOf state)))
 unfolding askedBefore asked
 asked-table (commandByte b) state memory = ranged (short state memory) (legal state) _
 asked-table (dataWritten b) state memory = ranged (short state memory) (legal state) _
@@ -104,7 +102,7 @@ pub reply-given : (event : Event) (state memory : List ℕ) → call event state
 unfolding call callOn concluded refused
 reply-given event state memory = rw (asked-table event state memory) (by (short state memory) (asksRanges event && not (legal state)) refl refl)
   where
-    by : (s t : Bool) → short state memory ≡ s → asksRanges event && not (legal state) ≡ t → callOn (cond s (Asked.Refused tooShort) (cond t (Asked.Refused outOfRange) (Found (registersOf state)))) event state memory .reply ≡ replyWith (cond s tooShort (cond t outOfRange (numberOfEvent event (registersOf state)))) event (registersOf state) memory
+    by : (s t : Bool) → short state memory ≡ s → asksRanges event && not (legal state) ≡ t → callOn (cond s (Asked.Refused tooShort) (cond t (Asked.Refused outOfRange) (Asked.Found (registersOf state)))) event state memory .reply ≡ replyWith (cond s tooShort (cond t outOfRange (numberOfEvent event (registersOf state)))) event (registersOf state) memory
     by true t p q = refused-reply tooShort event (registersOf state) memory refl
     by false true p q = refused-reply outOfRange event (registersOf state) memory refl
     by false false p q = step-reply event (registersOf state) memory ∙ ap (λ number. replyWith number event (registersOf state) memory) (met-number event state memory p q)
@@ -205,8 +203,8 @@ two-given event state memory = rw (number-given event state memory) (by (short s
 pub record IsTaken (event : Event) (state memory : List ℕ) : Type 0 where
   pub registers : Registers
   pub after : After
-  pub found : askedBefore event state memory ≡ Found registers
-  pub answer : step event registers memory .answer ≡ Taken after
+  pub found : askedBefore event state memory ≡ Asked.Found registers
+  pub answer : step event registers memory .answer ≡ Answer.Taken after
 
 -- 0 is given exactly when the event is taken
 pub call-taken : (event : Event) (state memory : List ℕ) → call event state memory .reply .number ≡ taken ↔ IsTaken event state memory
@@ -214,7 +212,7 @@ unfolding call callOn concluded refused replyOf numberOf
 call-taken event state memory = (λ e. on (askedBefore event state memory) refl e, λ t. rw (t .found, t .answer))
   where
     on : (asking : Asked) → askedBefore event state memory ≡ asking → callOn asking event state memory .reply .number ≡ taken → IsTaken event state memory
-    on (Found r) e n =
+    on (Asked.Found r) e n =
         let t = was-taken _ (step event r memory .answer) (step-answers event r memory) n in
         record { registers = r; after = t .after; found = e; answer = t .is }
     on (Asked.Refused number) e n = absurd (omega (arith, n, subst OneOrTwo e (before-refusal event state memory) .0))

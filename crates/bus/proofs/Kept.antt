@@ -13,55 +13,23 @@ use Rattle.codes.specs.OneOf.{oneOf}
 use Rattle.codes.specs.Table.{table, meaningOf}
 use Rattle.codes.specs.Values.{codesOf, CommandInRange}
 use Rattle.codes.specs.declared.Command.{Command}
-use Rattle.codes.specs.declared.Command.the-variants.{
-  ColumnLow,
-  ColumnHigh,
-  ResistorRatio,
-  PowerControl,
-  StartLine,
-  Contrast,
-  ColumnDirection,
-  Bias,
-  EntireOn,
-  Reverse,
-  Multiplex,
-  HeldByte,
-  QuarterBias,
-  IndicatorOff,
-  IndicatorMode,
-  DisplayOn,
-  Page,
-  NoPage,
-  RowDirection,
-  Offset,
-  FramePhases,
-  EnterReadModifyWrite,
-  SoftwareReset,
-  Nothing,
-  LeaveReadModifyWrite,
-  Await,
-  NotAllowed,
-  NotAwaited,
-  Outside,
-}
 use Rattle.codes.proofs.Tests.{both, chosen, one-of-at-most}
 use Rattle.codes.proofs.InRange.{meaning-in-range}
 use Rattle.bus.specs.Sizes.{imageSize}
 use Rattle.bus.specs.Numbers.{taken}
-use Rattle.bus.specs.Places.{page, column, start, offset, multiplex, contrast, ratio, power, bias, quarter, held, phases, mirrored, rows, entire, reverse, on, indicator, mode, awaited, modify, saved, fresh}
+use Rattle.bus.specs.Places.{page, column, start, offset, multiplex, contrast, ratio, power, bias, quarter, held, phases, columnDirection, rowDirection, entire, reverse, on, indicator, mode, awaited, modify, saved, fresh}
 use Rattle.bus.specs.Registers.{largestValues, imageOf, registersOf, _with_≔_, powerOn}
 use Rattle.bus.specs.Memory.{onward}
 use Rattle.bus.specs.Events.{done, enter, leave, softwareReset, obeyed, command, access, moved, write, read, resetPin}
 use Rattle.bus.specs.Chip.{Event, commandByte, dataWritten, dataRead, resetPulse, step}
 use Rattle.bus.specs.Image.{within, awaitedCodes, legal, asked}
-use Rattle.bus.specs.declared.image.Asked.the-variants.{Found}
 use Rattle.bus.proofs.Legal.{long}
 use Rattle.bus.specs.declared.registers.Registers.{Registers}
 use Rattle.bus.specs.declared.answer.Answer.{Answer}
-use Rattle.bus.specs.declared.answer.Answer.the-variants.{Taken, Refused}
 use Rattle.bus.proofs.Access.{opened}
 use Rattle.bus.proofs.Asking.{found-legal}
 use Rattle.bus.proofs.ThereAndBack.{image-registers, image-with}
+use Rattle.bus.specs.declared.image.Asked.{Asked}
 
 -- the three parts of being legal, as facts of the registers
 pub record LegalRegisters (r : Registers) : Type 0 where
@@ -124,8 +92,8 @@ put r place value e h = rw (image-with r place value) (within-set largestValues 
 
 -- what an answer leaves is legal
 abbrev pub Keeps : Answer → Type 0
-Keeps (Taken after) = LegalRegisters (after .registers)
-Keeps (Refused number) = Unit {0}
+Keeps (Answer.Taken after) = LegalRegisters (after .registers)
+Keeps (Answer.Refused number) = Unit {0}
 
 -- a taken command byte leaves what it set, with fresh 1
 done-keeps : (r : Registers) → LegalRegisters r → Keeps (done r)
@@ -138,8 +106,8 @@ unfolding largestValues
 bound r l place h = within-at largestValues (imageOf r) place (l .inRanges) h
 
 -- a data write or read that is not taken is refused
-taken-keeps : (number : ℕ) (x : Answer) → (number ≡ taken → Keeps x) → Keeps (cond (eqb number taken) x (Refused number))
-taken-keeps number x p = chosen Keeps (eqb number taken) x (Refused number) (λ e. p (eqb-true number taken e)) (λ e. tt)
+taken-keeps : (number : ℕ) (x : Answer) → (number ≡ taken → Keeps x) → Keeps (cond (eqb number taken) x (Answer.Refused number))
+taken-keeps number x p = chosen Keeps (eqb number taken) x (Answer.Refused number) (λ e. p (eqb-true number taken e)) (λ e. tt)
 
 -- a register is set that bears on no other: its value is in its range, and code, read-modify-write and saved column stay
 set-plain : (r : Registers) (place value : ℕ) → LegalRegisters r → value ≤ getD largestValues place 0 → (r with place ≔ value) .awaited ≡ r .awaited → (r with place ≔ value) .modify ≡ r .modify → (r with place ≔ value) .saved ≡ r .saved → LegalRegisters (r with place ≔ value)
@@ -191,7 +159,7 @@ within-sets (change ∷ changes) image e h =
 
 abbrev resets : Sets
 resets =
-    (page, 0) ∷ (column, 0) ∷ (start, 0) ∷ (rows, 0) ∷ (ratio, 4) ∷ (contrast, 32) ∷ (indicator, 0) ∷ (mode, 0) ∷ (modify, 0) ∷ (saved, 0) ∷ []
+    (page, 0) ∷ (column, 0) ∷ (start, 0) ∷ (rowDirection, 0) ∷ (ratio, 4) ∷ (contrast, 32) ∷ (indicator, 0) ∷ (mode, 0) ∷ (modify, 0) ∷ (saved, 0) ∷ []
 
 software-reset-keeps : (r : Registers) → LegalRegisters r → LegalRegisters (softwareReset r)
 unfolding largestValues
@@ -199,37 +167,37 @@ software-reset-keeps r l = record { inRanges = within-sets resets (imageOf r) (l
 
 obeyed-keeps : (named : Command) (r : Registers) → CommandInRange named → LegalRegisters r → Keeps (obeyed named r)
 unfolding obeyed largestValues codesOf table
-obeyed-keeps (ColumnLow low) r h l = done-keeps _ (set-plain r column _ l (omega (arith, bound r l column (omega arith))) refl refl refl)
-obeyed-keeps (ColumnHigh high) r h l = done-keeps _ (set-plain r column _ l (omega arith) refl refl refl)
-obeyed-keeps (ResistorRatio value) r h l = done-keeps _ (set-plain r ratio value l (omega arith) refl refl refl)
-obeyed-keeps (PowerControl value) r h l = done-keeps _ (set-plain r power value l (omega arith) refl refl refl)
-obeyed-keeps (StartLine value) r h l = done-keeps _ (set-plain r start value l (omega arith) refl refl refl)
-obeyed-keeps (Contrast value) r h l = done-keeps _ (set-plain r contrast value l (omega arith) refl refl refl)
-obeyed-keeps (ColumnDirection value) r h l = done-keeps _ (set-plain r mirrored value l (omega arith) refl refl refl)
-obeyed-keeps (Bias value) r h l = done-keeps _ (set-plain r bias value l (omega arith) refl refl refl)
-obeyed-keeps (EntireOn value) r h l = done-keeps _ (set-plain r entire value l (omega arith) refl refl refl)
-obeyed-keeps (Reverse value) r h l = done-keeps _ (set-plain r reverse value l (omega arith) refl refl refl)
-obeyed-keeps (Multiplex value) r h l = done-keeps _ (set-plain r multiplex value l (omega arith) refl refl refl)
-obeyed-keeps (HeldByte value) r h l = done-keeps _ (set-plain r held value l (omega arith) refl refl refl)
-obeyed-keeps (QuarterBias value) r h l = done-keeps _ (set-plain r quarter value l (omega arith) refl refl refl)
-obeyed-keeps IndicatorOff r h l = done-keeps _ (set-plain _ mode 0 (set-plain r indicator 0 l (omega arith) refl refl refl) (omega arith) refl refl refl)
-obeyed-keeps (IndicatorMode value) r h l = done-keeps _ (set-plain _ mode value (set-plain r indicator 1 l (omega arith) refl refl refl) (omega arith) refl refl refl)
-obeyed-keeps (DisplayOn value) r h l = done-keeps _ (set-plain r on value l (omega arith) refl refl refl)
-obeyed-keeps (Page value) r h l = done-keeps _ (set-plain r page value l (omega arith) refl refl refl)
-obeyed-keeps NoPage r h l = tt
-obeyed-keeps (RowDirection value) r h l = done-keeps _ (set-plain r rows value l (omega arith) refl refl refl)
-obeyed-keeps (Offset value) r h l = done-keeps _ (set-plain r offset value l (omega arith) refl refl refl)
-obeyed-keeps (FramePhases value) r h l = done-keeps _ (set-plain r phases value l (omega arith) refl refl refl)
-obeyed-keeps EnterReadModifyWrite r h l = done-keeps _ (enter-keeps r l)
-obeyed-keeps SoftwareReset r h l = done-keeps _ (software-reset-keeps r l)
-obeyed-keeps Nothing r h l = done-keeps r l
-obeyed-keeps LeaveReadModifyWrite r h l = done-keeps _ (leave-keeps r l)
-obeyed-keeps (Await code) r h l =
+obeyed-keeps (Command.ColumnLow low) r h l = done-keeps _ (set-plain r column _ l (omega (arith, bound r l column (omega arith))) refl refl refl)
+obeyed-keeps (Command.ColumnHigh high) r h l = done-keeps _ (set-plain r column _ l (omega arith) refl refl refl)
+obeyed-keeps (Command.ResistorRatio value) r h l = done-keeps _ (set-plain r ratio value l (omega arith) refl refl refl)
+obeyed-keeps (Command.PowerControl value) r h l = done-keeps _ (set-plain r power value l (omega arith) refl refl refl)
+obeyed-keeps (Command.StartLine value) r h l = done-keeps _ (set-plain r start value l (omega arith) refl refl refl)
+obeyed-keeps (Command.Contrast value) r h l = done-keeps _ (set-plain r contrast value l (omega arith) refl refl refl)
+obeyed-keeps (Command.ColumnDirection value) r h l = done-keeps _ (set-plain r columnDirection value l (omega arith) refl refl refl)
+obeyed-keeps (Command.Bias value) r h l = done-keeps _ (set-plain r bias value l (omega arith) refl refl refl)
+obeyed-keeps (Command.EntireOn value) r h l = done-keeps _ (set-plain r entire value l (omega arith) refl refl refl)
+obeyed-keeps (Command.Reverse value) r h l = done-keeps _ (set-plain r reverse value l (omega arith) refl refl refl)
+obeyed-keeps (Command.Multiplex value) r h l = done-keeps _ (set-plain r multiplex value l (omega arith) refl refl refl)
+obeyed-keeps (Command.HeldByte value) r h l = done-keeps _ (set-plain r held value l (omega arith) refl refl refl)
+obeyed-keeps (Command.QuarterBias value) r h l = done-keeps _ (set-plain r quarter value l (omega arith) refl refl refl)
+obeyed-keeps Command.IndicatorOff r h l = done-keeps _ (set-plain _ mode 0 (set-plain r indicator 0 l (omega arith) refl refl refl) (omega arith) refl refl refl)
+obeyed-keeps (Command.IndicatorMode value) r h l = done-keeps _ (set-plain _ mode value (set-plain r indicator 1 l (omega arith) refl refl refl) (omega arith) refl refl refl)
+obeyed-keeps (Command.DisplayOn value) r h l = done-keeps _ (set-plain r on value l (omega arith) refl refl refl)
+obeyed-keeps (Command.Page value) r h l = done-keeps _ (set-plain r page value l (omega arith) refl refl refl)
+obeyed-keeps Command.NoPage r h l = tt
+obeyed-keeps (Command.RowDirection value) r h l = done-keeps _ (set-plain r rowDirection value l (omega arith) refl refl refl)
+obeyed-keeps (Command.Offset value) r h l = done-keeps _ (set-plain r offset value l (omega arith) refl refl refl)
+obeyed-keeps (Command.FramePhases value) r h l = done-keeps _ (set-plain r phases value l (omega arith) refl refl refl)
+obeyed-keeps Command.EnterReadModifyWrite r h l = done-keeps _ (enter-keeps r l)
+obeyed-keeps Command.SoftwareReset r h l = done-keeps _ (software-reset-keeps r l)
+obeyed-keeps Command.Nothing r h l = done-keeps r l
+obeyed-keeps Command.LeaveReadModifyWrite r h l = done-keeps _ (leave-keeps r l)
+obeyed-keeps (Command.Await code) r h l =
     done-keeps _
     (record { inRanges = put r awaited code (l .inRanges) (one-of-at-most 255 (codesOf table) code refl h); code = code-legal code h; savedZero = l .savedZero })
-obeyed-keeps NotAllowed r h l = tt
-obeyed-keeps NotAwaited r h l = tt
-obeyed-keeps Outside r h l = tt
+obeyed-keeps Command.NotAllowed r h l = tt
+obeyed-keeps Command.NotAwaited r h l = tt
+obeyed-keeps Command.Outside r h l = tt
 
 -- registers that await no code any more
 unawaiting : (r : Registers) → LegalRegisters r → LegalRegisters (r with awaited ≔ 0)
@@ -277,7 +245,7 @@ step-keeps dataRead r memory h l = read-keeps r memory l
 step-keeps resetPulse r memory h l = power-on-legal
 
 -- the registers that a lent state was found to hold are legal
-pub asked-legal : (state memory : List ℕ) (r : Registers) → asked state memory ≡ Found r → LegalRegisters r
+pub asked-legal : (state memory : List ℕ) (r : Registers) → asked state memory ≡ Asked.Found r → LegalRegisters r
 asked-legal state memory r e =
     let f = found-legal state memory e in
     subst LegalRegisters (f .2) (state-facts state (long state memory (f .0) .0) (f .1))

@@ -12,11 +12,11 @@ use Rattle.bus.specs.Image.{within, legal, short, asked, stored}
 use Rattle.bus.specs.Chip.{Event, commandByte, dataWritten, dataRead, resetPulse, step}
 use Rattle.bus.specs.Calls.{concluded, askedBefore, callOn, call}
 use Rattle.bus.specs.declared.registers.Registers.{Registers}
-use Rattle.bus.specs.declared.image.Asked.the-variants.{Found}
 use Rattle.bus.proofs.Legal.{long}
 use Rattle.bus.proofs.Asking.{found-legal}
 use Rattle.bus.proofs.Kept.{LegalRegisters, facts-legal}
 use Rattle.bus.proofs.ThereAndBack.{image-registers}
+use Rattle.bus.specs.declared.image.Asked.{Asked}
 
 -- what was found in a state and memory: they are long enough, and the registers are the state's
 pub record Sized (state memory : List ℕ) (r : Registers) : Type 0 where
@@ -24,7 +24,7 @@ pub record Sized (state memory : List ℕ) (r : Registers) : Type 0 where
   pub display : memorySize ≤ length memory
   pub registers : registersOf state ≡ r
 
-pub sized : (state memory : List ℕ) (r : Registers) → asked state memory ≡ Found r → Sized state memory r
+pub sized : (state memory : List ℕ) (r : Registers) → asked state memory ≡ Asked.Found r → Sized state memory r
 sized state memory r e =
     let f = found-legal state memory e in
     let sizes = long state memory (f .0) in
@@ -47,13 +47,13 @@ module _ (state : List ℕ) (h : imageSize ≤ length state) where
   stored-past r = rw (stored-long r)
 
   -- legal registers that were stored are found again
-  pub asked-stored : (memory : List ℕ) (r : Registers) → memorySize ≤ length memory → LegalRegisters r → asked (stored r state) memory ≡ Found r
+  pub asked-stored : (memory : List ℕ) (r : Registers) → memorySize ≤ length memory → LegalRegisters r → asked (stored r state) memory ≡ Asked.Found r
   unfolding asked short legal within largestValues
   asked-stored memory r m l =
       rw (stored-long r, le-ltb (length (imageOf r ++ drop imageSize state)) imageSize (omega arith), le-ltb (length memory) memorySize m, facts-legal r l)
 
   -- what is asked before a call on a state that legal registers were stored in
-  asked-before : (e : Event) (r : Registers) (memory : List ℕ) → LegalRegisters r → memorySize ≤ length memory → askedBefore e (stored r state) memory ≡ Found r
+  asked-before : (e : Event) (r : Registers) (memory : List ℕ) → LegalRegisters r → memorySize ≤ length memory → askedBefore e (stored r state) memory ≡ Asked.Found r
   unfolding askedBefore short
   asked-before (commandByte b) r memory l m = asked-stored memory r m l
   asked-before (dataWritten b) r memory l m = asked-stored memory r m l

@@ -20,9 +20,7 @@ use Rattle.bus.specs.Calls.{replyOf, stateAfter, concluded, refused, ask
 use Rattle.bus.specs.declared.registers.Registers.{Registers}
 use Rattle.bus.specs.declared.answer.After.{After}
 use Rattle.bus.specs.declared.answer.Answer.{Answer}
-use Rattle.bus.specs.declared.answer.Answer.the-variants.{Taken, Refused}
 use Rattle.bus.specs.declared.image.Asked.{Asked}
-use Rattle.bus.specs.declared.image.Asked.the-variants.{Found}
 use Rattle.bus.proofs.Access.{address-inside}
 
 -- what holds of the memory with one byte set, and of the memory, holds after a write
@@ -49,8 +47,8 @@ step-length resetPulse r memory = refl
 -- the state past its image is left as it was
 pub state-past : (answer : Answer) (state : List ℕ) → drop imageSize (stateAfter answer state) ≡ drop imageSize state
 unfolding stateAfter stored
-state-past (Taken after) state = chosen (λ later. drop imageSize later ≡ drop imageSize state) (ltb (length state) imageSize) _ _ (λ e. refl) (λ e. refl)
-state-past (Refused number) state = refl
+state-past (Answer.Taken after) state = chosen (λ later. drop imageSize later ≡ drop imageSize state) (ltb (length state) imageSize) _ _ (λ e. refl) (λ e. refl)
+state-past (Answer.Refused number) state = refl
 
 -- the memory past its 1,188 bytes is left as it was
 pub memory-past : (event : Event) (r : Registers) (memory : List ℕ) → drop memorySize (step event r memory .memory) ≡ drop memorySize memory
@@ -69,14 +67,14 @@ unfolding call callOn concluded refused
 call-past event state memory = on (askedBefore event state memory)
   where
     on : (asking : Asked) → (drop imageSize (callOn asking event state memory .state) ≡ drop imageSize state) × (drop memorySize (callOn asking event state memory .memory) ≡ drop memorySize memory)
-    on (Found r) = (state-past (step event r memory .answer) state, memory-past event r memory)
+    on (Asked.Found r) = (state-past (step event r memory .answer) state, memory-past event r memory)
     on (Asked.Refused number) = (refl, refl)
 
-taken-refused : (after : After) (number : ℕ) → Taken after ≡ Refused number → ⊥
+taken-refused : (after : After) (number : ℕ) → Answer.Taken after ≡ Answer.Refused number → ⊥
 taken-refused after number e = let z : _≡_ {A = ℕ} 0 1 = cc in omega arith
 
 -- a refused event leaves the memory as it was
-pub refused-leaves : (event : Event) (r : Registers) (memory : List ℕ) (number : ℕ) → step event r memory .answer ≡ Refused number → step event r memory .memory ≡ memory
+pub refused-leaves : (event : Event) (r : Registers) (memory : List ℕ) (number : ℕ) → step event r memory .answer ≡ Answer.Refused number → step event r memory .memory ≡ memory
 unfolding step write written
 refused-leaves (commandByte b) r memory number e = refl
 refused-leaves (dataWritten b) r memory number e = by-write (λ left. left ≡ memory) b r memory (λ t. absurd (taken-refused _ number (rw (eq-eqb (access r (length memory)) taken t) at e))) refl
@@ -89,9 +87,9 @@ unfolding call callOn concluded refused replyOf numberOf stateAfter
 call-refused event state memory = on (askedBefore event state memory)
   where
     after : (r : Registers) (answer : Answer) → step event r memory .answer ≡ answer → replyOf answer .number ≢ taken → (stateAfter answer state ≡ state) × (step event r memory .memory ≡ memory)
-    after r (Taken t) e n = absurd (n refl)
-    after r (Refused number) e n = (refl, refused-leaves event r memory number e)
+    after r (Answer.Taken t) e n = absurd (n refl)
+    after r (Answer.Refused number) e n = (refl, refused-leaves event r memory number e)
 
     on : (asking : Asked) → callOn asking event state memory .reply .number ≢ taken → (callOn asking event state memory .state ≡ state) × (callOn asking event state memory .memory ≡ memory)
-    on (Found r) n = after r (step event r memory .answer) refl n
+    on (Asked.Found r) n = after r (step event r memory .answer) refl n
     on (Asked.Refused number) n = (refl, refl)

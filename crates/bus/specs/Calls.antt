@@ -8,9 +8,7 @@ use Rattle.bus.specs.Events.{numberOf, byteOf, dummyOf}
 use Rattle.bus.specs.Chip.{Event, commandByte, dataWritten, dataRead, resetPulse, Outcome, step}
 use Rattle.bus.specs.Image.{short, asked, stored}
 use Rattle.bus.specs.declared.answer.Answer.{Answer}
-use Rattle.bus.specs.declared.answer.Answer.the-variants.{Taken, Refused}
 use Rattle.bus.specs.declared.image.Asked.{Asked}
-use Rattle.bus.specs.declared.image.Asked.the-variants.{Found}
 use Rattle.bus.specs.declared.calls.Reply.{Reply}
 
 -- What a call replies, and the state and memory that it leaves.
@@ -29,12 +27,12 @@ replyOf answer = record { number = numberOf answer; byte = byteOf answer; dummy 
 
 -- A refusal leaves state and memory as they were.
 unfoldable pub refused : ℕ → List ℕ → List ℕ → Called
-refused number state memory = called (replyOf (Refused number)) state memory
+refused number state memory = called (replyOf (Answer.Refused number)) state memory
 
 -- The state after an answer: the image of the registers that a taken event leaves.
 unfoldable pub stateAfter : Answer → List ℕ → List ℕ
-stateAfter (Taken after) state = stored (after .registers) state
-stateAfter (Refused number) state = state
+stateAfter (Answer.Taken after) state = stored (after .registers) state
+stateAfter (Answer.Refused number) state = state
 
 -- An event's outcome as a call's.
 unfoldable pub concluded : Outcome → List ℕ → Called
@@ -45,11 +43,11 @@ unfoldable pub askedBefore : Event → List ℕ → List ℕ → Asked
 askedBefore (commandByte b) state memory = asked state memory
 askedBefore (dataWritten b) state memory = asked state memory
 askedBefore dataRead state memory = asked state memory
-askedBefore resetPulse state memory = cond (short state memory) (Asked.Refused tooShort) (Found (registersOf state))
+askedBefore resetPulse state memory = cond (short state memory) (Asked.Refused tooShort) (Asked.Found (registersOf state))
 
 -- An event on what was asked before it.
 unfoldable pub callOn : Asked → Event → List ℕ → List ℕ → Called
-callOn (Found r) event state memory = concluded (step event r memory) state
+callOn (Asked.Found r) event state memory = concluded (step event r memory) state
 callOn (Asked.Refused number) event state memory = refused number state memory
 
 -- The call of an event.

@@ -5,7 +5,6 @@ use lib.ListN.{length}
 use Rattle.bus.specs.Events.{command, write, written, read, resetPin}
 use Rattle.bus.specs.declared.registers.Registers.{Registers}
 use Rattle.bus.specs.declared.answer.Answer.{Answer}
-use Rattle.bus.specs.declared.answer.Answer.the-variants.{Taken, Refused}
 
 pub record Chip : Type 0 where
   pub registers : Registers
@@ -31,8 +30,8 @@ step resetPulse r memory = record { answer = resetPin r; memory = memory }
 
 -- The registers after an answer: those that a taken event leaves, and those before where it was refused.
 unfoldable pub registersAfter : Answer → Registers → Registers
-registersAfter (Taken after) r = after .registers
-registersAfter (Refused number) r = r
+registersAfter (Answer.Taken after) r = after .registers
+registersAfter (Answer.Refused number) r = r
 
 -- The chip after an event.
 unfoldable pub chipAfter : Event → Chip → Chip

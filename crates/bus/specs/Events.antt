@@ -6,62 +6,30 @@ use lib.Dec.{leb, ltb, eqb}
 use lib.ListN.{length, getD, set}
 use Rattle.codes.specs.Table.{meaningOf}
 use Rattle.codes.specs.declared.Command.{Command}
-use Rattle.codes.specs.declared.Command.the-variants.{
-  ColumnLow,
-  ColumnHigh,
-  ResistorRatio,
-  PowerControl,
-  StartLine,
-  Contrast,
-  ColumnDirection,
-  Bias,
-  EntireOn,
-  Reverse,
-  Multiplex,
-  HeldByte,
-  QuarterBias,
-  IndicatorOff,
-  IndicatorMode,
-  DisplayOn,
-  Page,
-  NoPage,
-  RowDirection,
-  Offset,
-  FramePhases,
-  EnterReadModifyWrite,
-  SoftwareReset,
-  Nothing,
-  LeaveReadModifyWrite,
-  Await,
-  NotAllowed,
-  NotAwaited,
-  Outside,
-}
 use Rattle.bus.specs.Sizes.{lastColumn, pages, memorySize}
 use Rattle.bus.specs.Numbers.{taken, tooShort, outOfRange, outsideTable, noPage, notAllowed, codeAwaited, columnAbove}
-use Rattle.bus.specs.Places.{page, column, start, offset, multiplex, contrast, ratio, power, bias, quarter, held, phases, mirrored, rows, entire, reverse, on, indicator, mode, awaited, modify, saved, fresh}
+use Rattle.bus.specs.Places.{page, column, start, offset, multiplex, contrast, ratio, power, bias, quarter, held, phases, columnDirection, rowDirection, entire, reverse, on, indicator, mode, awaited, modify, saved, fresh}
 use Rattle.bus.specs.Registers.{_with_≔_, powerOn}
 use Rattle.bus.specs.Memory.{address, kept, onward}
 use Rattle.bus.specs.declared.registers.Registers.{Registers}
 use Rattle.bus.specs.declared.answer.Answer.{Answer}
-use Rattle.bus.specs.declared.answer.Answer.the-variants.{Taken, Refused}
 
 -- The number, the byte and the dummy mark that each case of an answer stands for.
 unfoldable pub numberOf : Answer → ℕ
-numberOf (Taken after) = taken
-numberOf (Refused number) = number
+numberOf (Answer.Taken after) = taken
+numberOf (Answer.Refused number) = number
 
 unfoldable pub byteOf : Answer → ℕ
-byteOf (Taken after) = after .byte
-byteOf (Refused number) = 0
+byteOf (Answer.Taken after) = after .byte
+byteOf (Answer.Refused number) = 0
 
 unfoldable pub dummyOf : Answer → Bool
-dummyOf (Taken after) = after .dummy
-dummyOf (Refused number) = false
+dummyOf (Answer.Taken after) = after .dummy
+dummyOf (Answer.Refused number) = false
 
 -- A taken event that is no read answers byte 0 and not "dummy".
 abbrev pub silently : Registers → Answer
-silently r = Taken (record { registers = r; byte = 0; dummy = false })
+silently r = Answer.Taken (record { registers = r; byte = 0; dummy = false })
 
 -- Every command byte taken sets fresh to 1.
 abbrev pub done : Registers → Answer
@@ -70,7 +38,7 @@ done r = silently (r with fresh ≔ 1)
 -- E2 sets these; the rest stays.
 abbrev pub softwareReset : Registers → Registers
 softwareReset r =
-    r with page ≔ 0 with column ≔ 0 with start ≔ 0 with rows ≔ 0 with ratio ≔ 4 with contrast ≔ 32 with indicator ≔ 0 with mode ≔ 0 with modify ≔ 0 with saved ≔ 0
+    r with page ≔ 0 with column ≔ 0 with start ≔ 0 with rowDirection ≔ 0 with ratio ≔ 4 with contrast ≔ 32 with indicator ≔ 0 with mode ≔ 0 with modify ≔ 0 with saved ≔ 0
 
 -- E0 enters read-modify-write, saving the column; no effect if already in it.
 abbrev pub enter : Registers → Registers
@@ -82,35 +50,35 @@ leave r = cond (eqb (r .modify) 1) (r with modify ≔ 0 with column ≔ r .saved
 
 -- What each command does, in the table's order; an n where the code is none of the seven is out of range, which a call has asked before.
 unfoldable pub obeyed : Command → Registers → Answer
-obeyed (ColumnLow low) r = done (r with column ≔ r .column / 16 * 16 + low)
-obeyed (ColumnHigh high) r = done (r with column ≔ high * 16 + r .column % 16)
-obeyed (ResistorRatio value) r = done (r with ratio ≔ value)
-obeyed (PowerControl value) r = done (r with power ≔ value)
-obeyed (StartLine value) r = done (r with start ≔ value)
-obeyed (Contrast value) r = done (r with contrast ≔ value)
-obeyed (ColumnDirection value) r = done (r with mirrored ≔ value)
-obeyed (Bias value) r = done (r with bias ≔ value)
-obeyed (EntireOn value) r = done (r with entire ≔ value)
-obeyed (Reverse value) r = done (r with reverse ≔ value)
-obeyed (Multiplex value) r = done (r with multiplex ≔ value)
-obeyed (HeldByte value) r = done (r with held ≔ value)
-obeyed (QuarterBias value) r = done (r with quarter ≔ value)
-obeyed IndicatorOff r = done (r with indicator ≔ 0 with mode ≔ 0)
-obeyed (IndicatorMode value) r = done (r with indicator ≔ 1 with mode ≔ value)
-obeyed (DisplayOn value) r = done (r with on ≔ value)
-obeyed (Page value) r = done (r with page ≔ value)
-obeyed NoPage r = Refused noPage
-obeyed (RowDirection value) r = done (r with rows ≔ value)
-obeyed (Offset value) r = done (r with offset ≔ value)
-obeyed (FramePhases value) r = done (r with phases ≔ value)
-obeyed EnterReadModifyWrite r = done (enter r)
-obeyed SoftwareReset r = done (softwareReset r)
-obeyed Nothing r = done r
-obeyed LeaveReadModifyWrite r = done (leave r)
-obeyed (Await code) r = done (r with awaited ≔ code)
-obeyed NotAllowed r = Refused notAllowed
-obeyed NotAwaited r = Refused outOfRange
-obeyed Outside r = Refused outsideTable
+obeyed (Command.ColumnLow low) r = done (r with column ≔ r .column / 16 * 16 + low)
+obeyed (Command.ColumnHigh high) r = done (r with column ≔ high * 16 + r .column % 16)
+obeyed (Command.ResistorRatio value) r = done (r with ratio ≔ value)
+obeyed (Command.PowerControl value) r = done (r with power ≔ value)
+obeyed (Command.StartLine value) r = done (r with start ≔ value)
+obeyed (Command.Contrast value) r = done (r with contrast ≔ value)
+obeyed (Command.ColumnDirection value) r = done (r with columnDirection ≔ value)
+obeyed (Command.Bias value) r = done (r with bias ≔ value)
+obeyed (Command.EntireOn value) r = done (r with entire ≔ value)
+obeyed (Command.Reverse value) r = done (r with reverse ≔ value)
+obeyed (Command.Multiplex value) r = done (r with multiplex ≔ value)
+obeyed (Command.HeldByte value) r = done (r with held ≔ value)
+obeyed (Command.QuarterBias value) r = done (r with quarter ≔ value)
+obeyed Command.IndicatorOff r = done (r with indicator ≔ 0 with mode ≔ 0)
+obeyed (Command.IndicatorMode value) r = done (r with indicator ≔ 1 with mode ≔ value)
+obeyed (Command.DisplayOn value) r = done (r with on ≔ value)
+obeyed (Command.Page value) r = done (r with page ≔ value)
+obeyed Command.NoPage r = Answer.Refused noPage
+obeyed (Command.RowDirection value) r = done (r with rowDirection ≔ value)
+obeyed (Command.Offset value) r = done (r with offset ≔ value)
+obeyed (Command.FramePhases value) r = done (r with phases ≔ value)
+obeyed Command.EnterReadModifyWrite r = done (enter r)
+obeyed Command.SoftwareReset r = done (softwareReset r)
+obeyed Command.Nothing r = done r
+obeyed Command.LeaveReadModifyWrite r = done (leave r)
+obeyed (Command.Await code) r = done (r with awaited ≔ code)
+obeyed Command.NotAllowed r = Answer.Refused notAllowed
+obeyed Command.NotAwaited r = Answer.Refused outOfRange
+obeyed Command.Outside r = Answer.Refused outsideTable
 
 -- A command byte: once it is taken the awaited code is 00, as it was where none was awaited, unless the byte itself is a code that awaits n.
 unfoldable pub command : ℕ → Registers → Answer
@@ -128,7 +96,7 @@ moved r = r with column ≔ onward (r .column)
 
 -- A data byte written sets fresh to 1 and moves the column on.
 unfoldable pub write : Registers → ℕ → Answer
-write r size = cond (eqb (access r size) taken) (silently (moved r with fresh ≔ 1)) (Refused (access r size))
+write r size = cond (eqb (access r size) taken) (silently (moved r with fresh ≔ 1)) (Answer.Refused (access r size))
 
 -- The memory after it: one byte is stored, and no other changes.
 unfoldable pub written : ℕ → Registers → List ℕ → List ℕ
@@ -136,17 +104,17 @@ written b r memory = cond (eqb (access r (length memory)) taken) (set memory (ad
 
 -- The dummy read answers "dummy", byte 0, sets fresh to 0 and moves nothing.
 abbrev pub dummyRead : Registers → Answer
-dummyRead r = Taken (record { registers = r with fresh ≔ 0; byte = 0; dummy = true })
+dummyRead r = Answer.Taken (record { registers = r with fresh ≔ 0; byte = 0; dummy = true })
 
 -- Any other read answers the byte and moves the column on, except in read-modify-write.
 abbrev pub byteRead : Registers → List ℕ → Answer
 byteRead r memory =
-    Taken (record { registers = cond (eqb (r .modify) 1) r (moved r); byte = kept (r .page) (getD memory (address (r .page) (r .column)) 0); dummy = false })
+    Answer.Taken (record { registers = cond (eqb (r .modify) 1) r (moved r); byte = kept (r .page) (getD memory (address (r .page) (r .column)) 0); dummy = false })
 
 -- A data byte read.
 unfoldable pub read : Registers → List ℕ → Answer
 read r memory =
-    cond (eqb (access r (length memory)) taken) (cond (eqb (r .fresh) 1) (dummyRead r) (byteRead r memory)) (Refused (access r (length memory)))
+    cond (eqb (access r (length memory)) taken) (cond (eqb (r .fresh) 1) (dummyRead r) (byteRead r memory)) (Answer.Refused (access r (length memory)))
 
 -- A pulse on the reset pin gives the power-on state.
 unfoldable pub resetPin : Registers → Answer

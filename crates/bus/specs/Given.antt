@@ -6,37 +6,6 @@ use lib.Dec.{leb, eqb}
 use lib.ListN.{getD}
 use Rattle.codes.specs.Table.{meaningOf}
 use Rattle.codes.specs.declared.Command.{Command}
-use Rattle.codes.specs.declared.Command.the-variants.{
-  ColumnLow,
-  ColumnHigh,
-  ResistorRatio,
-  PowerControl,
-  StartLine,
-  Contrast,
-  ColumnDirection,
-  Bias,
-  EntireOn,
-  Reverse,
-  Multiplex,
-  HeldByte,
-  QuarterBias,
-  IndicatorOff,
-  IndicatorMode,
-  DisplayOn,
-  Page,
-  NoPage,
-  RowDirection,
-  Offset,
-  FramePhases,
-  EnterReadModifyWrite,
-  SoftwareReset,
-  Nothing,
-  LeaveReadModifyWrite,
-  Await,
-  NotAllowed,
-  NotAwaited,
-  Outside,
-}
 use Rattle.bus.specs.Sizes.{lastColumn}
 use Rattle.bus.specs.Numbers.{taken, tooShort, outOfRange, outsideTable, noPage, notAllowed, codeAwaited, columnAbove}
 use Rattle.bus.specs.Registers.{registersOf}
@@ -48,35 +17,35 @@ use Rattle.bus.specs.declared.calls.Reply.{Reply}
 
 -- 3 for a byte outside the table, 4 for B9-BF, 5 for an n that is not allowed; 2 for an n whose code is none of the seven, which a call has asked before
 abbrev pub numberOfCommand : Command → ℕ
-numberOfCommand (ColumnLow value) = taken
-numberOfCommand (ColumnHigh value) = taken
-numberOfCommand (ResistorRatio value) = taken
-numberOfCommand (PowerControl value) = taken
-numberOfCommand (StartLine value) = taken
-numberOfCommand (Contrast value) = taken
-numberOfCommand (ColumnDirection value) = taken
-numberOfCommand (Bias value) = taken
-numberOfCommand (EntireOn value) = taken
-numberOfCommand (Reverse value) = taken
-numberOfCommand (Multiplex value) = taken
-numberOfCommand (HeldByte value) = taken
-numberOfCommand (QuarterBias value) = taken
-numberOfCommand IndicatorOff = taken
-numberOfCommand (IndicatorMode value) = taken
-numberOfCommand (DisplayOn value) = taken
-numberOfCommand (Page value) = taken
-numberOfCommand NoPage = noPage
-numberOfCommand (RowDirection value) = taken
-numberOfCommand (Offset value) = taken
-numberOfCommand (FramePhases value) = taken
-numberOfCommand EnterReadModifyWrite = taken
-numberOfCommand SoftwareReset = taken
-numberOfCommand Nothing = taken
-numberOfCommand LeaveReadModifyWrite = taken
-numberOfCommand (Await value) = taken
-numberOfCommand NotAllowed = notAllowed
-numberOfCommand NotAwaited = outOfRange
-numberOfCommand Outside = outsideTable
+numberOfCommand (Command.ColumnLow value) = taken
+numberOfCommand (Command.ColumnHigh value) = taken
+numberOfCommand (Command.ResistorRatio value) = taken
+numberOfCommand (Command.PowerControl value) = taken
+numberOfCommand (Command.StartLine value) = taken
+numberOfCommand (Command.Contrast value) = taken
+numberOfCommand (Command.ColumnDirection value) = taken
+numberOfCommand (Command.Bias value) = taken
+numberOfCommand (Command.EntireOn value) = taken
+numberOfCommand (Command.Reverse value) = taken
+numberOfCommand (Command.Multiplex value) = taken
+numberOfCommand (Command.HeldByte value) = taken
+numberOfCommand (Command.QuarterBias value) = taken
+numberOfCommand Command.IndicatorOff = taken
+numberOfCommand (Command.IndicatorMode value) = taken
+numberOfCommand (Command.DisplayOn value) = taken
+numberOfCommand (Command.Page value) = taken
+numberOfCommand Command.NoPage = noPage
+numberOfCommand (Command.RowDirection value) = taken
+numberOfCommand (Command.Offset value) = taken
+numberOfCommand (Command.FramePhases value) = taken
+numberOfCommand Command.EnterReadModifyWrite = taken
+numberOfCommand Command.SoftwareReset = taken
+numberOfCommand Command.Nothing = taken
+numberOfCommand Command.LeaveReadModifyWrite = taken
+numberOfCommand (Command.Await value) = taken
+numberOfCommand Command.NotAllowed = notAllowed
+numberOfCommand Command.NotAwaited = outOfRange
+numberOfCommand Command.Outside = outsideTable
 
 -- what the registers of a legal state meet: 3, 4 or 5 of a command byte, 6 before 7 of a data event, nothing of the reset pin
 abbrev pub numberOfEvent : Event → Registers → ℕ

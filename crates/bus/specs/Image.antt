@@ -11,7 +11,6 @@ use Rattle.bus.specs.Places.{awaited, modify, saved}
 use Rattle.bus.specs.Registers.{largestValues, imageOf, registersOf}
 use Rattle.bus.specs.declared.registers.Registers.{Registers}
 use Rattle.bus.specs.declared.image.Asked.{Asked}
-use Rattle.bus.specs.declared.image.Asked.the-variants.{Found, Refused}
 
 -- Each byte of an image is at most the largest value in the list beside it.
 unfoldable pub within : List ℕ → List ℕ → Bool
@@ -36,7 +35,7 @@ short state memory = ltb (length state) imageSize || ltb (length memory) memoryS
 
 -- What a lent state and memory are asked first: their lengths, then the ranges.
 unfoldable pub asked : List ℕ → List ℕ → Asked
-asked state memory = cond (short state memory) (Refused tooShort) (cond (legal state) (Found (registersOf state)) (Refused outOfRange))
+asked state memory = cond (short state memory) (Asked.Refused tooShort) (cond (legal state) (Asked.Found (registersOf state)) (Asked.Refused outOfRange))
 
 -- A lent state with the image of the registers in its first 23 bytes; one that is too short stays as it is.
 unfoldable pub stored : Registers → List ℕ → List ℕ

@@ -43,13 +43,13 @@ held = 10
 abbrev pub phases : ℕ
 phases = 11
 
--- column direction
-abbrev pub mirrored : ℕ
-mirrored = 12
+-- 0 normal, 1 mirrored
+abbrev pub columnDirection : ℕ
+columnDirection = 12
 
--- row direction
-abbrev pub rows : ℕ
-rows = 13
+-- 0 normal, 1 reversed
+abbrev pub rowDirection : ℕ
+rowDirection = 13
 
 -- entire on
 abbrev pub entire : ℕ

@@ -4,10 +4,9 @@ use mathlib.Core.Bool.{cond, _&&_}
 use mathlib.Core.List.{List, [], _∷_, map}
 use lib.Dec.{eqb}
 use lib.ListN.{getD, set}
-use Rattle.bus.specs.Places.{page, column, start, offset, multiplex, contrast, ratio, power, bias, quarter, held, phases, mirrored, rows, entire, reverse, on, indicator, mode, awaited, modify, saved, fresh}
+use Rattle.bus.specs.Places.{page, column, start, offset, multiplex, contrast, ratio, power, bias, quarter, held, phases, columnDirection, rowDirection, entire, reverse, on, indicator, mode, awaited, modify, saved, fresh}
 use Rattle.bus.specs.declared.registers.Registers.{Registers}
 use Rattle.bus.specs.declared.registers.PowerState.{PowerState}
-use Rattle.bus.specs.declared.registers.PowerState.the-variants.{Awake, Sleep, Standby}
 
 -- The image of the registers.
 abbrev pub imageOf : Registers → List ℕ
@@ -24,8 +23,8 @@ imageOf r =
     r .quarter ∷
     r .held ∷
     r .phases ∷
-    r .mirrored ∷
-    r .rows ∷
+    r .«column_direction» ∷
+    r .«row_direction» ∷
     r .entire ∷
     r .reverse ∷
     r .on ∷
@@ -53,8 +52,8 @@ registersOf image =
       quarter = getD image quarter 0;
       held = getD image held 0;
       phases = getD image phases 0;
-      mirrored = getD image mirrored 0;
-      rows = getD image rows 0;
+      «column_direction» = getD image columnDirection 0;
+      «row_direction» = getD image rowDirection 0;
       entire = getD image entire 0;
       reverse = getD image reverse 0;
       on = getD image on 0;
@@ -95,8 +94,8 @@ ranges =
     range quarter 1 0 ∷
     range held 255 0 ∷
     range phases 3 0 ∷
-    range mirrored 1 0 ∷
-    range rows 1 0 ∷
+    range columnDirection 1 0 ∷
+    range rowDirection 1 0 ∷
     range entire 1 0 ∷
     range reverse 1 0 ∷
     range on 1 0 ∷
@@ -120,4 +119,4 @@ powerOn = registersOf (map (λ r. r .atPowerOn) ranges)
 
 -- Display off with entire on is power save: sleep with the indicator off, standby with it on.
 unfoldable pub powerState : Registers → PowerState
-powerState r = cond (eqb (r .on) 0 && eqb (r .entire) 1) (cond (eqb (r .indicator) 1) Standby Sleep) Awake
+powerState r = cond (eqb (r .on) 0 && eqb (r .entire) 1) (cond (eqb (r .indicator) 1) PowerState.Standby PowerState.Sleep) PowerState.Awake

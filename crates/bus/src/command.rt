@@ -47,7 +47,7 @@ impl Registers {
             Command::PowerControl(power) => self.power = power,
             Command::StartLine(line) => self.start = line,
             Command::Contrast(contrast) => self.contrast = contrast,
-            Command::ColumnDirection(direction) => self.mirrored = direction,
+            Command::ColumnDirection(direction) => self.column_direction = direction,
             Command::Bias(bias) => self.bias = bias,
             Command::EntireOn(entire) => self.entire = entire,
             Command::Reverse(reverse) => self.reverse = reverse,
@@ -59,7 +59,7 @@ impl Registers {
             Command::DisplayOn(on) => self.on = on,
             Command::Page(page) => self.page = page,
             Command::NoPage => return Answer::Refused(NO_PAGE),
-            Command::RowDirection(direction) => self.rows = direction,
+            Command::RowDirection(direction) => self.row_direction = direction,
             Command::Offset(offset) => self.offset = offset,
             Command::FramePhases(phases) => self.phases = phases,
             Command::EnterReadModifyWrite => self = self.enter(),
@@ -120,7 +120,7 @@ impl Registers {
         self.page = 0;
         self.column = 0;
         self.start = 0;
-        self.rows = 0;
+        self.row_direction = 0;
         self.ratio = 4;
         self.contrast = 32;
         self.indicator = 0;

@@ -23,9 +23,9 @@ pub struct Registers {
     // Frame phases.
     pub phases: u8,
     // Column direction: 0 normal, 1 mirrored.
-    pub mirrored: u8,
+    pub column_direction: u8,
     // Row direction: 0 normal, 1 reversed.
-    pub rows: u8,
+    pub row_direction: u8,
     // Entire on.
     pub entire: u8,
     pub reverse: u8,
@@ -69,8 +69,8 @@ impl Registers {
             quarter: 0,
             held: 0,
             phases: 0,
-            mirrored: 0,
-            rows: 0,
+            column_direction: 0,
+            row_direction: 0,
             entire: 0,
             reverse: 0,
             on: 0,

@@ -12,7 +12,6 @@ use borrow.Author.Tests.{le-leb, leb-true, ltb-true, eqb-true}
 use Rattle.codes.proofs.Tests.{refuted, both}
 use Rattle.codes.specs.Table.{Row, one, two, table, commandBy, commandOf, operandBy, operandOf}
 use Rattle.codes.specs.declared.Command.{Command}
-use Rattle.codes.specs.declared.Command.the-variants.{NotAwaited, Outside}
 
 -- no row of the list has the byte
 abbrev pub Apart : List Row → ℕ → Type 0
@@ -95,7 +94,7 @@ in-row k b {first} {last} {means} {after} at before low high = sym (past k table
     hit = rw (le-leb _ _ low, le-leb _ _ high)
 
 -- the byte is in no row: j rows end below x, the next k do not have it, and those after them begin above y
-pub in-gap : (j k x y b : ℕ) → below x (take j table) ≡ true → above y (drop k (drop j table)) ≡ true → x ≤ b → b ≤ y → Apart (take k (drop j table)) b → Outside ≡ commandOf b
+pub in-gap : (j k x y b : ℕ) → below x (take j table) ≡ true → above y (drop k (drop j table)) ≡ true → x ≤ b → b ≤ y → Apart (take k (drop j table)) b → Command.Outside ≡ commandOf b
 unfolding commandOf commandBy
 in-gap j k x y b before after low high between =
     let rest = drop k (drop j table) in
@@ -111,13 +110,13 @@ Unawaited [] code = Unit {0}
 Unawaited (one first last means ∷ rows) code = Unawaited rows code
 Unawaited (two awaited gives ∷ rows) code = (code ≡ awaited → ⊥) × Unawaited rows code
 
-refused : (rows : List Row) (code n : ℕ) → Unawaited rows code → operandBy rows code n ≡ NotAwaited
+refused : (rows : List Row) (code n : ℕ) → Unawaited rows code → operandBy rows code n ≡ Command.NotAwaited
 unfolding operandBy
 refused [] code n h = refl
 refused (one first last means ∷ rows) code n h = refused rows code n h
 refused (two awaited gives ∷ rows) code n h = rw (refuted (eqb code awaited) (λ e. h .0 (eqb-true _ _ e))) (refused rows code n (h .1))
 
 -- the code awaits nothing
-pub unawaited : (code n : ℕ) → Unawaited table code → NotAwaited ≡ operandOf code n
+pub unawaited : (code n : ℕ) → Unawaited table code → Command.NotAwaited ≡ operandOf code n
 unfolding operandOf
 unawaited code n h = sym (refused table code n h)

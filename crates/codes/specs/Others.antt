@@ -4,37 +4,6 @@ use mathlib.Core.Bool.{Bool, true, false, _&&_, _||_}
 use mathlib.Core.List.{List, [], _∷_}
 use lib.Dec.{leb}
 use Rattle.codes.specs.declared.Command.{Command}
-use Rattle.codes.specs.declared.Command.the-variants.{
-  ColumnLow,
-  ColumnHigh,
-  ResistorRatio,
-  PowerControl,
-  StartLine,
-  Contrast,
-  ColumnDirection,
-  Bias,
-  EntireOn,
-  Reverse,
-  Multiplex,
-  HeldByte,
-  QuarterBias,
-  IndicatorOff,
-  IndicatorMode,
-  DisplayOn,
-  Page,
-  NoPage,
-  RowDirection,
-  Offset,
-  FramePhases,
-  EnterReadModifyWrite,
-  SoftwareReset,
-  Nothing,
-  LeaveReadModifyWrite,
-  Await,
-  NotAllowed,
-  NotAwaited,
-  Outside,
-}
 
 -- from each first byte to each last
 abbrev pub others : List (ℕ × ℕ)
@@ -46,32 +15,32 @@ among [] b = false
 among (span ∷ spans) b = (leb (span .0) b && leb b (span .1)) || among spans b
 
 abbrev pub isOutside : Command → Bool
-isOutside (ColumnLow low) = false
-isOutside (ColumnHigh high) = false
-isOutside (ResistorRatio ratio) = false
-isOutside (PowerControl power) = false
-isOutside (StartLine line) = false
-isOutside (Contrast contrast) = false
-isOutside (ColumnDirection direction) = false
-isOutside (Bias bias) = false
-isOutside (EntireOn entire) = false
-isOutside (Reverse reverse) = false
-isOutside (Multiplex multiplex) = false
-isOutside (HeldByte byte) = false
-isOutside (QuarterBias bias) = false
-isOutside IndicatorOff = false
-isOutside (IndicatorMode mode) = false
-isOutside (DisplayOn on) = false
-isOutside (Page page) = false
-isOutside NoPage = false
-isOutside (RowDirection direction) = false
-isOutside (Offset offset) = false
-isOutside (FramePhases phases) = false
-isOutside EnterReadModifyWrite = false
-isOutside SoftwareReset = false
-isOutside Nothing = false
-isOutside LeaveReadModifyWrite = false
-isOutside (Await code) = false
-isOutside NotAllowed = false
-isOutside NotAwaited = false
-isOutside Outside = true
+isOutside (Command.ColumnLow low) = false
+isOutside (Command.ColumnHigh high) = false
+isOutside (Command.ResistorRatio ratio) = false
+isOutside (Command.PowerControl power) = false
+isOutside (Command.StartLine line) = false
+isOutside (Command.Contrast contrast) = false
+isOutside (Command.ColumnDirection direction) = false
+isOutside (Command.Bias bias) = false
+isOutside (Command.EntireOn entire) = false
+isOutside (Command.Reverse reverse) = false
+isOutside (Command.Multiplex multiplex) = false
+isOutside (Command.HeldByte byte) = false
+isOutside (Command.QuarterBias bias) = false
+isOutside Command.IndicatorOff = false
+isOutside (Command.IndicatorMode mode) = false
+isOutside (Command.DisplayOn on) = false
+isOutside (Command.Page page) = false
+isOutside Command.NoPage = false
+isOutside (Command.RowDirection direction) = false
+isOutside (Command.Offset offset) = false
+isOutside (Command.FramePhases phases) = false
+isOutside Command.EnterReadModifyWrite = false
+isOutside Command.SoftwareReset = false
+isOutside Command.Nothing = false
+isOutside Command.LeaveReadModifyWrite = false
+isOutside (Command.Await code) = false
+isOutside Command.NotAllowed = false
+isOutside Command.NotAwaited = false
+isOutside Command.Outside = true

@@ -2,9 +2,8 @@
 use Prim.Native.Nat.{ℕ}
 use mathlib.Core.List.{List}
 use Rattle.bus.specs.Numbers.{taken}
-use Rattle.listing.specs.Listing.{Outcome}
-use Rattle.listing.specs.declared.Listed.{Listed}
-use Rattle.listing.specs.declared.Listed.the-variants.{Written, Refused}
+use Rattle.framelisting.specs.Listing.{Outcome}
+use Rattle.framelisting.specs.declared.Listed.{Listed}
 
 pub record HeldText : Type 0 where
   pub number : ℕ
@@ -16,8 +15,8 @@ heldText answer long later = record { number = answer; size = long; text = later
 
 -- The number and the length that each answer stands for; a refusal has length 0.
 unfoldable pub ofAnswer : Listed → List ℕ → HeldText
-ofAnswer (Written long) later = heldText taken long later
-ofAnswer (Refused number) later = heldText number 0 later
+ofAnswer (Listed.Written long) later = heldText taken long later
+ofAnswer (Listed.Refused number) later = heldText number 0 later
 
 abbrev pub ofListed : Outcome → HeldText
 ofListed outcome = ofAnswer (outcome .answer) (outcome .text)

@@ -1,9 +1,9 @@
 // A frame listed as text.
 ghost use mathlib.Core.Path.{_≡_};
-ghost use Rattle.listing.specs.Listing.{listed};
+ghost use Rattle.framelisting.specs.Listing.{listed};
 ghost use Rattle.host.specs.List.{heldText, ofListed};
 use bus::refusal::TAKEN;
-use listing::Listed;
+use framelisting::Listed;
 
 // Lists a frame, after a stopped run's number and offset: the text's length goes to where the host wants it, 0 where it is refused.
 #[no_mangle]
@@ -16,7 +16,7 @@ pub extern "C" fn ssd1815b_list(
 ) -> u8
     ensures { λ r. ⌜ heldText r (now (length .exit)) (now (text .exit)) ≡ ofListed (listed number offset (now (frame .entry)) (now (text .entry))) ⌝ }
 {
-    match listing::list(number, offset, frame, text) {
+    match framelisting::list(number, offset, frame, text) {
         Listed::Written(written) => {
             *length = written;
             TAKEN

@@ -129,8 +129,8 @@ moved n r b memory y y′ l l′ e = row-bits (raised n r) (raised-bounds n r b)
 scrolled : (r : Registers) → Bounds r → (n : ℕ) (memory : List ℕ) → Scrolls r n memory
 unfolding raised scroll
 scrolled r b n memory = record {
-  up = λ rows p l. moved n r b memory p ((p + n) % height) (omega arith) (omega arith) (rw (lt-ltb p height l, lt-ltb ((p + n) % height) height (mod-lt _ (omega arith)), eq-eqb (r .rows) 0 rows) (up height (r .start) (r .offset) n p));
-  down = λ rows p l. moved n r b memory ((p + n) % height) p (omega arith) (omega arith) (rw (lt-ltb p height l, lt-ltb ((p + n) % height) height (mod-lt _ (omega arith)), ne-eqb (r .rows) 0 (omega arith)) (down height (r .start) (r .offset) n p (b .start) (b .offset) l));
+  up = λ rows p l. moved n r b memory p ((p + n) % height) (omega arith) (omega arith) (rw (lt-ltb p height l, lt-ltb ((p + n) % height) height (mod-lt _ (omega arith)), eq-eqb (r .«row_direction») 0 rows) (up height (r .start) (r .offset) n p));
+  down = λ rows p l. moved n r b memory ((p + n) % height) p (omega arith) (omega arith) (rw (lt-ltb p height l, lt-ltb ((p + n) % height) height (mod-lt _ (omega arith)), ne-eqb (r .«row_direction») 0 (omega arith)) (down height (r .start) (r .offset) n p (b .start) (b .offset) l));
   icons = moved n r b memory height height (omega arith) (omega arith) refl;
 }
 
@@ -231,10 +231,10 @@ module _ (r s : Registers) (b : Bounds r) (d : Bounds s) (same : (memory : List 
   agreed =
       let first = bit-agrees 0 0 (omega arith) (omega arith) in
       let second = bit-agrees 1 0 (omega arith) (omega arith) in
-      let turns = decided height (eqb (r .rows) 0) (eqb (s .rows) 0) (scroll r) (scroll s) (omega arith) (scroll-below r) (scroll-below s) (sym (first .0)) (sym (second .0)) in
+      let turns = decided height (eqb (r .«row_direction») 0) (eqb (s .«row_direction») 0) (scroll r) (scroll s) (omega arith) (scroll-below r) (scroll-below s) (sym (first .0)) (sym (second .0)) in
       record {
-        columns = direction (r .mirrored) (s .mirrored) (b .columns) (d .columns) (column-decided (eqb (r .mirrored) 0) (eqb (s .mirrored) 0) (sym (first .1)));
-        rows = direction (r .rows) (s .rows) (b .rows) (d .rows) (turns .0);
+        columns = direction (r .«column_direction») (s .«column_direction») (b .columns) (d .columns) (column-decided (eqb (r .«column_direction») 0) (eqb (s .«column_direction») 0) (sym (first .1)));
+        rows = direction (r .«row_direction») (s .«row_direction») (b .rows) (d .rows) (turns .0);
         reverse = reverse-agrees;
         line = turns .1;
       }

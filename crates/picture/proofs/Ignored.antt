@@ -7,7 +7,7 @@ use native.Mathlib.Omega.{arith}
 use native.Mathlib.Decide.{decLt}
 use lib.ListN.{getD, set}
 use Rattle.bus.specs.Sizes.{width}
-use Rattle.bus.specs.Places.{start, offset, multiplex, mirrored, rows, entire, reverse, on}
+use Rattle.bus.specs.Places.{start, offset, multiplex, columnDirection, rowDirection, entire, reverse, on}
 use Rattle.bus.specs.Registers.{imageOf, registersOf}
 use Rattle.bus.specs.Memory.{address}
 use Rattle.bus.specs.declared.registers.Registers.{Registers}
@@ -17,7 +17,6 @@ use Rattle.picture.specs.Frame.{bit, columnOf, shownBit, whileOn, segmen
 use Rattle.picture.specs.Ignored.{drawNothing, DrawAlike, SameBits}
 use Rattle.picture.specs.declared.rows.RamRow.{RamRow}
 use Rattle.picture.specs.declared.rows.Shown.{Shown}
-use Rattle.picture.specs.declared.rows.Shown.the-variants.{Dark, Ram}
 use Rattle.picture.proofs.Lines.{grid-same}
 use Rattle.picture.proofs.RowRule.{ram-within}
 use Rattle.picture.proofs.Full.{column-below}
@@ -35,18 +34,18 @@ seen-alike r s a =
     let by-start : r .start ≡ s .start = a start refl in
     let by-offset : r .offset ≡ s .offset = a offset refl in
     let by-multiplex : r .multiplex ≡ s .multiplex = a multiplex refl in
-    let by-mirrored : r .mirrored ≡ s .mirrored = a mirrored refl in
-    let by-rows : r .rows ≡ s .rows = a rows refl in
+    let by-columns : r .«column_direction» ≡ s .«column_direction» = a columnDirection refl in
+    let by-rows : r .«row_direction» ≡ s .«row_direction» = a rowDirection refl in
     let by-entire : r .entire ≡ s .entire = a entire refl in
     let by-reverse : r .reverse ≡ s .reverse = a reverse refl in
     let by-on : r .on ≡ s .on = a on refl in
-    rw (by-start, by-offset, by-multiplex, by-mirrored, by-rows, by-entire, by-reverse, by-on)
+    rw (by-start, by-offset, by-multiplex, by-columns, by-rows, by-entire, by-reverse, by-on)
 
 -- drawing asks no other
 segment-seen : (r : Registers) (memory : List ℕ) (shown : Shown) (x : ℕ) → segment width r memory shown x ≡ segment width (seen r) memory shown x
 unfolding segment whileOn shownBit columnOf
-segment-seen r memory Dark x = refl
-segment-seen r memory (Ram row) x = refl
+segment-seen r memory Shown.Dark x = refl
+segment-seen r memory (Shown.Ram row) x = refl
 
 frame-seen : (r : Registers) (memory : List ℕ) → frame r memory ≡ frame (seen r) memory
 unfolding frame rowShows panelShows used ramRowOf comOf
@@ -73,5 +72,5 @@ unfolding frame segment whileOn shownBit
 rest-ignored r memory other e = grid-same width frameRows _ _ (λ y x l k. place y x k (rowShows height r (panelRow y)) refl)
   where
     place : (y x : ℕ) → x < width → (shown : Shown) → rowShows height r (panelRow y) ≡ shown → segment width r memory (rowShows height r (panelRow y)) x ≡ segment width r other (rowShows height r (panelRow y)) x
-    place y x k Dark q = rw q
-    place y x k (Ram row) q = rw (q, bit-same memory other e row (columnOf width r x) (ram-within height r (panelRow y) (omega arith) q) (column-below width r x k))
+    place y x k Shown.Dark q = rw q
+    place y x k (Shown.Ram row) q = rw (q, bit-same memory other e row (columnOf width r x) (ram-within height r (panelRow y) (omega arith) q) (column-below width r x k))

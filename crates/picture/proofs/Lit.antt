@@ -12,7 +12,7 @@ use Rattle.picture.specs.Sizes.{height}
 use Rattle.picture.specs.Rows.{ramRow, comOf, used, ramRowOf, panelShows, rowShows}
 use Rattle.picture.specs.Frame.{whileOn}
 use Rattle.picture.specs.declared.rows.PanelRow.{PanelRow}
-use Rattle.picture.specs.declared.rows.Shown.the-variants.{Dark, Ram}
+use Rattle.picture.specs.declared.rows.Shown.{Shown}
 
 all-used : (r : Registers) (row : PanelRow) → r .multiplex ≡ 63 → used r (comOf height r row) ≡ true
 unfolding used comOf
@@ -22,6 +22,6 @@ pub all-lit : (w : ℕ) (r : Registers) (memory : List ℕ) (row : PanelRow) (x 
 unfolding whileOn panelShows rowShows
 all-lit w r memory row x all entire = by (ltb (row .0) height)
   where
-    by : (t : Bool) → whileOn w r memory (cond t (cond (used r (comOf height r row)) (Ram (ramRowOf height r (comOf height r row))) Dark) (Ram (ramRow height))) x ≡ 1
+    by : (t : Bool) → whileOn w r memory (cond t (cond (used r (comOf height r row)) (Shown.Ram (ramRowOf height r (comOf height r row))) Shown.Dark) (Shown.Ram (ramRow height))) x ≡ 1
     by true = rw (all-used r row all, eq-eqb _ _ entire)
     by false = rw (eq-eqb _ _ entire)

@@ -12,8 +12,8 @@ use Rattle.picture.specs.Sizes.{height, frameRows, frameSize}
 use Rattle.picture.specs.Rows.{panelRow, ramRow, rowShows}
 use Rattle.picture.specs.Frame.{bit, columnOf, turned, shownBit, whileOn, segment, line, frame, rowOf, placeOf}
 use Rattle.picture.specs.declared.rows.RamRow.{RamRow}
-use Rattle.picture.specs.declared.rows.Shown.the-variants.{Ram}
 use Rattle.picture.proofs.Lines.{line-same, line-at, grid-length, grid-row, grid-same, grid-alike}
+use Rattle.picture.specs.declared.rows.Shown.{Shown}
 
 pub frame-length : (r : Registers) (memory : List ℕ) → length (frame r memory) ≡ frameSize
 unfolding frame
@@ -32,12 +32,12 @@ frame-place r memory y x l k =
     line-at width (segment width r memory (rowShows height r (panelRow y))) x k
 
 -- where the display is on and not forced all-lit, a RAM row shows its bits
-pub bits-show : (r : Registers) (memory : List ℕ) (row : RamRow) (x : ℕ) → r .on ≡ 1 → r .entire ≡ 0 → segment width r memory (Ram row) x ≡ shownBit width r memory row x
+pub bits-show : (r : Registers) (memory : List ℕ) (row : RamRow) (x : ℕ) → r .on ≡ 1 → r .entire ≡ 0 → segment width r memory (Shown.Ram row) x ≡ shownBit width r memory row x
 unfolding segment whileOn
 bits-show r memory row x on entire = rw (on, entire)
 
 -- with columns normal and not reversed, they are the memory's own
-pub row-plain : (r : Registers) (memory : List ℕ) (p n : ℕ) → p < frameRows → r .on ≡ 1 → r .entire ≡ 0 → r .mirrored ≡ 0 → r .reverse ≡ 0 → rowShows height r (panelRow p) ≡ Ram (ramRow n) → rowOf p (frame r memory) ≡ line width (bit memory (ramRow n))
+pub row-plain : (r : Registers) (memory : List ℕ) (p n : ℕ) → p < frameRows → r .on ≡ 1 → r .entire ≡ 0 → r .«column_direction» ≡ 0 → r .reverse ≡ 0 → rowShows height r (panelRow p) ≡ Shown.Ram (ramRow n) → rowOf p (frame r memory) ≡ line width (bit memory (ramRow n))
 unfolding bit shownBit columnOf turned
 row-plain r memory p n l on entire columns reverse shows =
     frame-row r memory p l ∙

@@ -11,16 +11,15 @@ use Rattle.picture.specs.declared.rows.PanelRow.{PanelRow}
 use Rattle.picture.specs.declared.rows.Com.{Com}
 use Rattle.picture.specs.declared.rows.RamRow.{RamRow}
 use Rattle.picture.specs.declared.rows.Shown.{Shown}
-use Rattle.picture.specs.declared.rows.Shown.the-variants.{Dark, Ram}
 
 -- the RAM row that is shown, if any, is at most h
 abbrev pub WithinRam : ℕ → Shown → Type 0
-WithinRam h Dark = Unit
-WithinRam h (Ram row) = row .0 ≤ h
+WithinRam h Shown.Dark = Unit
+WithinRam h (Shown.Ram row) = row .0 ≤ h
 
 ram-row-within : (h : ℕ) (r : Registers) (k : Com) → 0 < h → ramRowOf h r k .0 ≤ h
 unfolding ramRowOf
-ram-row-within h r k pos = chosen (λ (row : RamRow). row .0 ≤ h) (eqb (r .rows) 0) _ _ (λ e. le-of-lt (mod-lt _ pos)) (λ e. le-of-lt (mod-lt _ pos))
+ram-row-within h r k pos = chosen (λ (row : RamRow). row .0 ≤ h) (eqb (r .«row_direction») 0) _ _ (λ e. le-of-lt (mod-lt _ pos)) (λ e. le-of-lt (mod-lt _ pos))
 
 shows-within : (h : ℕ) (r : Registers) (row : PanelRow) → 0 < h → WithinRam h (rowShows h r row)
 unfolding rowShows panelShows
@@ -29,5 +28,5 @@ shows-within h r row pos =
     (λ e. chosen (WithinRam h) (used r (comOf h r row)) _ _ (λ e. ram-row-within h r (comOf h r row) pos) (λ e. tt))
     (λ e. le-refl h)
 
-pub ram-within : (h : ℕ) (r : Registers) (row : PanelRow) → 0 < h → {ram : RamRow} → rowShows h r row ≡ Ram ram → ram .0 ≤ h
+pub ram-within : (h : ℕ) (r : Registers) (row : PanelRow) → 0 < h → {ram : RamRow} → rowShows h r row ≡ Shown.Ram ram → ram .0 ≤ h
 ram-within h r row pos e = subst (WithinRam h) e (shows-within h r row pos)

@@ -12,7 +12,6 @@ use Rattle.bus.specs.declared.registers.Registers.{Registers}
 use Rattle.picture.specs.Sizes.{height, frameRows}
 use Rattle.picture.specs.Frame.{whileOn, segment, grid, frame}
 use Rattle.picture.specs.declared.rows.RamRow.{RamRow}
-use Rattle.picture.specs.declared.rows.Shown.the-variants.{Dark, Ram}
 use Rattle.picture.proofs.Lines.{grid-same}
 use Rattle.codes.specs.Table.{table, offsetOf, framePhasesOf, commandBy, operandBy, commandOf, operandOf, meaningOf}
 use Rattle.bus.specs.Registers.{ranges, powerOn}
@@ -23,9 +22,10 @@ use native.Mathlib.Omega.{arith}
 use Rattle.picture.specs.Rows.{panelRow, ramRow, comOf, used, ramRowOf, panelShows, rowShows}
 use Rattle.picture.specs.Samples.{Samples, after, numberFor, picture}
 use Rattle.picture.proofs.Places.{row-plain, off-dark}
+use Rattle.picture.specs.declared.rows.Shown.{Shown}
 
 -- where the display is on, entire on lights a row that shows a RAM row, and no other
-shade : (r : Registers) (memory : List ℕ) (row : RamRow) (x : ℕ) → r .on ≡ 1 → r .entire ≡ 1 → (t : Bool) → segment width r memory (cond t (Ram row) Dark) x ≡ cond (t || false) 1 0
+shade : (r : Registers) (memory : List ℕ) (row : RamRow) (x : ℕ) → r .on ≡ 1 → r .entire ≡ 1 → (t : Bool) → segment width r memory (cond t (Shown.Ram row) Shown.Dark) x ≡ cond (t || false) 1 0
 unfolding segment whileOn
 shade r memory row x on entire true = rw (on, entire)
 shade r memory row x on entire false = rw on

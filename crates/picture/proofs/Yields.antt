@@ -14,14 +14,12 @@ use Rattle.bus.specs.Numbers.{taken, tooShort, outOfRange}
 use Rattle.bus.specs.Registers.{registersOf}
 use Rattle.bus.specs.Image.{short, legal, asked}
 use Rattle.bus.specs.declared.image.Asked.{Asked}
-use Rattle.bus.specs.declared.image.Asked.the-variants.{Found, Refused}
 use Rattle.picture.specs.Sizes.{height, frameRows, frameSize}
 use Rattle.bus.specs.Sizes.{width}
 use Rattle.bus.specs.declared.registers.Registers.{Registers}
 use Rattle.picture.specs.Rows.{panelRow, rowShows}
 use Rattle.picture.specs.Frame.{turned, shownBit, whileOn, segment, frame, placeOf}
 use Rattle.picture.specs.declared.rows.Shown.{Shown}
-use Rattle.picture.specs.declared.rows.Shown.the-variants.{Dark, Ram}
 use Rattle.codes.proofs.Tests.{chosen}
 use Rattle.picture.specs.Draw.{drawn, drawOn, draw}
 use Rattle.picture.proofs.Places.{frame-length, frame-place}
@@ -35,7 +33,7 @@ pub number : (state memory was : List ℕ) → draw state memory was .number ≡
 unfolding draw drawOn asked
 number state memory was = by-cases (ltb (length was) frameSize) (short state memory) (legal state)
   where
-    by-cases : (f s l : Bool) → cond f (drawn tooShort was) (drawOn (cond s (Refused tooShort) (cond l (Found (registersOf state)) (Refused outOfRange))) memory was) .number ≡ cond (f || s) tooShort (cond l taken outOfRange)
+    by-cases : (f s l : Bool) → cond f (drawn tooShort was) (drawOn (cond s (Asked.Refused tooShort) (cond l (Asked.Found (registersOf state)) (Asked.Refused outOfRange))) memory was) .number ≡ cond (f || s) tooShort (cond l taken outOfRange)
     by-cases true s l = refl
     by-cases false true l = refl
     by-cases false false true = refl
@@ -48,8 +46,8 @@ refusal state memory was n = by-cases (ltb (length was) frameSize) (asked state 
   where
     by-cases : (f : Bool) (asking : Asked) → cond f (drawn tooShort was) (drawOn asking memory was) .number ≢ taken → cond f (drawn tooShort was) (drawOn asking memory was) .frame ≡ was
     by-cases true asking n = refl
-    by-cases false (Found r) n = absurd (n refl)
-    by-cases false (Refused number) n = refl
+    by-cases false (Asked.Found r) n = absurd (n refl)
+    by-cases false (Asked.Refused number) n = refl
 
 -- bytes past the needed length never change
 pub past : (state memory was : List ℕ) → drop frameSize (draw state memory was .frame) ≡ drop frameSize was
@@ -58,8 +56,8 @@ past state memory was = by-cases (ltb (length was) frameSize) (asked state memor
   where
     by-cases : (f : Bool) (asking : Asked) → drop frameSize (cond f (drawn tooShort was) (drawOn asking memory was) .frame) ≡ drop frameSize was
     by-cases true asking = refl
-    by-cases false (Found r) = drop-at (frame r memory) (drop frameSize was) frameSize (frame-length r memory)
-    by-cases false (Refused number) = refl
+    by-cases false (Asked.Found r) = drop-at (frame r memory) (drop frameSize was) frameSize (frame-length r memory)
+    by-cases false (Asked.Refused number) = refl
 
 -- each place is dark, 0, or lit, 1
 pub dark-or-lit : (r : Registers) (memory : List ℕ) (y x : ℕ) → y < frameRows → x < width → placeOf y x (frame r memory) < 2
@@ -67,5 +65,5 @@ unfolding segment whileOn shownBit turned
 dark-or-lit r memory y x l k = rw (frame-place r memory y x l k) (chosen (λ v. v < 2) (eqb (r .on) 0) _ _ (λ e. omega arith) (λ e. shade (rowShows height r (panelRow y))))
   where
     shade : (shown : Shown) → whileOn width r memory shown x < 2
-    shade Dark = omega arith
-    shade (Ram row) = chosen (λ v. v < 2) (eqb (r .entire) 1) _ _ (λ e. omega arith) (λ e. mod-lt _ (omega arith))
+    shade Shown.Dark = omega arith
+    shade (Shown.Ram row) = chosen (λ v. v < 2) (eqb (r .entire) 1) _ _ (λ e. omega arith) (λ e. mod-lt _ (omega arith))

@@ -58,8 +58,8 @@ raised n r = r with start ≔ (r .start + n) % height
 
 -- Raising the start line by n moves the dot rows up by n, round the 64, or down where rows are reversed, and the icon line stays.
 pub record Scrolls (r : Registers) (n : ℕ) (memory : List ℕ) : Type 0 where
-  pub up : r .rows ≡ 0 → (p : ℕ) → p < height → rowOf p (frame (raised n r) memory) ≡ rowOf ((p + n) % height) (frame r memory)
-  pub down : r .rows ≡ 1 → (p : ℕ) → p < height → rowOf ((p + n) % height) (frame (raised n r) memory) ≡ rowOf p (frame r memory)
+  pub up : r .«row_direction» ≡ 0 → (p : ℕ) → p < height → rowOf p (frame (raised n r) memory) ≡ rowOf ((p + n) % height) (frame r memory)
+  pub down : r .«row_direction» ≡ 1 → (p : ℕ) → p < height → rowOf ((p + n) % height) (frame (raised n r) memory) ≡ rowOf p (frame r memory)
   pub icons : rowOf height (frame (raised n r) memory) ≡ rowOf height (frame r memory)
 
 -- What a display memory can hold: 1,188 bytes.
@@ -69,12 +69,12 @@ pub record Content (memory : List ℕ) : Type 0 where
 
 -- Start line plus offset where rows are normal, start line minus offset where they are reversed, modulo 64.
 unfoldable pub scroll : Registers → ℕ
-scroll r = cond (eqb (r .rows) 0) ((r .start + r .offset) % height) ((r .start + height - r .offset) % height)
+scroll r = cond (eqb (r .«row_direction») 0) ((r .start + r .offset) % height) ((r .start + height - r .offset) % height)
 
 -- Two settings agree in all that demand 3 names.
 pub record Agree (r s : Registers) : Type 0 where
-  pub columns : r .mirrored ≡ s .mirrored
-  pub rows : r .rows ≡ s .rows
+  pub columns : r .«column_direction» ≡ s .«column_direction»
+  pub rows : r .«row_direction» ≡ s .«row_direction»
   pub reverse : r .reverse ≡ s .reverse
   pub line : scroll r ≡ scroll s
 

@@ -7,7 +7,6 @@ use lib.ListN.{length, drop}
 use Rattle.bus.specs.Numbers.{taken, tooShort}
 use Rattle.bus.specs.Image.{asked}
 use Rattle.bus.specs.declared.image.Asked.{Asked}
-use Rattle.bus.specs.declared.image.Asked.the-variants.{Found, Refused}
 use Rattle.picture.specs.Sizes.{frameSize}
 use Rattle.picture.specs.Frame.{frame}
 
@@ -21,8 +20,8 @@ drawn answer later = record { number = answer; frame = later }
 
 -- Drawing on what was asked first; bytes of the lent frame past its needed length never change.
 unfoldable pub drawOn : Asked → List ℕ → List ℕ → Drawn
-drawOn (Found r) memory was = drawn taken (frame r memory ++ drop frameSize was)
-drawOn (Refused number) memory was = drawn number was
+drawOn (Asked.Found r) memory was = drawn taken (frame r memory ++ drop frameSize was)
+drawOn (Asked.Refused number) memory was = drawn number was
 
 -- 1 where the lent frame is too short, else what state and memory are asked; a refusal writes nothing.
 unfoldable pub draw : List ℕ → List ℕ → List ℕ → Drawn

@@ -11,7 +11,6 @@ use Rattle.picture.specs.Sizes.{height, frameRows}
 use Rattle.picture.specs.Rows.{panelRow, rowShows}
 use Rattle.picture.specs.declared.rows.RamRow.{RamRow}
 use Rattle.picture.specs.declared.rows.Shown.{Shown}
-use Rattle.picture.specs.declared.rows.Shown.the-variants.{Dark, Ram}
 
 -- Bit b of page p is RAM row 8p + b, bit 0 the least: the bit of a RAM row in a column.
 unfoldable pub bit : List ℕ → RamRow → ℕ → ℕ
@@ -19,7 +18,7 @@ bit memory row column = getD memory (address (row .0 / 8) column) 0 / 2 ^ (row .
 
 -- Columns normal: segment x shows RAM column x. Otherwise, of w columns, RAM column w - 1 - x.
 unfoldable pub columnOf : ℕ → Registers → ℕ → ℕ
-columnOf w r x = cond (eqb (r .mirrored) 0) x (w - 1 - x)
+columnOf w r x = cond (eqb (r .«column_direction») 0) x (w - 1 - x)
 
 -- Reverse, 0 or 1, turns a bit round.
 unfoldable pub turned : ℕ → ℕ → ℕ
@@ -31,8 +30,8 @@ shownBit w r memory row x = turned (r .reverse) (bit memory row (columnOf w r x)
 
 -- Segment x of a row while the display is on. A dark row is not turned round; entire on lights any other, reverse or no.
 unfoldable pub whileOn : ℕ → Registers → List ℕ → Shown → ℕ → ℕ
-whileOn w r memory Dark x = 0
-whileOn w r memory (Ram row) x = cond (eqb (r .entire) 1) 1 (shownBit w r memory row x)
+whileOn w r memory Shown.Dark x = 0
+whileOn w r memory (Shown.Ram row) x = cond (eqb (r .entire) 1) 1 (shownBit w r memory row x)
 
 -- Segment x of a row: 0 dark, 1 lit. Display off makes all dark, before any other rule.
 unfoldable pub segment : ℕ → Registers → List ℕ → Shown → ℕ → ℕ

@@ -7,7 +7,6 @@ use Rattle.picture.specs.declared.rows.PanelRow.{PanelRow}
 use Rattle.picture.specs.declared.rows.Com.{Com}
 use Rattle.picture.specs.declared.rows.RamRow.{RamRow}
 use Rattle.picture.specs.declared.rows.Shown.{Shown}
-use Rattle.picture.specs.declared.rows.Shown.the-variants.{Dark, Ram}
 
 abbrev pub panelRow : ℕ → PanelRow
 panelRow p = record { 0 = p }
@@ -32,12 +31,12 @@ used r k = ltb (k .0) (rowsInUse r)
 
 -- Rows normal: COM k shows RAM row (start line + k) modulo h. Reversed: (start line + M - 1 - k) modulo h.
 unfoldable pub ramRowOf : ℕ → Registers → Com → RamRow
-ramRowOf h r k = cond (eqb (r .rows) 0) (ramRow ((r .start + k .0) % h)) (ramRow ((r .start + rowsInUse r - 1 - k .0) % h))
+ramRowOf h r k = cond (eqb (r .«row_direction») 0) (ramRow ((r .start + k .0) % h)) (ramRow ((r .start + rowsInUse r - 1 - k .0) % h))
 
 -- A panel row shows the RAM row of its COM; it is dark where that COM is not in use.
 unfoldable pub panelShows : ℕ → Registers → PanelRow → Shown
-panelShows h r p = cond (used r (comOf h r p)) (Ram (ramRowOf h r (comOf h r p))) Dark
+panelShows h r p = cond (used r (comOf h r p)) (Shown.Ram (ramRowOf h r (comOf h r p))) Shown.Dark
 
 -- The rows of the frame: panel rows 0 to h - 1, then the icon line, which shows RAM row h always.
 unfoldable pub rowShows : ℕ → Registers → PanelRow → Shown
-rowShows h r row = cond (ltb (row .0) h) (panelShows h r row) (Ram (ramRow h))
+rowShows h r row = cond (ltb (row .0) h) (panelShows h r row) (Shown.Ram (ramRow h))

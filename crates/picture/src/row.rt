@@ -50,7 +50,7 @@ fn draw_bits(registers: Registers, memory: &[u8], row: RamRow, places: &mut [u8]
     let reverse = registers.reverse % 2;
     let start = number / 8 * WIDTH;
     let end = start + WIDTH;
-    if registers.mirrored == 0 {
+    if registers.column_direction == 0 {
         straight(&memory[start..end], bit, reverse, places);
     } else {
         mirrored(&memory[start..end], bit, reverse, places);

@@ -44,7 +44,7 @@ impl Com {
         requires { ⌜ self .0 ≤ registers .multiplex ⌝ }
         ensures { λ r. ⌜ r ≡ ramRowOf height registers self ⌝ }
     {
-        if registers.rows == 0 {
+        if registers.row_direction == 0 {
             let sum = (registers.start as u16) + (self.0 as u16);
             return RamRow(around(sum));
         }

@@ -16,8 +16,6 @@ use Rattle.bus.specs.Image.{asked, stored}
 use Rattle.bus.specs.Calls.{replyOf, stateAfter, concluded, call}
 use Rattle.bus.specs.declared.registers.Registers.{Registers}
 use Rattle.bus.specs.declared.answer.Answer.{Answer}
-use Rattle.bus.specs.declared.answer.Answer.the-variants.{Taken, Refused}
-use Rattle.bus.specs.declared.image.Asked.the-variants.{Found}
 use Rattle.bus.proofs.Answers.{StandsFor, step-answers}
 use Rattle.bus.proofs.Kept.{LegalRegisters, Keeps, step-keeps, asked-legal}
 use Rattle.bus.proofs.Untouched.{step-length}
@@ -32,6 +30,7 @@ use Rattle.trace.proofs.OneByOne.{one-by-one}
 use Rattle.trace.proofs.Kept.{All, Bytes, OfBytes, Gives, split-of-bytes}
 use Rattle.trace.proofs.Held.{Brings, brings}
 use Rattle.trace.proofs.Runs.{run-found, fits}
+use Rattle.bus.specs.declared.image.Asked.{Asked}
 
 module _ (state : List ℕ) (h : imageSize ≤ length state) where
   -- the rest of the events, from the chip that one of them leaves
@@ -43,8 +42,8 @@ module _ (state : List ℕ) (h : imageSize ≤ length state) where
     after-event : (met : ℕ) (answer : Answer) (left : List ℕ) → StandsFor met answer → Keeps answer → memorySize ≤ length left
         → ranOf (onResult (happened answer left) (λ refusal. played refusal at before (chipOf r memory)) (λ t. applied replay rest number offset count t)) state ≡ cond (eqb (replyOf answer .number) taken) (byCalls rest (stopOf number offset count) (stateAfter answer (stored r state)) left) (ran (stopOf (replyOf answer .number) at before) (stored r state) memory)
     unfolding happened replyOf stateAfter numberOf ranOf
-    after-event met (Taken after) left ok k m = later (after .registers) left k m ∙ rw (stored-again state h r (after .registers))
-    after-event met (Refused refusal) left ok k m = rw (ne-eqb refusal taken (λ e. omega (arith, ok .1)))
+    after-event met (Answer.Taken after) left ok k m = later (after .registers) left k m ∙ rw (stored-again state h r (after .registers))
+    after-event met (Answer.Refused refusal) left ok k m = rw (ne-eqb refusal taken (λ e. omega (arith, ok .1)))
 
     -- the same for a read that is compared
     read-taken : (agrees : Bool) (s : Registers) (left : List ℕ) → LegalRegisters s → memorySize ≤ length left
@@ -56,8 +55,8 @@ module _ (state : List ℕ) (h : imageSize ≤ length state) where
     after-read : (byte met : ℕ) (answer : Answer) (left : List ℕ) → StandsFor met answer → Keeps answer → memorySize ≤ length left
         → ranOf (onResult (compared byte answer left) (λ refusal. played refusal at before (chipOf r memory)) (λ t. applied replay rest number offset count t)) state ≡ cond (eqb (meets (readAs byte) (replyOf answer)) taken) (byCalls rest (stopOf number offset count) (stateAfter answer (stored r state)) left) (ran (stopOf (meets (readAs byte) (replyOf answer)) at before) (stored r state) memory)
     unfolding compared replyOf stateAfter numberOf byteOf dummyOf ranOf
-    after-read byte met (Taken after) left ok k m = read-taken (after .dummy || eqb (after .byte) byte) (after .registers) left k m
-    after-read byte met (Refused refusal) left ok k m = rw (ne-eqb refusal taken (λ e. omega (arith, ok .1)), ne-eqb refusal taken (λ e. omega (arith, ok .1)))
+    after-read byte met (Answer.Taken after) left ok k m = read-taken (after .dummy || eqb (after .byte) byte) (after .registers) left k m
+    after-read byte met (Answer.Refused refusal) left ok k m = rw (ne-eqb refusal taken (λ e. omega (arith, ok .1)), ne-eqb refusal taken (λ e. omega (arith, ok .1)))
 
     after-one : (recorded : Recorded) → Brings recorded → LegalRegisters r → memorySize ≤ length memory
         → ranOf (onResult (replay recorded (chipOf r memory)) (λ refusal. played refusal at before (chipOf r memory)) (λ t. applied replay rest number offset count t)) state ≡ cond (eqb (meets recorded (call (calledBy recorded) (stored r state) memory .reply)) taken) (byCalls rest (stopOf number offset count) (call (calledBy recorded) (stored r state) memory .state) (call (calledBy recorded) (stored r state) memory .memory)) (ran (stopOf (meets recorded (call (calledBy recorded) (stored r state) memory .reply)) at before) (stored r state) memory)
@@ -93,7 +92,7 @@ script-brings (cut offset) count h = tt
 script-brings (r then rest) count h = header-brings (theChip .events (r .kind) (r .payload)) (r .place) count (scriptFrom theChip rest (count + 1)) (brings (r .kind) (r .payload) (h .0)) (script-brings rest (count + 1) (h .1))
 
 -- the run, on a state and memory that are found legal
-module _ (state memory : List ℕ) (r : Registers) (found : asked state memory ≡ Found r) (trace : List ℕ) (bytes : Bytes trace) where
+module _ (state memory : List ℕ) (r : Registers) (found : asked state memory ≡ Asked.Found r) (trace : List ℕ) (bytes : Bytes trace) where
   pub run-by-calls : run state memory trace ≡ runByCalls state memory trace
   unfolding runByCalls split
   run-by-calls =

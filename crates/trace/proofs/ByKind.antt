@@ -14,10 +14,10 @@ use Rattle.trace.specs.Front.{frontOf}
 use Rattle.trace.specs.Play.{stopped, playEvents, playRecord}
 use Rattle.trace.specs.Kinds.{event, command, write, readAs, eventsOf, theChip}
 use Rattle.trace.specs.declared.records.Header.{Header}
-use Rattle.trace.specs.declared.records.Front.the-variants.{Whole}
 use Rattle.trace.proofs.Standing.{within-trace, the-record}
+use Rattle.trace.specs.declared.records.Front.{Front}
 
-module _ (trace : List ℕ) (at : ℕ) (header : Header) (h : frontOf (drop at trace) ≡ Whole header) (s : Chip) where
+module _ (trace : List ℕ) (at : ℕ) (header : Header) (h : frontOf (drop at trace) ≡ Front.Whole header) (s : Chip) where
   abbrev payload : List ℕ
   payload = slice (at + headerSize) (at + headerSize + header .length) trace
 

@@ -16,8 +16,6 @@ use Rattle.bus.specs.Registers.{registersOf}
 use Rattle.bus.specs.Image.{short, legal, asked}
 use Rattle.bus.specs.declared.registers.Registers.{Registers}
 use Rattle.bus.specs.declared.answer.Answer.{Answer}
-use Rattle.bus.specs.declared.answer.Answer.the-variants.{Taken, Refused}
-use Rattle.bus.specs.declared.image.Asked.the-variants.{Found}
 use Rattle.bus.proofs.Answers.{StandsFor, step-answers}
 use Rattle.bus.proofs.Kept.{asked-legal}
 use Rattle.bus.proofs.Exactly.{Neither, met-neither, not-one, not-two}
@@ -33,17 +31,18 @@ use Rattle.trace.proofs.Payloads.{by-kind}
 use Rattle.trace.proofs.Sound.{Refusing, headed}
 use Rattle.trace.proofs.Runs.{fits, run-found, refused-run}
 use Rattle.trace.proofs.ByCalls.{script-brings}
+use Rattle.bus.specs.declared.image.Asked.{Asked}
 
 -- an event's answer stands for the number that it meets
 happened-neither : (number : ℕ) (answer : Answer) (memory : List ℕ) → StandsFor number answer → Neither number → Refusing Neither (happened answer memory)
 unfolding happened
-happened-neither number (Taken after) memory s h = tt
-happened-neither number (Refused refusal) memory s h = subst Neither (s .0) h
+happened-neither number (Answer.Taken after) memory s h = tt
+happened-neither number (Answer.Refused refusal) memory s h = subst Neither (s .0) h
 
 compared-neither : (byte number : ℕ) (answer : Answer) (memory : List ℕ) → StandsFor number answer → Neither number → Refusing Neither (compared byte answer memory)
 unfolding compared
-compared-neither byte number (Taken after) memory s h = chosen (Refusing Neither) (after .dummy || eqb (after .byte) byte) _ _ (λ e. tt) (λ e. refl)
-compared-neither byte number (Refused refusal) memory s h = subst Neither (s .0) h
+compared-neither byte number (Answer.Taken after) memory s h = chosen (Refusing Neither) (after .dummy || eqb (after .byte) byte) _ _ (λ e. tt) (λ e. refl)
+compared-neither byte number (Answer.Refused refusal) memory s h = subst Neither (s .0) h
 
 -- the events of a trace on a chip that holds legal registers, over a memory that is long enough
 module _ (first : List ℕ) (long : memorySize ≤ length first) where
@@ -92,7 +91,7 @@ by-two false false number n = (λ e. (refl, refl), λ h. n)
 by-two false true number n = (λ e. absurd (not-two n e), λ h. absurd (false≢true (sym (h .1))))
 
 module _ (state memory trace : List ℕ) where
-  found-neither : (r : Registers) → asked state memory ≡ Found r → Bytes trace → Neither (run state memory trace .stop .number)
+  found-neither : (r : Registers) → asked state memory ≡ Asked.Found r → Bytes trace → Neither (run state memory trace .stop .number)
   unfolding ranOf split
   found-neither r found bytes =
       let all = scriptFrom theChip (split trace) 0 in

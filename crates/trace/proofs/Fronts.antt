@@ -14,7 +14,6 @@ use Rattle.trace.specs.Records.{headerSize, lengthOf, kindOf, payloadOf,
 use Rattle.trace.specs.Front.{frontOf}
 use Rattle.trace.specs.Given.{CutShort, fewBytes, pastEnd}
 use Rattle.trace.specs.declared.records.Front.{Front}
-use Rattle.trace.specs.declared.records.Front.the-variants.{Cut, Whole, Nothing}
 use native.Mathlib.Nat.{add-zero}
 
 module _ (trace : List ℕ) (at : ℕ) where
@@ -27,7 +26,7 @@ module _ (trace : List ℕ) (at : ℕ) where
       let e : at + 2 + 1 ≡ at + 3 = omega arith in
       rw (getD-drop at trace 2 0, getD-drop at trace 3 0, e)
 
-  pub at-end : length trace ≤ at → frontOf (drop at trace) ≡ Nothing
+  pub at-end : length trace ≤ at → frontOf (drop at trace) ≡ Front.Nothing
   unfolding frontOf
   at-end h = rw (eq-eqb (length (drop at trace)) 0 (length-drop at trace ∙ omega arith))
 
@@ -35,16 +34,16 @@ module _ (trace : List ℕ) (at : ℕ) where
     some-left : eqb (length (drop at trace)) 0 ≡ false
     some-left = ne-eqb (length (drop at trace)) 0 (λ e. omega (arith, length-drop at trace))
 
-    pub header-cut : length trace - at < headerSize → frontOf (drop at trace) ≡ Cut
+    pub header-cut : length trace - at < headerSize → frontOf (drop at trace) ≡ Front.Cut
     unfolding frontOf
     header-cut p = rw (some-left, length-drop at trace, lt-leb headerSize (length trace - at) p)
 
     module _ (p : headerSize ≤ length trace - at) where
-      pub payload-cut : length trace - at - headerSize < number trace at → frontOf (drop at trace) ≡ Cut
+      pub payload-cut : length trace - at - headerSize < number trace at → frontOf (drop at trace) ≡ Front.Cut
       unfolding frontOf
       payload-cut q = rw (some-left, length-at, length-drop at trace, le-leb headerSize (length trace - at) p, lt-leb (headerSize + number trace at) (length trace - at) (omega arith))
 
-      pub whole-there : number trace at ≤ length trace - at - headerSize → frontOf (drop at trace) ≡ Whole (record { kind = number trace (at + 2); length = number trace at })
+      pub whole-there : number trace at ≤ length trace - at - headerSize → frontOf (drop at trace) ≡ Front.Whole (record { kind = number trace (at + 2); length = number trace at })
       unfolding frontOf
       whole-there q = rw (some-left, length-at, kind-at, length-drop at trace, le-leb headerSize (length trace - at) p, le-leb (headerSize + number trace at) (length trace - at) (omega arith))
 
@@ -56,9 +55,9 @@ room bytes e =
 
 -- what stands first tells of the bytes
 abbrev pub Tells : List ℕ → Front → Type 0
-Tells bytes Nothing = length bytes ≡ 0
-Tells bytes Cut = (length bytes ≡ 0 → ⊥) × (whole bytes ≡ false)
-Tells bytes (Whole header) = (whole bytes ≡ true) × (kindOf bytes ≡ header .kind) × (lengthOf bytes ≡ header .length)
+Tells bytes Front.Nothing = length bytes ≡ 0
+Tells bytes Front.Cut = (length bytes ≡ 0 → ⊥) × (whole bytes ≡ false)
+Tells bytes (Front.Whole header) = (whole bytes ≡ true) × (kindOf bytes ≡ header .kind) × (lengthOf bytes ≡ header .length)
 
 pub tells : (bytes : List ℕ) {front : Front} → frontOf bytes ≡ front → Tells bytes front
 unfolding frontOf
@@ -80,11 +79,11 @@ tests-cut left some e = by (leb headerSize (length left)) (leb (headerSize + len
     by true false p q e = pastEnd (leb-true headerSize (length left) p) (leb-false (headerSize + lengthOf left) (length left) q)
     by false t p q e = fewBytes (omega (arith, some)) (leb-false headerSize (length left) p)
 
-pub front-cut : (left : List ℕ) → (length left ≡ 0 → ⊥) → whole left ≡ false → frontOf left ≡ Cut
+pub front-cut : (left : List ℕ) → (length left ≡ 0 → ⊥) → whole left ≡ false → frontOf left ≡ Front.Cut
 unfolding frontOf
 front-cut left some e = rw (ne-eqb (length left) 0 some, e)
 
-pub front-whole : (left : List ℕ) → whole left ≡ true → frontOf left ≡ Whole (record { kind = kindOf left; length = lengthOf left })
+pub front-whole : (left : List ℕ) → whole left ≡ true → frontOf left ≡ Front.Whole (record { kind = kindOf left; length = lengthOf left })
 unfolding frontOf
 front-whole left e = rw (ne-eqb (length left) 0 (λ z. omega (arith, room left e .0)), e)
 

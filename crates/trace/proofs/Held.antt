@@ -10,7 +10,6 @@ use Rattle.codes.proofs.Tests.{chosen}
 use Rattle.bus.specs.Sizes.{memorySize}
 use Rattle.bus.specs.Chip.{Chip, dataRead}
 use Rattle.bus.specs.declared.answer.Answer.{Answer}
-use Rattle.bus.specs.declared.answer.Answer.the-variants.{Taken, Refused}
 use Rattle.bus.proofs.Kept.{LegalRegisters, Keeps, IsByte, step-keeps}
 use Rattle.bus.proofs.Untouched.{step-length, memory-past}
 use Rattle.trace.specs.Play.{Result}
@@ -45,13 +44,13 @@ brings kind payload h = bring h (by-kind kind payload)
 module _ (first : List ℕ) where
   happened-held : (answer : Answer) (left : List ℕ) → Keeps answer → length left ≡ length first → drop memorySize left ≡ drop memorySize first → Gives (Held first) (happened answer left)
   unfolding happened
-  happened-held (Taken after) left k n p = record { registers = k; size = n; past = p }
-  happened-held (Refused number) left k n p = tt
+  happened-held (Answer.Taken after) left k n p = record { registers = k; size = n; past = p }
+  happened-held (Answer.Refused number) left k n p = tt
 
   compared-held : (byte : ℕ) (answer : Answer) (left : List ℕ) → Keeps answer → length left ≡ length first → drop memorySize left ≡ drop memorySize first → Gives (Held first) (compared byte answer left)
   unfolding compared
-  compared-held byte (Taken after) left k n p = chosen (Gives (Held first)) (after .dummy || eqb (after .byte) byte) _ _ (λ e. record { registers = k; size = n; past = p }) (λ e. tt)
-  compared-held byte (Refused number) left k n p = tt
+  compared-held byte (Answer.Taken after) left k n p = chosen (Gives (Held first)) (after .dummy || eqb (after .byte) byte) _ _ (λ e. record { registers = k; size = n; past = p }) (λ e. tt)
+  compared-held byte (Answer.Refused number) left k n p = tt
 
   pub replay-held : (recorded : Recorded) (c : Chip) → Brings recorded → Held first c → Gives (Held first) (replay recorded c)
   unfolding replay

@@ -6,7 +6,6 @@ use Prim.Native.Nat.{ℕ}
 use Rattle.bus.specs.Image.{asked, stored}
 use Rattle.bus.specs.declared.registers.Registers.{Registers}
 use Rattle.bus.specs.declared.image.Asked.{Asked}
-use Rattle.bus.specs.declared.image.Asked.the-variants.{Found, Refused}
 use Rattle.trace.specs.Records.{split}
 use Rattle.trace.specs.Play.{play}
 use Rattle.trace.specs.Kinds.{chipOf, theChip}
@@ -19,10 +18,10 @@ module _ (state memory trace : List ℕ) {asking : Asked} (a : asking ≡ asked 
   unfolding run
   as-asked l = ap (λ found. runOn found state memory trace) (sym l ∙ a)
 
-  pub plays : {r : Registers} → asking ≡ Found r → (finish : Finish) (left : List ℕ) → playedOf finish left ≡ play theChip (split trace) (chipOf r memory) → {later : List ℕ} → later ≡ stored (finish .registers) state → ran (finish .stop) later left ≡ run state memory trace
+  pub plays : {r : Registers} → asking ≡ Asked.Found r → (finish : Finish) (left : List ℕ) → playedOf finish left ≡ play theChip (split trace) (chipOf r memory) → {later : List ℕ} → later ≡ stored (finish .registers) state → ran (finish .stop) later left ≡ run state memory trace
   unfolding runOn ranOf playedOf
   plays l finish left p q = rw q (ap (λ p. ranOf p state) p ∙ as-asked l)
 
-  pub refuses : {number : ℕ} → asking ≡ Refused number → ran (stopOf number 0 0) state memory ≡ run state memory trace
+  pub refuses : {number : ℕ} → asking ≡ Asked.Refused number → ran (stopOf number 0 0) state memory ≡ run state memory trace
   unfolding runOn
   refuses l = as-asked l

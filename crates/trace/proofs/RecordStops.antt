@@ -10,22 +10,22 @@ use Rattle.bus.specs.Numbers.{taken, columnAbove, kindUnknown, readDiffers}
 use Rattle.bus.specs.Chip.{Chip, Event, commandByte, dataWritten, resetPulse, dataRead, step}
 use Rattle.bus.specs.Events.{resetPin}
 use Rattle.bus.specs.declared.answer.After.{After}
-use Rattle.bus.specs.declared.answer.Answer.the-variants.{Taken}
 use Rattle.trace.specs.Records.{headerSize, lengthOf, kindOf, payloadOf, whole, recordAt}
 use Rattle.trace.specs.Front.{frontOf}
 use Rattle.trace.specs.Play.{Result, stopped, playRecord}
 use Rattle.trace.specs.Kinds.{Recorded, event, readAs, command, write, happened, replay, theChip}
 use Rattle.trace.specs.Given.{Unknown, noKind, loaded}
-use Rattle.trace.specs.declared.records.Front.the-variants.{Whole}
 use Rattle.trace.proofs.ByKind.{kind-1, kind-2, kind-3, kind-4, kind-4-loaded, kind-unknown}
 use Rattle.trace.proofs.Standing.{within-trace}
 use Rattle.trace.proofs.Turn.{playBytes, never, StopsAt, stops-at, one-given}
 use Rattle.trace.proofs.Payloads.{Kind, commands, writes, reads, reset, none}
 use Rattle.trace.proofs.Sound.{Refusal, own, differing, refused-event}
 use Rattle.trace.proofs.Fronts.{front-whole, payload-length}
+use Rattle.bus.specs.declared.answer.Answer.{Answer}
+use Rattle.trace.specs.declared.records.Front.{Front}
 
 module _ (trace : List ℕ) where
-  pub unknown-stops : (at : ℕ) (whole : frontOf (drop at trace) ≡ Whole (record { kind = kindOf (drop at trace); length = lengthOf (drop at trace) })) (c : Chip) → Unknown (kindOf (drop at trace)) (lengthOf (drop at trace)) → playRecord theChip (recordAt at (drop at trace)) c ≡ stopped kindUnknown at c
+  pub unknown-stops : (at : ℕ) (whole : frontOf (drop at trace) ≡ Front.Whole (record { kind = kindOf (drop at trace); length = lengthOf (drop at trace) })) (c : Chip) → Unknown (kindOf (drop at trace)) (lengthOf (drop at trace)) → playRecord theChip (recordAt at (drop at trace)) c ≡ stopped kindUnknown at c
   unknown-stops at w c (noKind p q r s) = kind-unknown trace at _ w c p q r s
   unknown-stops at w c (loaded k p) = kind-4-loaded trace at _ w c k p
 
@@ -34,7 +34,7 @@ module _ (trace : List ℕ) where
     pub kind : kindOf (drop at trace) ≡ 3
     pub stops : StopsAt theChip readAs trace (at + headerSize) (at + headerSize + lengthOf (drop at trace)) c number offset d
     pub after : After
-    pub answer : step dataRead (d .registers) (d .memory) .answer ≡ Taken after
+    pub answer : step dataRead (d .registers) (d .memory) .answer ≡ Answer.Taken after
     pub compared : after .dummy ≡ false
     pub differs : after .byte ≡ getD trace offset 0 → ⊥
     pub ten : number ≡ readDiffers
@@ -45,7 +45,7 @@ module _ (trace : List ℕ) where
     atRead : ReadStop at c number offset d → RecordStop at c number offset d
 
   module _ (at : ℕ) (c : Chip) (number offset : ℕ) (d : Chip) (w : whole (drop at trace) ≡ true) (h : playRecord theChip (recordAt at (drop at trace)) c ≡ stopped number offset d) where
-    front : frontOf (drop at trace) ≡ Whole (record { kind = kindOf (drop at trace); length = lengthOf (drop at trace) })
+    front : frontOf (drop at trace) ≡ Front.Whole (record { kind = kindOf (drop at trace); length = lengthOf (drop at trace) })
     front = front-whole (drop at trace) w
 
     at-byte : (means : ℕ → Recorded) → playRecord theChip (recordAt at (drop at trace)) c ≡ playBytes theChip means trace (at + headerSize) (at + headerSize + lengthOf (drop at trace)) c → StopsAt theChip means trace (at + headerSize) (at + headerSize + lengthOf (drop at trace)) c number offset d

@@ -10,28 +10,27 @@ use Rattle.bus.specs.Chip.{Event, step, dataRead}
 use Rattle.bus.specs.declared.registers.Registers.{Registers}
 use Rattle.bus.specs.declared.answer.After.{After}
 use Rattle.bus.specs.declared.answer.Answer.{Answer}
-use Rattle.bus.specs.declared.answer.Answer.the-variants.{Taken, Refused}
 use Rattle.trace.specs.Play.{refuses, gives}
 use Rattle.trace.specs.Kinds.{event, readAs, chipOf, happened, compared, replay}
 
 module _ (e : Event) (r : Registers) (memory : List ℕ) {answer : Answer} (a : answer ≡ step e r memory .answer) where
-  pub event-taken : {left : List ℕ} {after : After} → left ≡ step e r memory .memory → answer ≡ Taken after → replay (event e) (chipOf r memory) ≡ gives (chipOf (after .registers) left)
+  pub event-taken : {left : List ℕ} {after : After} → left ≡ step e r memory .memory → answer ≡ Answer.Taken after → replay (event e) (chipOf r memory) ≡ gives (chipOf (after .registers) left)
   unfolding replay happened
   event-taken l t = rw (← a, t, ← l)
 
-  pub event-refused : {number : ℕ} → answer ≡ Refused number → replay (event e) (chipOf r memory) ≡ refuses number
+  pub event-refused : {number : ℕ} → answer ≡ Answer.Refused number → replay (event e) (chipOf r memory) ≡ refuses number
   unfolding replay happened
   event-refused t = rw (← a, t)
 
 module _ (byte : ℕ) (r : Registers) (memory : List ℕ) {answer : Answer} (a : answer ≡ step dataRead r memory .answer) where
-  pub read-agrees : {after : After} → answer ≡ Taken after → (after .dummy || eqb (after .byte) byte) ≡ true → replay (readAs byte) (chipOf r memory) ≡ gives (chipOf (after .registers) (step dataRead r memory .memory))
+  pub read-agrees : {after : After} → answer ≡ Answer.Taken after → (after .dummy || eqb (after .byte) byte) ≡ true → replay (readAs byte) (chipOf r memory) ≡ gives (chipOf (after .registers) (step dataRead r memory .memory))
   unfolding replay compared
   read-agrees t same = rw (← a, t, same)
 
-  pub read-differs : {after : After} → answer ≡ Taken after → (after .dummy || eqb (after .byte) byte) ≡ false → replay (readAs byte) (chipOf r memory) ≡ refuses readDiffers
+  pub read-differs : {after : After} → answer ≡ Answer.Taken after → (after .dummy || eqb (after .byte) byte) ≡ false → replay (readAs byte) (chipOf r memory) ≡ refuses readDiffers
   unfolding replay compared
   read-differs t same = rw (← a, t, same)
 
-  pub read-refused : {number : ℕ} → answer ≡ Refused number → replay (readAs byte) (chipOf r memory) ≡ refuses number
+  pub read-refused : {number : ℕ} → answer ≡ Answer.Refused number → replay (readAs byte) (chipOf r memory) ≡ refuses number
   unfolding replay compared
   read-refused t = rw (← a, t)

@@ -13,9 +13,9 @@ use Rattle.trace.specs.Records.{Trace, ended, cut, _then_, headerSize, l
 use Rattle.trace.specs.Front.{frontOf}
 use Rattle.trace.specs.Play.{Machine, stopped, done, played, playRecord, playFrom}
 use Rattle.trace.specs.declared.records.Header.{Header}
-use Rattle.trace.specs.declared.records.Front.the-variants.{Nothing, Cut, Whole}
 use Rattle.trace.proofs.Fronts.{room, tells}
 use Rattle.trace.proofs.Standing.{is-whole, its-length}
+use Rattle.trace.specs.declared.records.Front.{Front}
 
 -- the bytes that belong to the record before are passed over
 pub passed : (left offset : ℕ) (bytes : List ℕ) → left ≤ length bytes → splitFrom left offset bytes ≡ splitFrom 0 (offset + left) (drop left bytes)
@@ -54,27 +54,27 @@ abbrev pub rest : List ℕ → ℕ → Trace
 rest trace at = splitFrom 0 at (drop at trace)
 
 module _ (trace : List ℕ) (at : ℕ) where
-  rest-nothing : frontOf (drop at trace) ≡ Nothing → rest trace at ≡ ended at
+  rest-nothing : frontOf (drop at trace) ≡ Front.Nothing → rest trace at ≡ ended at
   rest-nothing h = split-nothing at (drop at trace) (tells (drop at trace) h)
 
-  rest-cut : frontOf (drop at trace) ≡ Cut → rest trace at ≡ cut at
+  rest-cut : frontOf (drop at trace) ≡ Front.Cut → rest trace at ≡ cut at
   rest-cut h = let found = tells (drop at trace) h in split-cut at (drop at trace) (found .0) (found .1)
 
-  rest-whole : (header : Header) → frontOf (drop at trace) ≡ Whole header → rest trace at ≡ (recordAt at (drop at trace) then rest trace (at + headerSize + header .length))
+  rest-whole : (header : Header) → frontOf (drop at trace) ≡ Front.Whole header → rest trace at ≡ (recordAt at (drop at trace) then rest trace (at + headerSize + header .length))
   rest-whole header h =
       let e : at + (headerSize + header .length) ≡ at + headerSize + header .length = omega arith in
       split-whole at (drop at trace) (is-whole trace at header h) ∙ rw (its-length trace at header h, drop-drop (headerSize + header .length) at trace, e)
 
   module _ {S E : Type 0} (machine : Machine S E) (count : ℕ) (s : S) where
-    pub plays-nothing : frontOf (drop at trace) ≡ Nothing → playFrom machine (rest trace at) count s ≡ played taken at count s
+    pub plays-nothing : frontOf (drop at trace) ≡ Front.Nothing → playFrom machine (rest trace at) count s ≡ played taken at count s
     unfolding playFrom
     plays-nothing h = rw (rest-nothing h)
 
-    pub plays-cut : frontOf (drop at trace) ≡ Cut → playFrom machine (rest trace at) count s ≡ played headerCut at count s
+    pub plays-cut : frontOf (drop at trace) ≡ Front.Cut → playFrom machine (rest trace at) count s ≡ played headerCut at count s
     unfolding playFrom
     plays-cut h = rw (rest-cut h)
 
-    module _ (header : Header) (h : frontOf (drop at trace) ≡ Whole header) where
+    module _ (header : Header) (h : frontOf (drop at trace) ≡ Front.Whole header) where
       -- the record is done, and the rest is played from what it left
       pub plays-on : (t : S) → playRecord machine (recordAt at (drop at trace)) s ≡ done t → playFrom machine (rest trace at) count s ≡ playFrom machine (rest trace (at + headerSize + header .length)) (count + 1) t
       unfolding playFrom

@@ -11,7 +11,6 @@ use Rattle.bus.specs.Numbers.{taken, columnAbove, headerCut, kindUnknown}
 use Rattle.bus.specs.Chip.{Chip}
 use Rattle.bus.specs.Image.{asked}
 use Rattle.bus.specs.declared.registers.Registers.{Registers}
-use Rattle.bus.specs.declared.image.Asked.the-variants.{Found}
 use Rattle.bus.proofs.Asking.{OneOrTwo, asked-refusal}
 use Rattle.trace.specs.Records.{whole, split}
 use Rattle.trace.specs.Play.{Played, played, playFrom, play}
@@ -26,6 +25,7 @@ use Rattle.trace.proofs.Sound.{the-chip-sound}
 use Rattle.trace.proofs.Runs.{run-found, by-asking, refused-run, refused-taken}
 use Rattle.trace.proofs.Fronts.{tests-cut}
 use Rattle.trace.proofs.RecordStops.{ReadStop, RecordStop, atHeader, atEvent, atRead, record-stop}
+use Rattle.bus.specs.declared.image.Asked.{Asked}
 
 as-played : {S : Type 0} (p : Played S) {number offset : ℕ} → p .number ≡ number → p .offset ≡ offset → p ≡ played number offset (p .count) (p .state)
 as-played p a b = rw (← a, ← b)
@@ -34,7 +34,7 @@ module _ (state memory trace : List ℕ) where
   -- a header should stand at an offset: the chip that the records before it leave
   pub record Standing (at : ℕ) : Type 0 where
     pub registers : Registers
-    pub found : asked state memory ≡ Found registers
+    pub found : asked state memory ≡ Asked.Found registers
     pub count : ℕ
     pub chip : Chip
     pub reached : Reached theChip trace (chipOf registers memory) at count chip
@@ -76,7 +76,7 @@ module _ (state memory trace : List ℕ) where
   from-record at here number offset d w (atEvent p q) = small q
   from-record at here number offset d w (atRead s) = atItsRead at here d w s
 
-  from-first : (r : Registers) → asked state memory ≡ Found r → {p : Played Chip} → First theChip trace (chipOf r memory) p → RunStop (p .number) (p .offset)
+  from-first : (r : Registers) → asked state memory ≡ Asked.Found r → {p : Played Chip} → First theChip trace (chipOf r memory) p → RunStop (p .number) (p .offset)
   from-first r e (all n) = small (omega arith)
   from-first r e (cutAt at count c reached some cut q) =
       let here : Standing at = record { registers = r; found = e; count = count; chip = c; reached = reached } in

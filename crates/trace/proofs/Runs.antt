@@ -11,7 +11,6 @@ use Rattle.bus.specs.Numbers.{taken}
 use Rattle.bus.specs.Image.{asked, stored}
 use Rattle.bus.specs.declared.registers.Registers.{Registers}
 use Rattle.bus.specs.declared.image.Asked.{Asked}
-use Rattle.bus.specs.declared.image.Asked.the-variants.{Found, Refused}
 use Rattle.bus.proofs.Asking.{OneOrTwo, asked-refusal}
 use Rattle.bus.proofs.Kept.{asked-legal}
 use Rattle.bus.proofs.Stored.{Sized, sized, stored-own, stored-again, stored-past, asked-stored}
@@ -45,7 +44,7 @@ same-play f g memory memory′ p q =
     (rw (ap (λ r. r .number) e, ap (λ r. r .offset) e, ap (λ r. r .count) e, ap (λ r. r .state .registers) e), ap (λ r. r .state .memory) e)
 
 -- the run of a trace on a legal state and memory, which hold registers r
-module _ (state memory : List ℕ) (r : Registers) (found : asked state memory ≡ Found r) where
+module _ (state memory : List ℕ) (r : Registers) (found : asked state memory ≡ Asked.Found r) where
   pub fits : Sized state memory r
   fits = sized state memory r found
 
@@ -63,7 +62,7 @@ module _ (state memory : List ℕ) (r : Registers) (found : asked state memory �
   left-held trace b = play-keeps theChip (Held memory) Brings brings (replay-held memory) (split trace) 0 (chipOf r memory) (split-of-bytes 0 0 trace b) (record { registers = asked-legal state memory r found; size = refl; past = refl })
 
   -- a run from a legal image leaves a legal image
-  pub run-legal : (trace : List ℕ) → Bytes trace → asked (run state memory trace .state) (run state memory trace .memory) ≡ Found (play theChip (split trace) (chipOf r memory) .state .registers)
+  pub run-legal : (trace : List ℕ) → Bytes trace → asked (run state memory trace .state) (run state memory trace .memory) ≡ Asked.Found (play theChip (split trace) (chipOf r memory) .state .registers)
   unfolding ranOf
   run-legal trace b =
       let h = left-held trace b in
@@ -85,26 +84,26 @@ module _ (state memory : List ℕ) (r : Registers) (found : asked state memory �
       let e = run-found a in
       let first = play theChip (split a) (chipOf r memory) in
       let later = stored (first .state .registers) state in
-      let again : asked later (first .state .memory) ≡ Found (first .state .registers) = rw e at (run-legal a bytes) in
+      let again : asked later (first .state .memory) ≡ Asked.Found (first .state .registers) = rw e at (run-legal a bytes) in
       let second : runOn (asked later (first .state .memory)) later (first .state .memory) b ≡ ranOf (play theChip (split b) (first .state)) state =
       rw (again, stored-again state (fits .image) (first .state .registers) (play theChip (split b) (first .state) .state .registers)) in
       run-found (a ++ b) ∙ ap (λ p. ranOf p state) (joined theChip the-chip-sound a b (chipOf r memory) (ap (λ outcome. outcome .stop .number) (sym e) ∙ h)) ∙ rw (e, second)
 
 -- on any state and memory
 module _ (state memory : List ℕ) where
-  pub refused-run : (trace : List ℕ) (number : ℕ) → asked state memory ≡ Refused number → run state memory trace ≡ ran (stopOf number 0 0) state memory
+  pub refused-run : (trace : List ℕ) (number : ℕ) → asked state memory ≡ Asked.Refused number → run state memory trace ≡ ran (stopOf number 0 0) state memory
   unfolding run runOn
   refused-run trace number e = rw e
 
-  pub refused-taken : (trace : List ℕ) (number : ℕ) → asked state memory ≡ Refused number → run state memory trace .stop .number ≡ taken → ⊥
+  pub refused-taken : (trace : List ℕ) (number : ℕ) → asked state memory ≡ Asked.Refused number → run state memory trace .stop .number ≡ taken → ⊥
   refused-taken trace number e h = omega (arith, subst OneOrTwo e (asked-refusal state memory) .0, ap (λ outcome. outcome .stop .number) (sym (refused-run trace number e)) ∙ h)
 
-  pub by-asking : (P : Type 0) → ((r : Registers) → asked state memory ≡ Found r → P) → ((number : ℕ) → asked state memory ≡ Refused number → P) → P
+  pub by-asking : (P : Type 0) → ((r : Registers) → asked state memory ≡ Asked.Found r → P) → ((number : ℕ) → asked state memory ≡ Asked.Refused number → P) → P
   by-asking P found refused = by (asked state memory) refl
     where
       by : (asking : Asked) → asked state memory ≡ asking → P
-      by (Found r) e = found r e
-      by (Refused number) e = refused number e
+      by (Asked.Found r) e = found r e
+      by (Asked.Refused number) e = refused number e
 
   -- no byte past the needed lengths changes
   pub run-past : (trace : List ℕ) → Bytes trace → (drop imageSize (run state memory trace .state) ≡ drop imageSize state) × (drop memorySize (run state memory trace .memory) ≡ drop memorySize memory)

@@ -11,7 +11,6 @@ use Rattle.bus.specs.Numbers.{taken, columnAbove, kindUnknown, readDiffers}
 use Rattle.bus.specs.Chip.{Chip, dataRead, step}
 use Rattle.bus.specs.declared.answer.After.{After}
 use Rattle.bus.specs.declared.answer.Answer.{Answer}
-use Rattle.bus.specs.declared.answer.Answer.the-variants.{Taken, Refused}
 use Rattle.bus.proofs.Answers.{StandsFor, step-answers}
 use Rattle.trace.specs.Play.{Result, refuses, gives}
 use Rattle.trace.specs.Kinds.{Recorded, event, readAs, chipOf, happened, compared, replay, theChip}
@@ -34,22 +33,22 @@ headed (none n) = refl
 -- an event is refused with its answer's number, 1 to 7, or with 10: it is a read, taken and no dummy, and answers another byte
 pub data Refusal (recorded : Recorded) (c : Chip) (number : ℕ) : Type 0 where
   own : taken < number → number ≤ columnAbove → Refusal recorded c number
-  differing : (byte : ℕ) (after : After) → recorded ≡ readAs byte → step dataRead (c .registers) (c .memory) .answer ≡ Taken after → after .dummy ≡ false → (after .byte ≡ byte → ⊥) → number ≡ readDiffers → Refusal recorded c number
+  differing : (byte : ℕ) (after : After) → recorded ≡ readAs byte → step dataRead (c .registers) (c .memory) .answer ≡ Answer.Taken after → after .dummy ≡ false → (after .byte ≡ byte → ⊥) → number ≡ readDiffers → Refusal recorded c number
 
 event-refusal : (recorded : Recorded) (c : Chip) (number : ℕ) (answer : Answer) (memory : List ℕ) → StandsFor number answer → Refusing (Refusal recorded c) (happened answer memory)
 unfolding happened
-event-refusal recorded c number (Taken after) memory s = tt
-event-refusal recorded c number (Refused refusal) memory s = own (s .1) (s .2)
+event-refusal recorded c number (Answer.Taken after) memory s = tt
+event-refusal recorded c number (Answer.Refused refusal) memory s = own (s .1) (s .2)
 
 read-refusal : (byte : ℕ) (c : Chip) (number : ℕ) (answer : Answer) (memory : List ℕ) → step dataRead (c .registers) (c .memory) .answer ≡ answer → StandsFor number answer → Refusing (Refusal (readAs byte) c) (compared byte answer memory)
 unfolding compared
-read-refusal byte c number (Taken after) memory e s = by (after .dummy) (eqb (after .byte) byte) refl refl
+read-refusal byte c number (Answer.Taken after) memory e s = by (after .dummy) (eqb (after .byte) byte) refl refl
   where
     by : (d b : Bool) → after .dummy ≡ d → eqb (after .byte) byte ≡ b → Refusing (Refusal (readAs byte) c) (cond (d || b) (gives (chipOf (after .registers) memory)) (refuses readDiffers))
     by true b p q = tt
     by false true p q = tt
     by false false p q = differing byte after refl e p (eqb-false (after .byte) byte q) refl
-read-refusal byte c number (Refused refusal) memory e s = own (s .1) (s .2)
+read-refusal byte c number (Answer.Refused refusal) memory e s = own (s .1) (s .2)
 
 replay-refusal : (recorded : Recorded) (c : Chip) → Refusing (Refusal recorded c) (replay recorded c)
 unfolding replay

@@ -10,10 +10,10 @@ use lib.Seq.{slice, drop-drop, drop-at, take-add, length-take-le}
 use Rattle.trace.specs.Records.{headerSize, lengthOf, kindOf, payloadOf, whole, recordAt}
 use Rattle.trace.specs.Front.{frontOf}
 use Rattle.trace.specs.declared.records.Header.{Header}
-use Rattle.trace.specs.declared.records.Front.the-variants.{Whole}
 use Rattle.trace.proofs.Fronts.{room, tells}
+use Rattle.trace.specs.declared.records.Front.{Front}
 
-module _ (trace : List ℕ) (at : ℕ) (header : Header) (h : frontOf (drop at trace) ≡ Whole header) where
+module _ (trace : List ℕ) (at : ℕ) (header : Header) (h : frontOf (drop at trace) ≡ Front.Whole header) where
   pub is-whole : whole (drop at trace) ≡ true
   is-whole = tells (drop at trace) h .0
 

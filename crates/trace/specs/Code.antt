@@ -6,14 +6,13 @@ use Rattle.trace.specs.Play.{Ending, stopped, done, Played, played}
 use Rattle.trace.specs.Kinds.{chipOf}
 use Rattle.bus.specs.declared.registers.Registers.{Registers}
 use Rattle.trace.specs.declared.events.Ended.{Ended}
-use Rattle.trace.specs.declared.events.Ended.the-variants.{Done, Stopped}
 use Rattle.trace.specs.declared.events.Progress.{Progress}
 use Rattle.trace.specs.declared.run.Finish.{Finish}
 
 -- How a record's events end, at the chip that is left.
 unfoldable pub endedAt : Ended → Chip → Ending Chip
-endedAt Done chip = done chip
-endedAt (Stopped halt) chip = stopped (halt .number) (halt .offset) chip
+endedAt Ended.Done chip = done chip
+endedAt (Ended.Stopped halt) chip = stopped (halt .number) (halt .offset) chip
 
 -- The same with the memory that is left beside it.
 abbrev pub endingOf : Progress → List ℕ → Ending Chip
@@ -21,7 +20,7 @@ endingOf progress memory = endedAt (progress .ended) (chipOf (progress .register
 
 -- Stopped with a number at an offset.
 abbrev pub haltedOf : ℕ → ℕ → Registers → Progress
-haltedOf n at r = record { registers = r; ended = Stopped (record { number = n; offset = at }) }
+haltedOf n at r = record { registers = r; ended = Ended.Stopped (record { number = n; offset = at }) }
 
 -- A played trace, with the memory that is left beside it.
 unfoldable pub playedOf : Finish → List ℕ → Played Chip

@@ -6,7 +6,6 @@ use lib.Dec.{eqb}
 use lib.ListN.{length}
 use Rattle.trace.specs.Records.{whole, kindOf, lengthOf}
 use Rattle.trace.specs.declared.records.Front.{Front}
-use Rattle.trace.specs.declared.records.Front.the-variants.{Nothing, Cut, Whole}
 
 unfoldable pub frontOf : List ℕ → Front
-frontOf bytes = cond (eqb (length bytes) 0) Nothing (cond (whole bytes) (Whole (record { kind = kindOf bytes; length = lengthOf bytes })) Cut)
+frontOf bytes = cond (eqb (length bytes) 0) Front.Nothing (cond (whole bytes) (Front.Whole (record { kind = kindOf bytes; length = lengthOf bytes })) Front.Cut)

@@ -8,7 +8,6 @@ use Rattle.bus.specs.Numbers.{kindUnknown, readDiffers}
 use Rattle.bus.specs.Chip.{Chip, Event, commandByte, dataWritten, dataRead, resetPulse, step}
 use Rattle.bus.specs.declared.registers.Registers.{Registers}
 use Rattle.bus.specs.declared.answer.Answer.{Answer}
-use Rattle.bus.specs.declared.answer.Answer.the-variants.{Taken, Refused}
 use Rattle.trace.specs.Play.{Result, refuses, gives, Machine}
 
 -- What a record's payload stands for: a bus event, or a read event with the byte that the firmware read.
@@ -36,13 +35,13 @@ chipOf r left = record { registers = r; memory = left }
 
 -- The chip after an event.
 unfoldable pub happened : Answer → List ℕ → Result Chip
-happened (Taken after) memory = gives (chipOf (after .registers) memory)
-happened (Refused number) memory = refuses number
+happened (Answer.Taken after) memory = gives (chipOf (after .registers) memory)
+happened (Answer.Refused number) memory = refuses number
 
 -- A read is compared with the byte that the firmware read, a dummy read is not; one that differs has not happened.
 unfoldable pub compared : ℕ → Answer → List ℕ → Result Chip
-compared byte (Taken after) memory = cond (after .dummy || eqb (after .byte) byte) (gives (chipOf (after .registers) memory)) (refuses readDiffers)
-compared byte (Refused number) memory = refuses number
+compared byte (Answer.Taken after) memory = cond (after .dummy || eqb (after .byte) byte) (gives (chipOf (after .registers) memory)) (refuses readDiffers)
+compared byte (Answer.Refused number) memory = refuses number
 
 -- The chip after what was recorded.
 unfoldable pub replay : Recorded → Chip → Result Chip

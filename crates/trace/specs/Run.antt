@@ -4,7 +4,6 @@ use mathlib.Core.List.{List}
 use Rattle.bus.specs.Chip.{Chip}
 use Rattle.bus.specs.Image.{asked, stored}
 use Rattle.bus.specs.declared.image.Asked.{Asked}
-use Rattle.bus.specs.declared.image.Asked.the-variants.{Found, Refused}
 use Rattle.trace.specs.Records.{split}
 use Rattle.trace.specs.Play.{Played, play}
 use Rattle.trace.specs.Kinds.{chipOf, theChip}
@@ -28,8 +27,8 @@ ranOf p state = ran (stopOf (p .number) (p .offset) (p .count)) (stored (p .stat
 
 -- A run on what was asked first: for refusals 1 and 2 offset and count are 0.
 unfoldable pub runOn : Asked → List ℕ → List ℕ → List ℕ → Ran
-runOn (Found r) state memory trace = ranOf (play theChip (split trace) (chipOf r memory)) state
-runOn (Refused number) state memory trace = ran (stopOf number 0 0) state memory
+runOn (Asked.Found r) state memory trace = ranOf (play theChip (split trace) (chipOf r memory)) state
+runOn (Asked.Refused number) state memory trace = ran (stopOf number 0 0) state memory
 
 unfoldable pub run : List ℕ → List ℕ → List ℕ → Ran
 run state memory trace = runOn (asked state memory) state memory trace

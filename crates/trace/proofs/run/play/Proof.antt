@@ -10,12 +10,12 @@ use denote.Ref.{now}
 use lib.ListN.{length, drop}
 use Rattle.trace.specs.Records.{headerSize, split}
 use Rattle.trace.specs.Front.{frontOf}
-use Rattle.trace.specs.declared.records.Front.the-variants.{Whole}
 use Rattle.trace.specs.Play.{play, playFrom}
 use Rattle.trace.specs.Kinds.{theChip, chipOf}
 use Rattle.trace.specs.Code.{endedAt, playedOf}
 use Rattle.trace.proofs.Standing.{within-trace}
 use Rattle.trace.proofs.Rest.{rest, plays-nothing, plays-cut, plays-on, plays-stop}
+use Rattle.trace.specs.declared.records.Front.{Front}
 
 abbrev Inv-loop : tie.InvT-loop
 Inv-loop registers₀ memory₀ trace at₀ count₀ registers memory at count = (at ≤ length trace) × (count ≤ at) × (length memory ≡ length memory₀) × (play theChip (split trace) (chipOf registers₀ memory₀) ≡ playFrom theChip (rest trace at) count (chipOf registers memory))
@@ -24,7 +24,7 @@ abbrev μ-loop : tie.MeasureT-loop
 μ-loop registers₀ memory₀ trace at₀ count₀ registers memory at count = length trace - at
 
 -- the record that stands at the loop's offset
-standing : (d : tie.After-known-told Inv-loop μ-loop) → frontOf (drop (d .before .before .before .before .loop .at) (now (d .before .before .before .before .before .before .before .args .trace))) ≡ Whole (d .before .header .given .0 .0)
+standing : (d : tie.After-known-told Inv-loop μ-loop) → frontOf (drop (d .before .before .before .before .loop .at) (now (d .before .before .before .before .before .before .before .args .trace))) ≡ Front.Whole (d .before .header .given .0 .0)
 standing d = sym (d .before .before .before .read-at .ensures) ∙ d .before .header .given .1
 
 fits : (d : tie.After-known-told Inv-loop μ-loop) → d .before .before .before .before .loop .at + headerSize + d .before .header .given .0 .0 .length ≤ length (now (d .before .before .before .before .before .before .before .args .trace))

@@ -1,0 +1,32 @@
+-- The call on a lent frame and buffer: the whole outcome as one function of what is lent.
+use Prim.Native.Nat.{ℕ}
+use mathlib.Core.Bool.{cond, _||_}
+use mathlib.Core.List.{List, _++_}
+use lib.Dec.{ltb}
+use lib.ListN.{length, drop}
+use Rattle.framelisting.specs.Sizes.{frameSize}
+use Rattle.framelisting.specs.Text.{listingOf}
+use Rattle.framelisting.specs.declared.Listed.{Listed}
+
+-- What the call answers, and what the buffer holds then.
+pub record Outcome : Type 0 where
+  pub answer : Listed
+  pub text : List ℕ
+
+abbrev pub outcome : Listed → List ℕ → Outcome
+outcome answer text = record { answer = answer; text = text }
+
+-- document 01's number for what is lent too short
+abbrev pub tooShort : ℕ
+tooShort = 1
+
+-- The text at the start of the buffer, with its length; the bytes past it stay.
+unfoldable pub written : List ℕ → List ℕ → Outcome
+written listing text = outcome (Listed.Written (length listing)) (listing ++ drop (length listing) text)
+
+-- A frame shorter than 8,580 bytes, or a buffer shorter than the text, is refused, and nothing is written.
+unfoldable pub listed : ℕ → ℕ → List ℕ → List ℕ → Outcome
+listed number offset frame text =
+    cond (ltb (length frame) frameSize || ltb (length text) (length (listingOf number offset frame)))
+    (outcome (Listed.Refused tooShort) text)
+    (written (listingOf number offset frame) text)

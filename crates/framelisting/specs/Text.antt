@@ -1,0 +1,45 @@
+-- Document 01's listing: the text for a frame and for a stopped run's number and offset.
+use Prim.Native.Nat.{ℕ, zero, suc, _*_}
+use mathlib.Core.Bool.{cond}
+use mathlib.Core.List.{List, [], _∷_, _++_}
+use lib.Dec.{eqb}
+use lib.ListN.{take, drop}
+use Rattle.framelisting.specs.Sizes.{width, rows}
+use Rattle.framelisting.specs.Ascii.{ascii}
+use Rattle.framelisting.specs.Decimal.{decimal}
+use Rattle.framelisting.specs.Runs.{Run, anyLit, runs}
+
+-- A run after the one space between: its first place, "-", its last.
+unfoldable pub runText : Run → List ℕ
+runText run = ascii " " ++ decimal (run .first) ++ ascii "-" ++ decimal (run .last)
+
+unfoldable pub runsText : List Run → List ℕ
+runsText [] = []
+runsText (run ∷ more) = runText run ++ runsText more
+
+-- A row with lit places has a line: its number and its runs. Any other row has none.
+unfoldable pub line : ℕ → List ℕ → List ℕ
+line p row = cond (anyLit row) (decimal p ++ runsText (runs row) ++ ascii "\n") []
+
+-- Row p of a frame whose rows are w wide.
+unfoldable pub rowOf : ℕ → List ℕ → ℕ → List ℕ
+rowOf w frame p = take w (drop (p * w) frame)
+
+-- The lines of n rows from row p on.
+unfoldable pub lines : ℕ → List ℕ → ℕ → ℕ → List ℕ
+lines w frame zero p = []
+lines w frame (suc n) p = line p (rowOf w frame p) ++ lines w frame n (suc p)
+
+-- A frame w wide and h rows high.
+unfoldable pub frameText : ℕ → ℕ → List ℕ → List ℕ
+frameText w h frame =
+    (ascii "frame " ++ decimal w ++ ascii " " ++ decimal h ++ ascii "\n") ++ lines w frame h 0 ++ ascii "end\n"
+
+-- A run that stopped first prints its number and offset; number 0, taken, prints nothing.
+unfoldable pub refusedText : ℕ → ℕ → List ℕ
+refusedText number offset =
+    cond (eqb number 0) [] (ascii "refused " ++ decimal number ++ ascii " at " ++ decimal offset ++ ascii "\n")
+
+-- The whole listing.
+unfoldable pub listingOf : ℕ → ℕ → List ℕ → List ℕ
+listingOf number offset frame = refusedText number offset ++ frameText width rows frame

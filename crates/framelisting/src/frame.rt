@@ -1,0 +1,54 @@
+// The whole listing.
+ghost use Prim.Native.Nat.{_≤_};
+ghost use lib.ListN.{length};
+ghost use Rattle.framelisting.specs.Put.{Countable, Put};
+ghost use Rattle.framelisting.specs.Sizes.{width, rows, frameSize};
+ghost use Rattle.framelisting.specs.Text.{lines, refusedText, listingOf};
+use crate::row::put_line;
+use crate::text::put;
+use crate::text::put_bytes;
+use crate::text::put_number;
+
+// Puts the listing at the start of the buffer.
+pub fn put_listing(text: &mut [u8], number: u8, offset: usize, frame: &[u8]) -> usize
+    requires { ⌜ frameSize ≤ length (now frame) ⌝ }
+    requires { ⌜ Countable 0 (listingOf number offset (now frame)) ⌝ }
+    ensures { λ r. ⌜ Put (now (text .entry)) 0 (listingOf number offset (now (frame .entry))) r (now (text .exit)) ⌝ }
+{
+    let next = put_refused(text, 0, number, offset);
+    let next = put_bytes(text, next, b"frame 132 65\n");
+    let next = put_lines(text, next, frame);
+    put_bytes(text, next, b"end\n")
+}
+
+// Puts what a stopped run first prints; a run that was taken prints nothing.
+fn put_refused(text: &mut [u8], at: usize, number: u8, offset: usize) -> usize
+    requires { ⌜ Countable at (refusedText number offset) ⌝ }
+    ensures { λ r. ⌜ Put (now (text .entry)) at (refusedText number offset) r (now (text .exit)) ⌝ }
+{
+    if number == 0 {
+        return at;
+    }
+    let next = put_bytes(text, at, b"refused ");
+    let next = put_number(text, next, number as usize);
+    let next = put_bytes(text, next, b" at ");
+    let next = put_number(text, next, offset);
+    put(text, next, b'\n')
+}
+
+// Puts the lines of the 65 rows.
+fn put_lines(text: &mut [u8], at: usize, frame: &[u8]) -> usize
+    requires { ⌜ frameSize ≤ length (now frame) ⌝ }
+    requires { ⌜ Countable at (lines width (now frame) rows 0) ⌝ }
+    ensures { λ r. ⌜ Put (now (text .entry)) at (lines width (now (frame .entry)) rows 0) r (now (text .exit)) ⌝ }
+{
+    let mut next = at;
+    let mut p = 0;
+    while p < 65 {
+        let start = p * 132;
+        let end = start + 132;
+        next = put_line(text, next, p, &frame[start..end]);
+        p += 1;
+    }
+    next
+}

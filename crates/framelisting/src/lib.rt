@@ -1,0 +1,39 @@
+// A frame, and a stopped run's number and offset, as text into a lent buffer.
+ghost use mathlib.Core.Path.{_≡_};
+ghost use Rattle.framelisting.specs.Listing.{outcome, listed};
+use crate::frame::put_listing;
+
+mod frame;
+mod row;
+mod text;
+
+// What a listing answers: the text's length, or a refusal number.
+pub enum Listed {
+    Written(usize),
+    Refused(u8),
+}
+
+// A lent frame or buffer is too short.
+pub const TOO_SHORT: u8 = 1;
+// Bytes of the longest listing: a buffer of that length is enough for any.
+pub const LONGEST_LISTING: usize = 27408;
+
+// Lists a frame into a lent buffer, after a stopped run's number and offset; number 0 is taken, and says nothing of a run.
+pub fn list(number: u8, offset: usize, frame: &[u8], text: &mut [u8]) -> Listed
+    ensures { λ r. ⌜ outcome r (now (text .exit)) ≡ listed number offset (now (frame .entry)) (now (text .entry)) ⌝ }
+{
+    if frame.len() < 8580 {
+        return Listed::Refused(TOO_SHORT);
+    }
+    // A buffer that holds any listing is written at once; another is measured first.
+    if LONGEST_LISTING <= text.len() {
+        let written = put_listing(text, number, offset, frame);
+        return Listed::Written(written);
+    }
+    let length = put_listing(&mut text[..0], number, offset, frame);
+    if text.len() < length {
+        return Listed::Refused(TOO_SHORT);
+    }
+    put_listing(text, number, offset, frame);
+    Listed::Written(length)
+}

@@ -1,0 +1,81 @@
+// A row of the frame as a line of text.
+ghost use mathlib.Core.Path.{_≡_};
+ghost use Prim.Native.Nat.{_+_, _≤_};
+ghost use lib.ListN.{length, drop};
+ghost use Rattle.framelisting.specs.Put.{Countable, Put};
+ghost use Rattle.framelisting.specs.Runs.{anyLit, leading, runs};
+ghost use Rattle.framelisting.specs.Text.{runText, runsText, line};
+use crate::text::put;
+use crate::text::put_number;
+
+// Puts the line of row p; a row with no lit place has none.
+pub fn put_line(text: &mut [u8], at: usize, p: usize, row: &[u8]) -> usize
+    requires { ⌜ Countable at (line p (now row)) ⌝ }
+    ensures { λ r. ⌜ Put (now (text .entry)) at (line p (now (row .entry))) r (now (text .exit)) ⌝ }
+{
+    if any_lit(row) {
+        let next = put_number(text, at, p);
+        let next = put_runs(text, next, row);
+        return put(text, next, b'\n');
+    }
+    at
+}
+
+// Whether a row has a lit place.
+fn any_lit(row: &[u8]) -> bool
+    ensures { λ r. ⌜ r ≡ anyLit (now (row .entry)) ⌝ }
+{
+    let mut x = 0;
+    while x < row.len() {
+        if row[x] != 0 {
+            return true;
+        }
+        x += 1;
+    }
+    false
+}
+
+// Puts the runs of a row, left to right.
+fn put_runs(text: &mut [u8], at: usize, row: &[u8]) -> usize
+    requires { ⌜ Countable at (runsText (runs (now row))) ⌝ }
+    ensures { λ r. ⌜ Put (now (text .entry)) at (runsText (runs (now (row .entry)))) r (now (text .exit)) ⌝ }
+{
+    let mut next = at;
+    let mut x = 0;
+    while x < row.len() {
+        if row[x] == 0 {
+            x += 1;
+        } else {
+            let end = run_end(row, x + 1);
+            next = put_run(text, next, x, end - 1);
+            x = end;
+        }
+    }
+    next
+}
+
+// The place after the lit places from a place on.
+fn run_end(row: &[u8], from: usize) -> usize
+    requires { ⌜ from ≤ length (now row) ⌝ }
+    ensures { λ r. ⌜ r ≡ from + leading (drop from (now (row .entry))) ⌝ }
+{
+    let mut x = from;
+    while x < row.len() {
+        if row[x] == 0 {
+            return x;
+        }
+        x += 1;
+    }
+    x
+}
+
+// Puts a run: a space, its first place, "-", its last.
+fn put_run(text: &mut [u8], at: usize, first: usize, last: usize) -> usize
+    requires { ⌜ Countable at (runText (record { first = first; last = last })) ⌝ }
+    ensures { λ r. ⌜ Put (now (text .entry)) at (runText (record { first = first; last = last })) r (now (text .exit)) ⌝ }
+{
+    let next = put(text, at, b' ');
+    let next = put_number(text, next, first);
+    let next = put(text, next, b'-');
+    put_number(text, next, last)
+}

@@ -1,0 +1,29 @@
+-- A pack: entry after entry, each a named trace. An entry is the length of its name, the length of its trace, the name and the trace.
+use Prim.Native.Nat.{ℕ, _+_, _*_}
+use mathlib.Core.Bool.{cond, _&&_}
+use mathlib.Core.List.{List}
+use lib.Dec.{eqb, leb}
+use lib.ListN.{length, getD}
+use Rattle.listpack.specs.declared.pack.Entry.{Entry}
+
+-- A number of four bytes, little-endian.
+abbrev pub number : List ℕ → ℕ → ℕ
+number bytes place = getD bytes place 0 + 256 * (getD bytes (place + 1) 0 + 256 * (getD bytes (place + 2) 0 + 256 * getD bytes (place + 3) 0))
+
+-- An entry's header: the two lengths.
+abbrev pub headerSize : ℕ
+headerSize = 8
+
+abbrev pub nameLength : List ℕ → ℕ
+nameLength bytes = number bytes 0
+
+abbrev pub traceLength : List ℕ → ℕ
+traceLength bytes = number bytes 4
+
+-- What stands first among the bytes: nothing; a whole entry, its header not cut and its name and trace not past the end; or a cut one.
+unfoldable pub entryOf : List ℕ → Entry
+entryOf bytes =
+    cond (eqb (length bytes) 0) Entry.Nothing
+    (cond (leb headerSize (length bytes) && leb (headerSize + nameLength bytes + traceLength bytes) (length bytes))
+    (Entry.Whole (record { name = nameLength bytes; trace = traceLength bytes }))
+    Entry.Cut)

@@ -1,0 +1,56 @@
+-- The steps of the job put together: what the calls leave is the listing of the trace, and a buffer that holds any listing holds it.
+-- Assumes nothing.
+use mathlib.Core.Path.{_≡_, sym, _∙_, ap}
+use mathlib.Core.List.{List, _++_}
+use Prim.Native.Nat.{ℕ, _^_, _≤_, _<_}
+use native.Mathlib.Omega.{arith}
+use mathlib.Core.Bool.{Bool, true, false, cond}
+use lib.Dec.{ltb}
+use borrow.Author.Tests.{le-ltb}
+use lib.ListN.{length, drop, replicate, length-append}
+use Rattle.bus.specs.Sizes.{memorySize}
+use Rattle.bus.specs.Registers.{powerOn, imageOf}
+use Rattle.trace.specs.Run.{Ran, ran, run}
+use Rattle.trace.specs.declared.run.Stop.{Stop}
+use Rattle.picture.specs.Sizes.{frameSize}
+use Rattle.picture.specs.Draw.{drawn, draw}
+use Rattle.framelisting.specs.Sizes.{longestListing}
+use Rattle.framelisting.specs.Text.{listingOf}
+use Rattle.framelisting.specs.Listing.{Outcome, outcome, written, listed}
+use Rattle.framelisting.specs.declared.Listed.{Listed}
+use Rattle.framelisting.proofs.Outcomes.{always-enough}
+use Rattle.tracelisting.specs.Job.{ranFromPowerOn, frameAfter, listingOfTrace, printed, printedOf}
+
+pub whole : (trace text state : List ℕ) (stop : Stop) (later left frame text′ : List ℕ) (number : ℕ) (answer : Listed) → state ≡ imageOf powerOn → ran stop later left ≡ run state (replicate memorySize 0) trace → drawn number frame ≡ draw later left (replicate frameSize 0) → outcome answer text′ ≡ listed (stop .number) (stop .offset) frame text → stop .number < 256 → stop .offset < 2 ^ 64 → frameSize ≤ length frame → longestListing ≤ length text → outcome answer text′ ≡ written (listingOfTrace trace) text
+unfolding ranFromPowerOn frameAfter listingOfTrace
+whole trace text state stop later left frame text′ number answer s p d l n o f t =
+    l ∙
+    always-enough (stop .number) (stop .offset) frame text n o f t ∙
+    ap (λ listing. written listing text)
+    (ap (λ drawing. listingOf (stop .number) (stop .offset) (drawing .frame)) d ∙
+    ap (λ r. listingOf (r .stop .number) (r .stop .offset) (draw (r .state) (r .memory) (replicate frameSize 0) .frame)) (rw s at p))
+
+-- the text stands at the start of the buffer, with its length
+pub finished : (trace text text′ : List ℕ) (answer : Listed) (size : ℕ) → longestListing ≤ length text → outcome answer text′ ≡ written (listingOfTrace trace) text → answer ≡ Listed.Written size → printed size text′ ≡ printedOf (listingOfTrace trace) text
+unfolding written printedOf
+finished trace text text′ answer size t e a =
+    let same : Listed.Written size ≡ Listed.Written (length (listingOfTrace trace)) = sym a ∙ ap (λ o. o .answer) e in
+    let long : size ≡ length (listingOfTrace trace) = cc in
+    rw (le-ltb (length text) longestListing t, long, ap (λ o. o .text) e)
+
+-- it is never refused
+pub never-refused : (listing text text′ : List ℕ) (answer : Listed) (number : ℕ) → outcome answer text′ ≡ written listing text → answer ≡ Listed.Refused number → ⊥
+unfolding written
+never-refused listing text text′ answer number e a =
+    let same : Listed.Refused number ≡ Listed.Written (length listing) = sym a ∙ ap (λ o. o .answer) e in
+    let z : _≡_ {A = ℕ} 0 1 = cc in
+    omega arith
+
+-- the answer is within the buffer
+pub within-text : (whole text text′ : List ℕ) (size : ℕ) → printed size text′ ≡ printedOf whole text → size ≤ length text′
+unfolding printedOf
+within-text whole text text′ size e = by (ltb (length text) longestListing) e
+  where
+    by : (t : Bool) → printed size text′ ≡ cond t (printed 0 text) (printed (length whole) (whole ++ drop (length whole) text)) → size ≤ length text′
+    by true p = omega (arith, ap (λ o. o .size) p)
+    by false p = omega (arith, ap (λ o. o .size) p, ap (λ o. length (o .text)) p ∙ length-append whole (drop (length whole) text))

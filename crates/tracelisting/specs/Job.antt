@@ -1,0 +1,46 @@
+-- The listing program's job: from a trace to the text that is printed for it.
+use Prim.Native.Nat.{ℕ}
+use mathlib.Core.Bool.{cond}
+use mathlib.Core.List.{List, _++_}
+use lib.Dec.{ltb}
+use lib.ListN.{length, drop, replicate}
+use Rattle.bus.specs.Sizes.{memorySize}
+use Rattle.bus.specs.Registers.{powerOn, imageOf}
+use Rattle.trace.specs.Run.{Ran, run}
+use Rattle.picture.specs.Sizes.{frameSize}
+use Rattle.picture.specs.Draw.{draw}
+use Rattle.framelisting.specs.Sizes.{longestListing}
+use Rattle.framelisting.specs.Ascii.{ascii}
+use Rattle.framelisting.specs.Text.{listingOf}
+
+-- The trace run from power-on with zero memory.
+unfoldable pub ranFromPowerOn : List ℕ → Ran
+ranFromPowerOn trace = run (imageOf powerOn) (replicate memorySize 0) trace
+
+-- The frame after a run, drawn over a dark one.
+unfoldable pub frameAfter : Ran → List ℕ
+frameAfter ran = draw (ran .state) (ran .memory) (replicate frameSize 0) .frame
+
+-- The listing of a trace.
+unfoldable pub listingOfTrace : List ℕ → List ℕ
+listingOfTrace trace = let ran = ranFromPowerOn trace in listingOf (ran .stop .number) (ran .stop .offset) (frameAfter ran)
+
+-- bytes of the longest trace that is listed
+abbrev pub longestTrace : ℕ
+longestTrace = 65536
+
+-- What is printed for an input: its listing; for a longer input than that only one line.
+unfoldable pub textFor : List ℕ → List ℕ
+textFor input = cond (ltb longestTrace (length input)) (ascii "input too long\n") (listingOfTrace input)
+
+-- The length that the job answers, and the buffer that it leaves.
+pub record Printed : Type 0 where
+  pub size : ℕ
+  pub text : List ℕ
+
+abbrev pub printed : ℕ → List ℕ → Printed
+printed answer later = record { size = answer; text = later }
+
+-- A text at the start of the buffer, the bytes past it as they were; nothing in a buffer that is too short for some listing.
+unfoldable pub printedOf : List ℕ → List ℕ → Printed
+printedOf whole text = cond (ltb (length text) longestListing) (printed 0 text) (printed (length whole) (whole ++ drop (length whole) text))

@@ -1,0 +1,56 @@
+// The listing programs' job: from a trace's bytes to the text that is printed for it.
+ghost use mathlib.Core.Path.{_≡_};
+ghost use Prim.Native.Nat.{_≤_};
+ghost use lib.ListN.{length};
+ghost use Rattle.framelisting.specs.Sizes.{longestListing};
+ghost use Rattle.tracelisting.specs.Job.{listingOfTrace, textFor, printed, printedOf};
+use bus::registers::Registers;
+use framelisting::LONGEST_LISTING;
+use framelisting::Listed;
+
+// Bytes of the longest trace that is listed.
+pub const LONGEST_TRACE: usize = 65536;
+
+// Puts what the listing program prints for its input into a buffer that is long enough for any listing, and answers the text's length.
+pub fn list_input(input: &[u8], text: &mut [u8]) -> usize
+    ensures { λ r. ⌜ printed r (now (text .exit)) ≡ printedOf (textFor (now (input .entry))) (now (text .entry)) ⌝ }
+{
+    if LONGEST_TRACE < input.len() {
+        return put_notice(b"input too long\n", text);
+    }
+    list_trace(input, text)
+}
+
+// Lists what a trace of any length leaves on the glass, from power-on with zero memory; answers the text's length, 0 where the buffer is too short for some listing.
+fn list_trace(trace: &[u8], text: &mut [u8]) -> usize
+    ensures { λ r. ⌜ printed r (now (text .exit)) ≡ printedOf (listingOfTrace (now (trace .entry))) (now (text .entry)) ⌝ }
+{
+    if text.len() < LONGEST_LISTING {
+        return 0;
+    }
+    let mut state = Registers::power_on().image();
+    let mut memory = [0u8; 1188];
+    let mut frame = [0u8; 8580];
+    let stop = trace::run::run(&mut state, &mut memory, trace);
+    picture::draw::draw(&state, &memory, &mut frame);
+    match framelisting::list(stop.number, stop.offset, &frame, text) {
+        Listed::Written(length) => length,
+        Listed::Refused(_) => 0,
+    }
+}
+
+// Puts a line into such a buffer, and answers its length.
+fn put_notice(line: &[u8], text: &mut [u8]) -> usize
+    requires { ⌜ length (now line) ≤ longestListing ⌝ }
+    ensures { λ r. ⌜ printed r (now (text .exit)) ≡ printedOf (now (line .entry)) (now (text .entry)) ⌝ }
+{
+    if text.len() < LONGEST_LISTING {
+        return 0;
+    }
+    let mut i = 0;
+    while i < line.len() {
+        text[i] = line[i];
+        i += 1;
+    }
+    i
+}
