@@ -131,8 +131,8 @@ check-install: $(TOOL) $(ARCHIVE) $(SHARED)
 # plain and native.
 check-python:
 ifeq ($(NATIVE),yes)
-	$(MAKE) $(SHARED) $(TOOL)
-	SSD1815B_LIBRARY=$(SHARED) python/test.sh $(TOOL)
+	$(MAKE) $(SHARED)
+	SSD1815B_LIBRARY=$(abspath $(SHARED)) python/test_ssd1815b.py
 else
 	$(MAKE) check-python MODEL=plain NATIVE=yes CROSS= RUN= CC=gcc VARIANT=-native
 endif
