@@ -119,7 +119,7 @@ class Run(NamedTuple):
 
     number: Number
     offset: int
-    count: int
+    records: int
 
 
 class Drawn(NamedTuple):
@@ -256,7 +256,7 @@ class Chip:
 
     @state.setter
     def state(self, image: Bytes) -> None:
-        self._state[:] = _bytes(image, "a state image", STATE_SIZE)
+        self._state[:] = list(_bytes(image, "a state image", STATE_SIZE))
 
     @property
     def memory(self) -> bytes:
@@ -265,7 +265,7 @@ class Chip:
 
     @memory.setter
     def memory(self, content: Bytes) -> None:
-        self._memory[:] = _bytes(content, "a memory", MEMORY_SIZE)
+        self._memory[:] = list(_bytes(content, "a memory", MEMORY_SIZE))
 
     def start(self) -> Number:
         """Power on: the power-on image and zero memory."""
@@ -291,9 +291,9 @@ class Chip:
 
     def run(self, trace: Bytes) -> Run:
         """Runs a trace up to its end or its first refusal; what came before stands."""
-        records = _bytes(trace, "a trace")
+        content = _bytes(trace, "a trace")
         offset, count = SIZE(), SIZE()
-        number = _call("ssd1815b_run", *self._lent, records, len(records), ctypes.byref(offset), ctypes.byref(count))
+        number = _call("ssd1815b_run", *self._lent, content, len(content), ctypes.byref(offset), ctypes.byref(count))
         return Run(number, offset.value, count.value)
 
     def draw(self) -> Drawn:

@@ -6,10 +6,12 @@
                                              tool, with its options
 
 Where the trace is refused, the line that the refused byte came from stands
-before the tool's own words:
+before the tool's own words, and that of an earlier byte after them:
 
-  mine.txt:7: command D3 40
-  refused 5 at 23 (0x17): ...
+  mine.txt:7: write 00
+  refused 6 at 23 (0x17): ...
+    awaited is the n of 81 ..., since 18 (0x12) in record 3
+    mine.txt:5: command 81
 
 No file is written; make.py makes FILE.trace, and says how a source is typed.
 
@@ -34,6 +36,7 @@ import make  # noqa: E402  (make.py beside this)
 FAILED = 2
 LONGEST_TEXT = 100
 REFUSED = re.compile(rb"refused [0-9]+ at ([0-9]+) \(0x[0-9A-F]+\)")
+EARLIER = re.compile(rb"  .*since ([0-9]+) \(0x[0-9A-F]+\) in record")
 # Their standard output is for other programs; they tell refusals on standard error.
 TOLD_ON_STANDARD_ERROR = ("list", "picture")
 
@@ -66,21 +69,21 @@ def line_at(lines, offset):
     return next((line for line, end in zip(lines, ends) if offset < end), None)
 
 
-def place(source, line):
-    """A line of a source as it is told."""
+def told_line(source, lines, match):
+    """The line at the offset that a match of the tool's words has; nothing where there is none."""
+    line = match and line_at(lines, int(match[1]))
+    if not line:
+        return b""
     text = line.text if len(line.text) <= LONGEST_TEXT else line.text[:LONGEST_TEXT] + " ..."
     return f"{source}:{line.place}: {text}\n".encode()
 
 
 def told(words, source, lines):
-    """What the tool printed, with the source's line before a refusal."""
+    """What the tool printed, with the lines of the source that it speaks of."""
     rows = []
     for row in words.splitlines(keepends=True):
-        refused = REFUSED.match(row)
-        line = refused and line_at(lines, int(refused[1]))
-        if line:
-            rows.append(place(source, line))
-        rows.append(row)
+        earlier = told_line(source, lines, EARLIER.match(row))
+        rows += [told_line(source, lines, REFUSED.match(row)), row, b"  " + earlier if earlier else b""]
     return b"".join(rows)
 
 
