@@ -129,11 +129,11 @@ check-install: $(TOOL) $(ARCHIVE) $(SHARED)
 
 # Off x86-64 the machine's Python cannot load the library, so there the C is
 # plain and native.
-check-python:
 ifeq ($(NATIVE),yes)
-	$(MAKE) $(SHARED)
+check-python: $(SHARED)
 	SSD1815B_LIBRARY=$(abspath $(SHARED)) python/test_ssd1815b.py
 else
+check-python:
 	$(MAKE) check-python MODEL=plain NATIVE=yes CROSS= RUN= CC=gcc VARIANT=-native
 endif
 

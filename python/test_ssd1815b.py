@@ -227,6 +227,61 @@ class Misuse(unittest.TestCase):
             Chip().run("command AF")  # type: ignore[arg-type]
 
 
+DRIVERS = HERE.parent / "traces" / "drivers"
+
+
+def picture(name: str) -> list[bytes]:
+    """The rows of the picture that a driver was given, 128 places each."""
+    content = (DRIVERS / f"{name}.pbm").read_bytes()
+    assert content[:10] == b"P4\n128 64\n" and len(content) == 10 + 64 * 16
+    return [bytes(content[10 + 16 * y + x // 8] >> 7 - x % 8 & 1 for x in range(128)) for y in range(64)]
+
+
+class Drivers(unittest.TestCase):
+    """The frame of a foreign driver's traffic is the picture that it was given (traces/drivers/README.md)."""
+
+    def frame(self, name: str) -> bytes:
+        """The frame of a trace that is taken whole."""
+        trace = (DRIVERS / f"{name}.trace").read_bytes()
+        chip = Chip()
+        run = chip.run(trace)
+        self.assertEqual((run.number, run.offset), (0, len(trace)))
+        return chip.draw().frame
+
+    def assert_shows(self, name: str, rows: list[bytes]) -> None:
+        """Column x is at place 127 - x; places 128 to 131 and the icon line are dark."""
+        expected = b"".join(row[::-1] + bytes(4) for row in rows) + bytes(132)
+        self.assertEqual(self.frame(name), expected)
+        self.assertIn(1, expected)
+
+    def test_pictures(self) -> None:
+        for name in "st7567-picture", "st7567-second-picture":
+            self.assert_shows(name, picture(name))
+
+    def test_upside_down(self) -> None:
+        turned = [row[::-1] for row in reversed(picture("st7567-upside-down"))]
+        self.assert_shows("st7567-upside-down", turned)
+
+    def test_hidden(self) -> None:
+        self.assertEqual(self.frame("st7567-hidden"), bytes(8580))
+
+    def test_another_controller(self) -> None:
+        trace = (DRIVERS / "3-uc1701x.trace").read_bytes()
+        run = Chip().run(trace)
+        self.assertEqual((run.number, trace[run.offset]), (3, 0xF8))
+
+    def test_each_trace_is_tested(self) -> None:
+        tested = {"st7567-picture", "st7567-second-picture", "st7567-upside-down", "st7567-hidden", "3-uc1701x"}
+        self.assertEqual({path.stem for path in DRIVERS.glob("*.trace")}, tested)
+
+    def test_example(self) -> None:
+        python = "/usr/bin/python3"  # Debian's, for which python3-luma.lcd is
+        if subprocess.run([python, "-c", "import luma.lcd"], capture_output=True, check=False).returncode != 0:
+            self.skipTest("no luma.lcd here; its recorded traffic is tested")
+        done = subprocess.run([python, str(HERE / "luma_example.py")], capture_output=True, text=True, check=False)
+        self.assertEqual((done.returncode, done.stderr), (0, ""), done.stdout)
+
+
 HEADER = HERE.parent / "host" / "ssd1815b.h"
 
 

@@ -56,6 +56,22 @@ check 'recording: too long, fails' status_is 1
 check 'recording: too long, said' err_has 'input too long'
 rm "$recording.trace"
 
+# ---- names that say a refusal ----
+
+bytes 01 00 01 00 B9 > "$copy/traces/rules/4-named.trace"
+"$copy/traces/list.sh" "$oracle" > /dev/null
+"$copy/traces/pack.py"
+check_traces
+check 'a name with a number: refused with it' status_is 0
+mv "$copy/traces/rules/4-named.trace" "$copy/traces/rules/3-named.trace"
+mv "$copy/traces/rules/4-named.list" "$copy/traces/rules/3-named.list"
+"$copy/traces/pack.py"
+check_traces
+check 'a name with a number: refused with another, fails' status_is 1
+check 'a name with a number: said' err_has 'rules/3-named.trace: not refused by its number'
+rm "$copy/traces/rules"/3-named.*
+"$copy/traces/pack.py"
+
 # ---- recordings are never written to ----
 
 # A recording with notes beside it, one of them a source, and what the glass showed.
