@@ -6,8 +6,8 @@ use Prim.Native.Nat.{ℕ, _≤_, _<_}
 use native.Mathlib.Omega.{arith}
 use lib.Dec.{leb, ltb, eqb}
 use borrow.Author.Tests.{leb-true, ltb-true, ltb-false, eqb-true, eqb-false}
-use Rattle.bus.specs.Sizes.{lastColumn, pages, memorySize}
-use Rattle.bus.specs.Numbers.{taken, tooShort, outOfRange, codeAwaited, columnAbove}
+use Rattle.constants.specs.Sizes.{lastColumn, pages, memorySize}
+use Rattle.constants.specs.Numbers.{taken, tooShort, outOfRange, codeAwaited, columnAbove}
 use Rattle.bus.specs.Memory.{address}
 use Rattle.bus.specs.Events.{access}
 use Rattle.bus.specs.declared.registers.Registers.{Registers}

@@ -11,8 +11,8 @@ use borrow.Author.Tests.{eqb-true, eqb-false}
 use Rattle.codes.specs.Table.{meaningOf}
 use Rattle.codes.specs.declared.Command.{Command}
 use Rattle.codes.proofs.Tests.{chosen}
-use Rattle.bus.specs.Sizes.{lastColumn, pages, memorySize}
-use Rattle.bus.specs.Numbers.{taken, columnAbove}
+use Rattle.constants.specs.Sizes.{lastColumn, pages, memorySize}
+use Rattle.constants.specs.Numbers.{taken, columnAbove}
 use Rattle.bus.specs.Events.{numberOf, obeyed, command, access, write, read, resetPin}
 use Rattle.bus.specs.Chip.{Event, commandByte, dataWritten, dataRead, resetPulse, step}
 use Rattle.bus.specs.Given.{numberOfCommand, numberOfEvent, isRead}

@@ -7,7 +7,7 @@ use Prim.Native.Nat.{ℕ, _≤_, _<_}
 use native.Mathlib.Omega.{arith}
 use lib.Dec.{lit≤}
 use Rattle.codes.proofs.Tests.{chosen}
-use Rattle.bus.specs.Numbers.{taken, tooShort, outOfRange}
+use Rattle.constants.specs.Numbers.{taken, tooShort, outOfRange}
 use Rattle.bus.specs.Registers.{registersOf}
 use Rattle.bus.specs.Chip.{Event, commandByte, dataWritten, dataRead, resetPulse}
 use Rattle.bus.specs.Image.{short, legal, asked}

@@ -13,8 +13,8 @@ use Rattle.codes.specs.OneOf.{oneOf}
 use Rattle.codes.specs.Table.{Row, one, two, table, offsetOf, framePhasesOf, commandBy, commandOf, operandBy, operandOf, meaningOf}
 use Rattle.codes.specs.declared.Command.{Command}
 use Rattle.codes.proofs.Tests.{chosen, either}
-use Rattle.bus.specs.Sizes.{lastColumn, pages, memorySize}
-use Rattle.bus.specs.Numbers.{taken, tooShort, outOfRange}
+use Rattle.constants.specs.Sizes.{lastColumn, pages, memorySize}
+use Rattle.constants.specs.Numbers.{taken, tooShort, outOfRange}
 use Rattle.bus.specs.Registers.{largestValues, registersOf}
 use Rattle.bus.specs.Memory.{address, kept}
 use Rattle.bus.specs.Events.{numberOf, byteOf, dummyOf, access, dummyRead, byteRead, read}

@@ -15,8 +15,8 @@ use Rattle.codes.specs.Values.{codesOf, CommandInRange}
 use Rattle.codes.specs.declared.Command.{Command}
 use Rattle.codes.proofs.Tests.{both, chosen, one-of-at-most}
 use Rattle.codes.proofs.InRange.{meaning-in-range}
-use Rattle.bus.specs.Sizes.{imageSize}
-use Rattle.bus.specs.Numbers.{taken}
+use Rattle.constants.specs.Sizes.{imageSize}
+use Rattle.constants.specs.Numbers.{taken}
 use Rattle.bus.specs.Places.{page, column, start, offset, multiplex, contrast, ratio, power, bias, quarter, held, phases, columnDirection, rowDirection, entire, reverse, on, indicator, mode, awaited, modify, saved, fresh}
 use Rattle.bus.specs.Registers.{largestValues, imageOf, registersOf, _with_≔_, powerOn}
 use Rattle.bus.specs.Memory.{onward}

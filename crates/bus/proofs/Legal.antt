@@ -11,7 +11,7 @@ use lib.ListN.{length}
 use Rattle.codes.proofs.Tests.{both, refuted}
 use Rattle.bus.specs.Registers.{largestValues}
 use Rattle.bus.specs.Image.{within, short}
-use Rattle.bus.specs.Sizes.{imageSize, memorySize}
+use Rattle.constants.specs.Sizes.{imageSize, memorySize}
 
 -- an image within its ranges has a byte for each
 pub within-length : (largest image : List ℕ) → within largest image ≡ true → length largest ≤ length image

@@ -5,7 +5,7 @@ use mathlib.Core.List.{List, [], _∷_, map}
 use Prim.Native.Nat.{ℕ, zero, suc}
 use Rattle.codes.specs.Table.{table}
 use Rattle.codes.specs.Values.{codesOf}
-use Rattle.bus.specs.Sizes.{imageSize}
+use Rattle.constants.specs.Sizes.{imageSize}
 use Rattle.bus.specs.Registers.{ranges}
 use Rattle.bus.specs.Image.{awaitedCodes}
 

@@ -6,7 +6,7 @@ use Prim.Native.Nat.{ℕ, _≤_}
 use native.Mathlib.Omega.{arith}
 use borrow.Author.Tests.{le-ltb}
 use lib.ListN.{length, drop}
-use Rattle.bus.specs.Sizes.{imageSize, memorySize}
+use Rattle.constants.specs.Sizes.{imageSize, memorySize}
 use Rattle.bus.specs.Registers.{largestValues, imageOf, registersOf}
 use Rattle.bus.specs.Image.{within, legal, short, asked, stored}
 use Rattle.bus.specs.Chip.{Event, commandByte, dataWritten, dataRead, resetPulse, step}

@@ -8,7 +8,7 @@ use native.Mathlib.Omega.{arith}
 use lib.ListN.{length, getD, drop, set, length-set, drop-of-length-le}
 use mathlib.Core.List.{append-nil}
 use lib.Seq.{drop-cons}
-use Rattle.bus.specs.Sizes.{imageSize}
+use Rattle.constants.specs.Sizes.{imageSize}
 use Rattle.bus.specs.Registers.{imageOf, registersOf, _with_≔_}
 use Rattle.bus.specs.declared.registers.Registers.{Registers}
 

@@ -10,8 +10,8 @@ use lib.ListN.{length, getD, drop, set, length-set}
 use lib.Seq.{drop-set-lt, getD-set-other}
 use borrow.Author.Tests.{eq-eqb, eqb-true}
 use Rattle.codes.proofs.Tests.{chosen}
-use Rattle.bus.specs.Sizes.{imageSize, memorySize}
-use Rattle.bus.specs.Numbers.{taken}
+use Rattle.constants.specs.Sizes.{imageSize, memorySize}
+use Rattle.constants.specs.Numbers.{taken}
 use Rattle.bus.specs.Memory.{address, kept}
 use Rattle.bus.specs.Events.{numberOf, access, write, written}
 use Rattle.bus.specs.Chip.{Event, commandByte, dataWritten, dataRead, resetPulse, step}

@@ -2,7 +2,7 @@
 use Prim.Native.Nat.{ℕ}
 use mathlib.Core.Bool.{cond}
 use mathlib.Core.List.{List}
-use Rattle.bus.specs.Numbers.{tooShort}
+use Rattle.constants.specs.Numbers.{tooShort}
 use Rattle.bus.specs.Registers.{registersOf}
 use Rattle.bus.specs.Events.{numberOf, byteOf, dummyOf}
 use Rattle.bus.specs.Chip.{Event, commandByte, dataWritten, dataRead, resetPulse, Outcome, step}

@@ -6,8 +6,8 @@ use lib.Dec.{leb, eqb}
 use lib.ListN.{getD}
 use Rattle.codes.specs.Table.{meaningOf}
 use Rattle.codes.specs.declared.Command.{Command}
-use Rattle.bus.specs.Sizes.{lastColumn}
-use Rattle.bus.specs.Numbers.{taken, tooShort, outOfRange, outsideTable, noPage, notAllowed, codeAwaited, columnAbove}
+use Rattle.constants.specs.Sizes.{lastColumn}
+use Rattle.constants.specs.Numbers.{taken, tooShort, outOfRange, outsideTable, noPage, notAllowed, codeAwaited, columnAbove}
 use Rattle.bus.specs.Registers.{registersOf}
 use Rattle.bus.specs.Memory.{address, kept}
 use Rattle.bus.specs.Chip.{Event, commandByte, dataWritten, dataRead, resetPulse}

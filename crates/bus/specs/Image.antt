@@ -5,8 +5,8 @@ use mathlib.Core.List.{List, [], _∷_, _++_}
 use lib.Dec.{leb, ltb, eqb}
 use lib.ListN.{length, getD, drop}
 use Rattle.codes.specs.OneOf.{oneOf}
-use Rattle.bus.specs.Sizes.{imageSize, memorySize}
-use Rattle.bus.specs.Numbers.{tooShort, outOfRange}
+use Rattle.constants.specs.Sizes.{imageSize, memorySize}
+use Rattle.constants.specs.Numbers.{tooShort, outOfRange}
 use Rattle.bus.specs.Places.{awaited, modify, saved}
 use Rattle.bus.specs.Registers.{largestValues, imageOf, registersOf}
 use Rattle.bus.specs.declared.registers.Registers.{Registers}

@@ -1,5 +1,3 @@
-pub mod Sizes
-pub mod Numbers
 pub mod Places
 pub mod Registers
 pub mod Memory

@@ -2,7 +2,7 @@
 use Prim.Native.Nat.{ℕ, _+_, _*_, _%_}
 use mathlib.Core.Bool.{cond}
 use lib.Dec.{eqb}
-use Rattle.bus.specs.Sizes.{width, lastColumn, iconPage}
+use Rattle.constants.specs.Sizes.{width, lastColumn, iconPage}
 
 -- Page p, column c lies at 132 p + c.
 abbrev pub address : ℕ → ℕ → ℕ

@@ -6,9 +6,9 @@ use crate::answer::Answer;
 use crate::image::Asked;
 use crate::image::ask;
 use crate::image::short;
-use crate::refusal::TAKEN;
-use crate::refusal::TOO_SHORT;
 use crate::registers::Registers;
+use constants::refusal::TAKEN;
+use constants::refusal::TOO_SHORT;
 
 // What a call answers: the number, the byte read, and whether the read was the dummy read.
 pub struct Reply {

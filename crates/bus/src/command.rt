@@ -6,12 +6,12 @@ ghost use Rattle.bus.specs.Places as places;
 ghost use Rattle.bus.specs.Events.{command, obeyed, enter, leave, softwareReset, resetPin};
 use crate::answer::After;
 use crate::answer::Answer;
-use crate::refusal::NO_PAGE;
-use crate::refusal::NOT_ALLOWED;
-use crate::refusal::OUT_OF_RANGE;
-use crate::refusal::OUTSIDE_TABLE;
 use crate::registers::Registers;
 use codes::Command;
+use constants::refusal::NO_PAGE;
+use constants::refusal::NOT_ALLOWED;
+use constants::refusal::OUT_OF_RANGE;
+use constants::refusal::OUTSIDE_TABLE;
 
 impl Registers {
     // A command byte: a command where no code is awaited, else the n of the awaited code.

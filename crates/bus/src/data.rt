@@ -6,12 +6,12 @@ ghost use Rattle.bus.specs.Memory.{address, kept, onward};
 ghost use Rattle.bus.specs.Events.{access, write, written, read};
 use crate::answer::After;
 use crate::answer::Answer;
-use crate::refusal::CODE_AWAITED;
-use crate::refusal::COLUMN_ABOVE;
-use crate::refusal::OUT_OF_RANGE;
-use crate::refusal::TAKEN;
-use crate::refusal::TOO_SHORT;
 use crate::registers::Registers;
+use constants::refusal::CODE_AWAITED;
+use constants::refusal::COLUMN_ABOVE;
+use constants::refusal::OUT_OF_RANGE;
+use constants::refusal::TAKEN;
+use constants::refusal::TOO_SHORT;
 
 impl Registers {
     // A data byte written: one byte of the memory is stored, fresh is 1 and the column moves on.

@@ -5,9 +5,9 @@ ghost use lib.ListN.{length};
 ghost use Rattle.codes.specs.OneOf.{oneOf};
 ghost use Rattle.bus.specs.Registers.{imageOf, registersOf, largestValues};
 ghost use Rattle.bus.specs.Image.{within, awaitedCodes, legal, short, asked, stored};
-use crate::refusal::OUT_OF_RANGE;
-use crate::refusal::TOO_SHORT;
 use crate::registers::Registers;
+use constants::refusal::OUT_OF_RANGE;
+use constants::refusal::TOO_SHORT;
 
 // What a lent state and memory are found to be: taken up, with the registers, or refused 1 or 2.
 pub enum Asked {

@@ -4,5 +4,4 @@ pub mod calls;
 pub mod command;
 pub mod data;
 pub mod image;
-pub mod refusal;
 pub mod registers;

@@ -11,7 +11,7 @@ use borrow.Author.Tests.{ltb-true, ltb-false, lt-ltb, leb-true, eqb-false}
 use lib.Dec.{ltb, leb, eqb, lit≤}
 use lib.Seq.{drop-append-add}
 use lib.ListN.{length, length-append, length-take, drop, take}
-use Rattle.framelisting.specs.Sizes.{width, rows, longestListing}
+use Rattle.constants.specs.Sizes.{width, frameRows, longestListing}
 use Rattle.framelisting.specs.Ascii.{ascii}
 use Rattle.framelisting.specs.Decimal.{digits, decimal}
 use Rattle.framelisting.specs.Runs.{lit, anyLit, leading, runsFrom, runs}
@@ -145,17 +145,17 @@ refused-most number offset h k = by (eqb number 0) refl
     by false e =
         omega (arith, refused-length number offset (eqb-false number 0 e), few-digits 20 2 number (omega (arith, h)), few-digits 20 19 offset (omega (arith, k)))
 
--- what all rows can take
-lines-all : tall rows 0 ≡ 27355
+-- what all frameRows can take
+lines-all : tall frameRows 0 ≡ 27355
 unfolding tall most decimal digits
 lines-all = refl
 
 -- no listing is longer
 pub at-most : (number offset : ℕ) (frame : List ℕ) → number < 256 → offset < 2 ^ 64 → length (listingOf number offset frame) ≤ longestListing
 at-most number offset frame h k =
-    omega (arith, listing-length number offset frame, refused-most number offset h k, lines-most frame rows 0, lines-all)
+    omega (arith, listing-length number offset frame, refused-most number offset h k, lines-most frame frameRows 0, lines-all)
 
--- places lit and dark by turns, and rows of them
+-- places lit and dark by turns, and frameRows of them
 abbrev turns : ℕ → List ℕ
 turns zero = []
 turns (suc n) = 1 ∷ 0 ∷ turns n
@@ -174,11 +174,11 @@ stripe (suc n) (suc p) h =
     rw (e, drop-append-add (turns 66) (striped n) (p * width)) (stripe n p (omega (arith, h)))
 
 -- and takes the most that it can
-stripe-lines : (n p : ℕ) → p + n ≤ rows → length (lines width (striped rows) n p) ≡ tall n p
+stripe-lines : (n p : ℕ) → p + n ≤ frameRows → length (lines width (striped frameRows) n p) ≡ tall n p
 unfolding lines tall most decimal digits lit anyLit leading runsFrom runs runText runsText ascii
 stripe-lines zero p h = refl
 stripe-lines (suc n) p h =
-    rw (length-append, stripe rows p (omega (arith, h)), line-length p (turns 66) refl, stripe-lines n (suc p) (omega (arith, h)))
+    rw (length-append, stripe frameRows p (omega (arith, h)), line-length p (turns 66) refl, stripe-lines n (suc p) (omega (arith, h)))
 
 -- as does what the run prints
 refused-all : length (refusedText 255 (2 ^ 64 - 1)) ≡ 36
@@ -186,5 +186,5 @@ unfolding refusedText ascii decimal digits
 refused-all = refl
 
 -- and one is that long
-pub reached : length (listingOf 255 (2 ^ 64 - 1) (striped rows)) ≡ longestListing
-reached = listing-length 255 (2 ^ 64 - 1) (striped rows) ∙ rw (refused-all, stripe-lines rows 0 (lit≤ tt), lines-all)
+pub reached : length (listingOf 255 (2 ^ 64 - 1) (striped frameRows)) ≡ longestListing
+reached = listing-length 255 (2 ^ 64 - 1) (striped frameRows) ∙ rw (refused-all, stripe-lines frameRows 0 (lit≤ tt), lines-all)

@@ -7,7 +7,7 @@ use mathlib.Core.List.{List, []}
 use native.Mathlib.Omega.{arith}
 use borrow.Author.Tests.{eq-eqb, ne-eqb}
 use lib.ListN.{length, length-append}
-use Rattle.framelisting.specs.Sizes.{width, rows}
+use Rattle.constants.specs.Sizes.{width, frameRows}
 use Rattle.framelisting.specs.Ascii.{ascii}
 use Rattle.framelisting.specs.Decimal.{digits, decimal}
 use Rattle.framelisting.specs.Runs.{Run, anyLit, runs}
@@ -34,6 +34,6 @@ unfolding refusedText ascii
 refused-length number offset n = rw (ne-eqb number 0 n) (simp length-append (omega arith))
 
 -- "frame 132 65" and "end", each with a newline
-pub listing-length : (number offset : ℕ) (frame : List ℕ) → length (listingOf number offset frame) ≡ length (refusedText number offset) + length (lines width frame rows 0) + 17
+pub listing-length : (number offset : ℕ) (frame : List ℕ) → length (listingOf number offset frame) ≡ length (refusedText number offset) + length (lines width frame frameRows 0) + 17
 unfolding listingOf frameText ascii decimal digits
 listing-length number offset frame = simp length-append (omega arith)

@@ -9,9 +9,10 @@ use borrow.Author.Tests.{lt-ltb, le-ltb}
 use lib.Dec.{ltb}
 use lib.ListN.{length, drop}
 use lib.Seq.{drop-append-seam}
-use Rattle.framelisting.specs.Sizes.{frameSize, longestListing}
+use Rattle.constants.specs.Numbers.{tooShort}
+use Rattle.constants.specs.Sizes.{frameSize, longestListing}
 use Rattle.framelisting.specs.Text.{listingOf}
-use Rattle.framelisting.specs.Listing.{Outcome, outcome, tooShort, written, listed}
+use Rattle.framelisting.specs.Listing.{Outcome, outcome, written, listed}
 use Rattle.framelisting.specs.declared.Listed.{Listed}
 use Rattle.framelisting.proofs.Bound.{at-most}
 

@@ -4,7 +4,7 @@ use Prim.Native.Nat.{ℕ, _+_, _*_}
 use mathlib.Core.Path.{_≡_, refl}
 use mathlib.Core.List.{List, _∷_, _++_}
 use lib.ListN.{replicate, set}
-use Rattle.framelisting.specs.Sizes.{width, frameSize}
+use Rattle.constants.specs.Sizes.{width, frameSize}
 use Rattle.framelisting.specs.Ascii.{ascii}
 use Rattle.framelisting.specs.Decimal.{digits, decimal}
 use Rattle.framelisting.specs.Runs.{lit, anyLit, leading, runsFrom, runs}

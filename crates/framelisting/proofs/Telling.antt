@@ -11,7 +11,7 @@ use borrow.Author.Tests.{eqb-true, eqb-false, ne-eqb}
 use lib.Dec.{eqb, lit<, lit≤}
 use lib.ListN.{length, length-take, getD, take, drop}
 use lib.Seq.{getD-take, getD-drop}
-use Rattle.framelisting.specs.Sizes.{width, rows}
+use Rattle.constants.specs.Sizes.{width, frameRows}
 use Rattle.framelisting.specs.Ascii.{ascii}
 use Rattle.framelisting.specs.Decimal.{decimal}
 use Rattle.framelisting.specs.Runs.{Run, lit, anyLit, leading, runsFrom, runs}
@@ -77,7 +77,7 @@ module _ (w : ℕ) (narrow : w ≤ 2 ^ 64) where
   unfolding runs rowOf
   small-row frame p = small-from 0 0 (take w (drop (p * w) frame)) (omega (arith, length-take w (drop (p * w) frame), narrow))
 
-  -- the lines of later rows do not begin with an earlier row's number
+  -- the lines of later frameRows do not begin with an earlier row's number
   later-lines : (frame : List ℕ) (n q p : ℕ) (s : List ℕ) → p < q → q + n ≤ 2 ^ 64 → Stop s → decimal p ++ s ≡ lines w frame n q ++ ascii "end\n" → ⊥
   unfolding lines ascii
   later-lines frame zero q p s h k c e = omega (arith, digit-first p s, ap (λ l. getD l 0 0) e)
@@ -140,16 +140,16 @@ place w frame p x h = getD-take w (drop (p * w) frame) x 0 h ∙ getD-drop (p * 
 
 -- a frame's text tells the lit places
 header : List ℕ
-header = ascii "frame " ++ decimal width ++ ascii " " ++ decimal rows ++ ascii "\n"
+header = ascii "frame " ++ decimal width ++ ascii " " ++ decimal frameRows ++ ascii "\n"
 
-frame-first : (frame : List ℕ) → frameText width rows frame ≡ header ++ (lines width frame rows 0 ++ ascii "end\n")
+frame-first : (frame : List ℕ) → frameText width frameRows frame ≡ header ++ (lines width frame frameRows 0 ++ ascii "end\n")
 unfolding frameText header
-frame-first frame = append-assoc header (lines width frame rows 0) (ascii "end\n")
+frame-first frame = append-assoc header (lines width frame frameRows 0) (ascii "end\n")
 
-frame-tells : (f g : List ℕ) → frameText width rows f ≡ frameText width rows g → (p x : ℕ) → p < rows → x < width → lit (getD f (p * width + x) 0) ≡ lit (getD g (p * width + x) 0)
+frame-tells : (f g : List ℕ) → frameText width frameRows f ≡ frameText width frameRows g → (p x : ℕ) → p < frameRows → x < width → lit (getD f (p * width + x) 0) ≡ lit (getD g (p * width + x) 0)
 frame-tells f g e p x h k =
-    let rest = cancel header (lines width f rows 0 ++ ascii "end\n") (lines width g rows 0 ++ ascii "end\n") (sym (frame-first f) ∙ e ∙ frame-first g) in
-    let same = lines-tell width (lit≤ tt) f g rows 0 (lit≤ tt) rest p (omega arith) (omega (arith, h)) in
+    let rest = cancel header (lines width f frameRows 0 ++ ascii "end\n") (lines width g frameRows 0 ++ ascii "end\n") (sym (frame-first f) ∙ e ∙ frame-first g) in
+    let same = lines-tell width (lit≤ tt) f g frameRows 0 (lit≤ tt) rest p (omega arith) (omega (arith, h)) in
     rw (← (place width f p x k), ← (place width g p x k), ← (runs-are (rowOf width f p) .exact x), ← (runs-are (rowOf width g p) .exact x), same)
 
 -- What a stopped run prints, piece by piece.
@@ -184,13 +184,13 @@ module _ (m n o u : ℕ) (s t : List ℕ) (a : m < 2 ^ 64) (b : n < 2 ^ 64) (c :
           let r = stopped-tells (eqb-false m 0 x) (eqb-false n 0 y) e in
           (r .0, λ k. r .1, r .2)
 
-begins : (frame : List ℕ) → getD (frameText width rows frame) 0 0 < 114
+begins : (frame : List ℕ) → getD (frameText width frameRows frame) 0 0 < 114
 unfolding frameText ascii
 begins frame = lit< tt
 
 -- The whole listing tells them all.
-pub listing-tells : (m n o u : ℕ) (f g : List ℕ) → m < 2 ^ 64 → n < 2 ^ 64 → o < 2 ^ 64 → u < 2 ^ 64 → listingOf m o f ≡ listingOf n u g → (m ≡ n) × ((m ≡ 0 → ⊥) → o ≡ u) × ((p x : ℕ) → p < rows → x < width → lit (getD f (p * width + x) 0) ≡ lit (getD g (p * width + x) 0))
+pub listing-tells : (m n o u : ℕ) (f g : List ℕ) → m < 2 ^ 64 → n < 2 ^ 64 → o < 2 ^ 64 → u < 2 ^ 64 → listingOf m o f ≡ listingOf n u g → (m ≡ n) × ((m ≡ 0 → ⊥) → o ≡ u) × ((p x : ℕ) → p < frameRows → x < width → lit (getD f (p * width + x) 0) ≡ lit (getD g (p * width + x) 0))
 unfolding listingOf
 listing-tells m n o u f g a b c d e =
-    let r = refused-tells m n o u (frameText width rows f) (frameText width rows g) a b c d (begins f) (begins g) e in
+    let r = refused-tells m n o u (frameText width frameRows f) (frameText width frameRows g) a b c d (begins f) (begins g) e in
     (r .0, r .1, frame-tells f g (r .2))

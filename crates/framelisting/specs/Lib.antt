@@ -1,4 +1,3 @@
-pub mod Sizes
 pub mod Ascii
 pub mod Decimal
 pub mod Runs

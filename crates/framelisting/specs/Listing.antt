@@ -4,7 +4,8 @@ use mathlib.Core.Bool.{cond, _||_}
 use mathlib.Core.List.{List, _++_}
 use lib.Dec.{ltb}
 use lib.ListN.{length, drop}
-use Rattle.framelisting.specs.Sizes.{frameSize}
+use Rattle.constants.specs.Sizes.{frameSize}
+use Rattle.constants.specs.Numbers.{tooShort}
 use Rattle.framelisting.specs.Text.{listingOf}
 use Rattle.framelisting.specs.declared.Listed.{Listed}
 
@@ -15,10 +16,6 @@ pub record Outcome : Type 0 where
 
 abbrev pub outcome : Listed → List ℕ → Outcome
 outcome answer text = record { answer = answer; text = text }
-
--- document 01's number for what is lent too short
-abbrev pub tooShort : ℕ
-tooShort = 1
 
 -- The text at the start of the buffer, with its length; the bytes past it stay.
 unfoldable pub written : List ℕ → List ℕ → Outcome

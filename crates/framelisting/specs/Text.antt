@@ -4,7 +4,7 @@ use mathlib.Core.Bool.{cond}
 use mathlib.Core.List.{List, [], _∷_, _++_}
 use lib.Dec.{eqb}
 use lib.ListN.{take, drop}
-use Rattle.framelisting.specs.Sizes.{width, rows}
+use Rattle.constants.specs.Sizes.{width, frameRows}
 use Rattle.framelisting.specs.Ascii.{ascii}
 use Rattle.framelisting.specs.Decimal.{decimal}
 use Rattle.framelisting.specs.Runs.{Run, anyLit, runs}
@@ -21,16 +21,16 @@ runsText (run ∷ more) = runText run ++ runsText more
 unfoldable pub line : ℕ → List ℕ → List ℕ
 line p row = cond (anyLit row) (decimal p ++ runsText (runs row) ++ ascii "\n") []
 
--- Row p of a frame whose rows are w wide.
+-- Row p of a frame whose frameRows are w wide.
 unfoldable pub rowOf : ℕ → List ℕ → ℕ → List ℕ
 rowOf w frame p = take w (drop (p * w) frame)
 
--- The lines of n rows from row p on.
+-- The lines of n frameRows from row p on.
 unfoldable pub lines : ℕ → List ℕ → ℕ → ℕ → List ℕ
 lines w frame zero p = []
 lines w frame (suc n) p = line p (rowOf w frame p) ++ lines w frame n (suc p)
 
--- A frame w wide and h rows high.
+-- A frame w wide and h frameRows high.
 unfoldable pub frameText : ℕ → ℕ → List ℕ → List ℕ
 frameText w h frame =
     (ascii "frame " ++ decimal w ++ ascii " " ++ decimal h ++ ascii "\n") ++ lines w frame h 0 ++ ascii "end\n"
@@ -42,4 +42,4 @@ refusedText number offset =
 
 -- The whole listing.
 unfoldable pub listingOf : ℕ → ℕ → List ℕ → List ℕ
-listingOf number offset frame = refusedText number offset ++ frameText width rows frame
+listingOf number offset frame = refusedText number offset ++ frameText width frameRows frame

@@ -2,12 +2,15 @@
 ghost use Prim.Native.Nat.{_≤_};
 ghost use lib.ListN.{length};
 ghost use Rattle.framelisting.specs.Put.{Countable, Put};
-ghost use Rattle.framelisting.specs.Sizes.{width, rows, frameSize};
+ghost use Rattle.constants.specs.Sizes.{width, frameRows, frameSize};
 ghost use Rattle.framelisting.specs.Text.{lines, refusedText, listingOf};
 use crate::row::put_line;
 use crate::text::put;
 use crate::text::put_bytes;
 use crate::text::put_number;
+use constants::refusal::TAKEN;
+use constants::sizes::FRAME_ROWS;
+use constants::sizes::WIDTH;
 
 // Puts the listing at the start of the buffer.
 pub fn put_listing(text: &mut [u8], number: u8, offset: usize, frame: &[u8]) -> usize
@@ -26,7 +29,7 @@ fn put_refused(text: &mut [u8], at: usize, number: u8, offset: usize) -> usize
     requires { ⌜ Countable at (refusedText number offset) ⌝ }
     ensures { λ r. ⌜ Put (now (text .entry)) at (refusedText number offset) r (now (text .exit)) ⌝ }
 {
-    if number == 0 {
+    if number == TAKEN {
         return at;
     }
     let next = put_bytes(text, at, b"refused ");
@@ -36,17 +39,17 @@ fn put_refused(text: &mut [u8], at: usize, number: u8, offset: usize) -> usize
     put(text, next, b'\n')
 }
 
-// Puts the lines of the 65 rows.
+// Puts the lines of the 65 frameRows.
 fn put_lines(text: &mut [u8], at: usize, frame: &[u8]) -> usize
     requires { ⌜ frameSize ≤ length (now frame) ⌝ }
-    requires { ⌜ Countable at (lines width (now frame) rows 0) ⌝ }
-    ensures { λ r. ⌜ Put (now (text .entry)) at (lines width (now (frame .entry)) rows 0) r (now (text .exit)) ⌝ }
+    requires { ⌜ Countable at (lines width (now frame) frameRows 0) ⌝ }
+    ensures { λ r. ⌜ Put (now (text .entry)) at (lines width (now (frame .entry)) frameRows 0) r (now (text .exit)) ⌝ }
 {
     let mut next = at;
     let mut p = 0;
-    while p < 65 {
-        let start = p * 132;
-        let end = start + 132;
+    while p < FRAME_ROWS {
+        let start = p * WIDTH;
+        let end = start + WIDTH;
         next = put_line(text, next, p, &frame[start..end]);
         p += 1;
     }

@@ -2,6 +2,9 @@
 ghost use mathlib.Core.Path.{_≡_};
 ghost use Rattle.framelisting.specs.Listing.{outcome, listed};
 use crate::frame::put_listing;
+use constants::refusal::TOO_SHORT;
+use constants::sizes::FRAME_SIZE;
+use constants::sizes::LONGEST_LISTING;
 
 mod frame;
 mod row;
@@ -13,16 +16,11 @@ pub enum Listed {
     Refused(u8),
 }
 
-// A lent frame or buffer is too short.
-pub const TOO_SHORT: u8 = 1;
-// Bytes of the longest listing: a buffer of that length is enough for any.
-pub const LONGEST_LISTING: usize = 27408;
-
 // Lists a frame into a lent buffer, after a stopped run's number and offset; number 0 is taken, and says nothing of a run.
 pub fn list(number: u8, offset: usize, frame: &[u8], text: &mut [u8]) -> Listed
     ensures { λ r. ⌜ outcome r (now (text .exit)) ≡ listed number offset (now (frame .entry)) (now (text .entry)) ⌝ }
 {
-    if frame.len() < 8580 {
+    if frame.len() < FRAME_SIZE {
         return Listed::Refused(TOO_SHORT);
     }
     // A buffer that holds any listing is written at once; another is measured first.

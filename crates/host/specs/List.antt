@@ -1,7 +1,7 @@
 -- The listing as C sees it: a number, the text's length and the text.
 use Prim.Native.Nat.{ℕ}
 use mathlib.Core.List.{List}
-use Rattle.bus.specs.Numbers.{taken}
+use Rattle.constants.specs.Numbers.{taken}
 use Rattle.framelisting.specs.Listing.{Outcome}
 use Rattle.framelisting.specs.declared.Listed.{Listed}
 

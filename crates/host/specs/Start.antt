@@ -3,8 +3,8 @@ use Prim.Native.Nat.{ℕ}
 use mathlib.Core.Bool.{cond}
 use mathlib.Core.List.{List, _++_}
 use lib.ListN.{drop, replicate}
-use Rattle.bus.specs.Sizes.{memorySize}
-use Rattle.bus.specs.Numbers.{taken, tooShort}
+use Rattle.constants.specs.Sizes.{memorySize}
+use Rattle.constants.specs.Numbers.{taken, tooShort}
 use Rattle.bus.specs.Registers.{powerOn}
 use Rattle.bus.specs.Image.{short, stored}
 

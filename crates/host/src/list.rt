@@ -2,7 +2,7 @@
 ghost use mathlib.Core.Path.{_≡_};
 ghost use Rattle.framelisting.specs.Listing.{listed};
 ghost use Rattle.host.specs.List.{heldText, ofListed};
-use bus::refusal::TAKEN;
+use constants::refusal::TAKEN;
 use framelisting::Listed;
 
 // Lists a frame, after a stopped run's number and offset: the text's length goes to where the host wants it, 0 where it is refused.

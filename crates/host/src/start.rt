@@ -3,9 +3,9 @@ ghost use mathlib.Core.Path.{_≡_};
 ghost use Rattle.host.specs.Start.{started, startOf};
 use crate::clear::clear;
 use bus::image::short;
-use bus::refusal::TAKEN;
-use bus::refusal::TOO_SHORT;
 use bus::registers::Registers;
+use constants::refusal::TAKEN;
+use constants::refusal::TOO_SHORT;
 
 // Puts the power-on image into the state and zeros into the memory, or refuses 1.
 #[no_mangle]

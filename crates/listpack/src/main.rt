@@ -1,7 +1,7 @@
 // The listing program for many traces: a pack of them from standard input, the listing of each to standard output.
 mod pack;
 
-use framelisting::LONGEST_LISTING;
+use constants::sizes::LONGEST_LISTING;
 use libc::STDERR_FILENO;
 use libc::STDOUT_FILENO;
 use pack::Entry;

@@ -1,10 +1,10 @@
 // The listing program: a trace from standard input, the frame that it leaves on the glass to standard output.
-use framelisting::LONGEST_LISTING;
+use constants::sizes::LONGEST_LISTING;
+use constants::sizes::LONGEST_TRACE;
 use libc::STDERR_FILENO;
 use libc::STDOUT_FILENO;
 use standardinput::Input;
 use standardinput::read_input;
-use tracelisting::LONGEST_TRACE;
 
 fn main() {
     let mut trace = [0u8; LONGEST_TRACE + 1];

@@ -6,7 +6,7 @@ use Prim.Native.Nat.{ℕ, _*_, _/_, _%_, _^_, _<_}
 use native.Mathlib.Nat.{add-mod-mod}
 use lib.ListN.{getD, take, drop}
 use lib.Seq.{getD-take, getD-drop}
-use Rattle.bus.specs.Sizes.{width}
+use Rattle.constants.specs.Sizes.{width}
 use Rattle.picture.specs.Frame.{bit, turned}
 use Rattle.picture.specs.declared.rows.RamRow.{RamRow}
 

@@ -14,7 +14,7 @@ use lib.Bits.{bitXor, xor-zero-l}
 use lib.Pow.{pow-lt}
 use lib.ListN.{length, getD, set, replicate, length-set, length-replicate, getD-replicate, List·getD-eq-default}
 use lib.Seq.{getD-set-same, getD-set-other}
-use Rattle.bus.specs.Sizes.{width, memorySize}
+use Rattle.constants.specs.Sizes.{width, memorySize, height, frameRows}
 use Rattle.codes.specs.Table.{table, commandBy, commandOf, meaningOf}
 use Rattle.bus.specs.Registers.{largestValues, powerOn}
 use Rattle.bus.specs.Memory.{address}
@@ -22,7 +22,6 @@ use Rattle.bus.specs.Events.{obeyed, command}
 use Rattle.bus.specs.Chip.{commandByte, step, registersAfter, chipAfter}
 use Rattle.bus.specs.Image.{within, awaitedCodes, legal}
 use Rattle.bus.specs.declared.registers.Registers.{Registers}
-use Rattle.picture.specs.Sizes.{height, frameRows}
 use Rattle.picture.specs.Rows.{ramRow}
 use Rattle.picture.specs.Frame.{bit, columnOf, turned, shownBit, line, frame, rowOf, placeOf}
 use Rattle.picture.specs.Samples.{after, fromPowerOn}

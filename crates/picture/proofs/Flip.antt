@@ -11,7 +11,7 @@ use lib.Bits.{bitXor, xor-shr, xor-mod, xor-zero-r, shifted-even}
 use lib.Pow.{pow-pos, pow-lt, pow-add, shl-shr}
 use lib.ListN.{length, getD, set}
 use lib.Seq.{getD-set-same, getD-set-other}
-use Rattle.bus.specs.Sizes.{width}
+use Rattle.constants.specs.Sizes.{width}
 use Rattle.bus.specs.Memory.{address}
 use Rattle.picture.specs.Rows.{ramRow}
 use Rattle.picture.specs.Frame.{bit}

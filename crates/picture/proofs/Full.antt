@@ -9,12 +9,11 @@ use native.Mathlib.Nat.{mod-lt}
 use native.Mathlib.Decide.{decLt}
 use lib.Dec.{ltb, eqb}
 use borrow.Author.Tests.{lt-ltb, le-ltb}
-use Rattle.bus.specs.Sizes.{width}
+use Rattle.constants.specs.Sizes.{width, height, frameRows}
 use Rattle.bus.specs.Places
 use Rattle.bus.specs.Registers.{largestValues}
 use Rattle.bus.proofs.Kept.{legal-facts, bound}
 use Rattle.bus.specs.declared.registers.Registers.{Registers}
-use Rattle.picture.specs.Sizes.{height, frameRows}
 use Rattle.picture.specs.Rows.{panelRow, ramRow, rowsInUse, comOf, used, ramRowOf, panelShows, rowShows}
 use Rattle.picture.specs.Frame.{bit, columnOf, turned, shownBit, frame, placeOf}
 use Rattle.picture.specs.Demand3.{Full, scroll}

@@ -6,12 +6,11 @@ use Prim.Native.Nat.{ℕ, _/_, _%_, _^_, _≤_, _<_}
 use native.Mathlib.Omega.{arith}
 use native.Mathlib.Decide.{decLt}
 use lib.ListN.{getD, set}
-use Rattle.bus.specs.Sizes.{width}
+use Rattle.constants.specs.Sizes.{width, height, frameRows}
 use Rattle.bus.specs.Places.{start, offset, multiplex, columnDirection, rowDirection, entire, reverse, on}
 use Rattle.bus.specs.Registers.{imageOf, registersOf}
 use Rattle.bus.specs.Memory.{address}
 use Rattle.bus.specs.declared.registers.Registers.{Registers}
-use Rattle.picture.specs.Sizes.{height, frameRows}
 use Rattle.picture.specs.Rows.{panelRow, comOf, used, ramRowOf, panelShows, rowShows}
 use Rattle.picture.specs.Frame.{bit, columnOf, shownBit, whileOn, segment, frame}
 use Rattle.picture.specs.Ignored.{drawNothing, DrawAlike, SameBits}

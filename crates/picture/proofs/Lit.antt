@@ -8,7 +8,7 @@ use native.Mathlib.Omega.{arith}
 use borrow.Author.Tests.{eq-eqb, lt-ltb}
 use lib.Dec.{ltb}
 use Rattle.bus.specs.declared.registers.Registers.{Registers}
-use Rattle.picture.specs.Sizes.{height}
+use Rattle.constants.specs.Sizes.{height}
 use Rattle.picture.specs.Rows.{ramRow, comOf, used, ramRowOf, panelShows, rowShows}
 use Rattle.picture.specs.Frame.{whileOn}
 use Rattle.picture.specs.declared.rows.PanelRow.{PanelRow}

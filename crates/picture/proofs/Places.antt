@@ -6,9 +6,8 @@ use Prim.Native.Nat.{ℕ, _*_, _<_}
 use native.Mathlib.Nat.{add-zero, mod-mod}
 use lib.ListN.{length, getD, drop, replicate}
 use lib.Seq.{getD-take, getD-drop}
-use Rattle.bus.specs.Sizes.{width}
+use Rattle.constants.specs.Sizes.{width, height, frameRows, frameSize}
 use Rattle.bus.specs.declared.registers.Registers.{Registers}
-use Rattle.picture.specs.Sizes.{height, frameRows, frameSize}
 use Rattle.picture.specs.Rows.{panelRow, ramRow, rowShows}
 use Rattle.picture.specs.Frame.{bit, columnOf, turned, shownBit, whileOn, segment, line, frame, rowOf, placeOf}
 use Rattle.picture.specs.declared.rows.RamRow.{RamRow}

@@ -7,9 +7,8 @@ use Prim.Native.Nat.{ℕ, _+_, _%_, _<_}
 use native.Mathlib.Decide.{decLt}
 use borrow.Author.Tests.{lt-ltb, ne-eqb}
 use lib.Dec.{leb, ltb, eqb, leb·suc-suc}
-use Rattle.bus.specs.Sizes.{width}
+use Rattle.constants.specs.Sizes.{width, height, frameRows}
 use Rattle.bus.specs.declared.registers.Registers.{Registers}
-use Rattle.picture.specs.Sizes.{height, frameRows}
 use Rattle.picture.specs.Frame.{whileOn, segment, grid, frame}
 use Rattle.picture.specs.declared.rows.RamRow.{RamRow}
 use Rattle.picture.proofs.Lines.{grid-same}

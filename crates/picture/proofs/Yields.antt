@@ -10,12 +10,11 @@ use native.Mathlib.Nat.{mod-lt}
 use lib.Dec.{ltb, eqb}
 use lib.ListN.{length, drop}
 use lib.Seq.{drop-at}
-use Rattle.bus.specs.Numbers.{taken, tooShort, outOfRange}
+use Rattle.constants.specs.Numbers.{taken, tooShort, outOfRange}
 use Rattle.bus.specs.Registers.{registersOf}
 use Rattle.bus.specs.Image.{short, legal, asked}
 use Rattle.bus.specs.declared.image.Asked.{Asked}
-use Rattle.picture.specs.Sizes.{height, frameRows, frameSize}
-use Rattle.bus.specs.Sizes.{width}
+use Rattle.constants.specs.Sizes.{height, frameRows, frameSize, width}
 use Rattle.bus.specs.declared.registers.Registers.{Registers}
 use Rattle.picture.specs.Rows.{panelRow, rowShows}
 use Rattle.picture.specs.Frame.{turned, shownBit, whileOn, segment, frame, placeOf}

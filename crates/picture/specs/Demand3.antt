@@ -7,13 +7,12 @@ use mathlib.Core.List.{List}
 use lib.Dec.{eqb}
 use lib.Bits.{bitXor}
 use lib.ListN.{length, getD, set}
-use Rattle.bus.specs.Sizes.{width, memorySize}
+use Rattle.constants.specs.Sizes.{width, memorySize, height, frameRows}
 use Rattle.bus.specs.Places.{start}
 use Rattle.bus.specs.Registers.{imageOf, _with_≔_}
 use Rattle.bus.specs.Memory.{address}
 use Rattle.bus.specs.Image.{legal}
 use Rattle.bus.specs.declared.registers.Registers.{Registers}
-use Rattle.picture.specs.Sizes.{height, frameRows}
 use Rattle.picture.specs.Rows.{ramRow, rowsInUse}
 use Rattle.picture.specs.Frame.{frame, rowOf, placeOf}
 use Rattle.picture.specs.declared.rows.RamRow.{RamRow}

@@ -4,10 +4,10 @@ use mathlib.Core.Bool.{cond}
 use mathlib.Core.List.{List, _++_}
 use lib.Dec.{ltb}
 use lib.ListN.{length, drop}
-use Rattle.bus.specs.Numbers.{taken, tooShort}
+use Rattle.constants.specs.Numbers.{taken, tooShort}
 use Rattle.bus.specs.Image.{asked}
 use Rattle.bus.specs.declared.image.Asked.{Asked}
-use Rattle.picture.specs.Sizes.{frameSize}
+use Rattle.constants.specs.Sizes.{frameSize}
 use Rattle.picture.specs.Frame.{frame}
 
 -- The number that the call answers, and the lent frame that it leaves.

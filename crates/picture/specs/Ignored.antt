@@ -5,7 +5,7 @@ use mathlib.Core.Bool.{false}
 use mathlib.Core.List.{List, [], _∷_}
 use lib.ListN.{getD}
 use Rattle.codes.specs.OneOf.{oneOf}
-use Rattle.bus.specs.Sizes.{width, iconPage}
+use Rattle.constants.specs.Sizes.{width, iconPage}
 use Rattle.bus.specs.Places.{page, column, contrast, ratio, power, bias, quarter, held, phases, indicator, mode, awaited, modify, saved, fresh}
 use Rattle.bus.specs.Registers.{imageOf}
 use Rattle.bus.specs.Memory.{address}

@@ -1,4 +1,3 @@
-pub mod Sizes
 pub mod Rows
 pub mod Frame
 pub mod Draw

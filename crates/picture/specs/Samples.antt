@@ -5,11 +5,10 @@ use mathlib.Core.Bool.{cond, _||_}
 use mathlib.Core.List.{List, [], _∷_, _++_, map}
 use lib.Dec.{leb, eqb}
 use lib.ListN.{getD, replicate}
-use Rattle.bus.specs.Sizes.{width, memorySize}
+use Rattle.constants.specs.Sizes.{width, memorySize, frameRows, frameSize}
 use Rattle.bus.specs.Registers.{powerOn}
 use Rattle.bus.specs.Events.{numberOf}
 use Rattle.bus.specs.Chip.{Chip, Event, commandByte, dataWritten, step, chipAfter}
-use Rattle.picture.specs.Sizes.{frameRows, frameSize}
 use Rattle.picture.specs.Rows.{ramRow}
 use Rattle.picture.specs.Frame.{bit, line, grid, frame, rowOf}
 

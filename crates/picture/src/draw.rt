@@ -3,20 +3,19 @@ ghost use mathlib.Core.Path.{_≡_};
 ghost use mathlib.Core.List.{_++_};
 ghost use Prim.Native.Nat.{_≤_};
 ghost use lib.ListN.{length, drop};
-ghost use Rattle.bus.specs.Sizes.{memorySize};
-ghost use Rattle.picture.specs.Sizes.{frameSize};
+ghost use Rattle.constants.specs.Sizes.{memorySize, frameSize};
 ghost use Rattle.picture.specs.Frame.{frame};
 ghost use Rattle.picture.specs.Draw.{drawn, draw};
 use crate::row::draw_row;
 use crate::rows::PanelRow;
-use crate::sizes::FRAME_ROWS;
-use crate::sizes::FRAME_SIZE;
-use crate::sizes::WIDTH;
 use bus::image::Asked;
 use bus::image::ask;
-use bus::refusal::TAKEN;
-use bus::refusal::TOO_SHORT;
 use bus::registers::Registers;
+use constants::refusal::TAKEN;
+use constants::refusal::TOO_SHORT;
+use constants::sizes::FRAME_ROWS;
+use constants::sizes::FRAME_SIZE;
+use constants::sizes::WIDTH;
 
 // Draws the frame, or refuses and writes nothing.
 pub fn draw(state: &[u8], memory: &[u8], frame: &mut [u8]) -> u8

@@ -2,4 +2,3 @@
 pub mod draw;
 mod row;
 pub mod rows;
-mod sizes;

@@ -2,16 +2,15 @@
 ghost use mathlib.Core.Path.{_≡_};
 ghost use Prim.Native.Nat.{_≤_, _<_, _-_, _/_, _%_, _^_};
 ghost use lib.ListN.{length, getD};
-ghost use Rattle.bus.specs.Sizes.{width, memorySize};
-ghost use Rattle.picture.specs.Sizes.{height, frameRows};
+ghost use Rattle.constants.specs.Sizes.{width, memorySize, height, frameRows};
 ghost use Rattle.picture.specs.Rows.{rowShows};
 ghost use Rattle.picture.specs.Frame.{segment, shownBit, line, turned};
 use crate::rows::PanelRow;
 use crate::rows::RamRow;
 use crate::rows::Shown;
 use crate::rows::row_shows;
-use crate::sizes::WIDTH;
 use bus::registers::Registers;
+use constants::sizes::WIDTH;
 
 // Draws one row of the frame into its own 132 bytes. Where all 64 rows are in use entire on lights every one, and the rule is not asked (DECISIONS 38).
 pub fn draw_row(registers: Registers, memory: &[u8], row: PanelRow, places: &mut [u8])

@@ -1,10 +1,10 @@
 // The three countings of rows, and the row rule that converts between them.
 ghost use mathlib.Core.Path.{_≡_};
 ghost use Prim.Native.Nat.{_≤_, _%_};
-ghost use Rattle.picture.specs.Sizes.{height};
+ghost use Rattle.constants.specs.Sizes.{height};
 ghost use Rattle.picture.specs.Rows.{comOf, used, ramRowOf, rowShows};
-use crate::sizes::HEIGHT;
 use bus::registers::Registers;
+use constants::sizes::HEIGHT;
 
 // A panel row, counted from the top of the glass; the icon line comes after the last.
 pub struct PanelRow(pub u8);

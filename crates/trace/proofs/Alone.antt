@@ -5,7 +5,7 @@ use mathlib.Core.Bool.{false}
 use mathlib.Core.List.{List, [], _∷_}
 use Prim.Native.Nat.{ℕ}
 use native.Mathlib.Omega.{arith}
-use Rattle.bus.specs.Numbers.{taken}
+use Rattle.constants.specs.Numbers.{taken}
 use Rattle.bus.specs.Chip.{Chip, step}
 use Rattle.bus.specs.Events as events
 use Rattle.bus.specs.declared.registers.Registers.{Registers}

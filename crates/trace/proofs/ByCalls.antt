@@ -8,8 +8,8 @@ use native.Mathlib.Omega.{arith}
 use borrow.Author.Tests.{ne-eqb}
 use lib.Dec.{eqb}
 use lib.ListN.{length}
-use Rattle.bus.specs.Sizes.{imageSize, memorySize}
-use Rattle.bus.specs.Numbers.{taken, readDiffers}
+use Rattle.constants.specs.Sizes.{imageSize, memorySize, headerSize}
+use Rattle.constants.specs.Numbers.{taken, readDiffers}
 use Rattle.bus.specs.Events.{numberOf, byteOf, dummyOf}
 use Rattle.bus.specs.Chip.{dataRead, step}
 use Rattle.bus.specs.Image.{asked, stored}
@@ -20,7 +20,7 @@ use Rattle.bus.proofs.Answers.{StandsFor, step-answers}
 use Rattle.bus.proofs.Kept.{LegalRegisters, Keeps, step-keeps, asked-legal}
 use Rattle.bus.proofs.Untouched.{step-length}
 use Rattle.bus.proofs.Stored.{stored-own, stored-again, call-stored}
-use Rattle.trace.specs.Records.{Trace, ended, cut, _then_, headerSize, split}
+use Rattle.trace.specs.Records.{Trace, ended, cut, _then_, split}
 use Rattle.trace.specs.Play.{Result, refuses, gives, onResult, played}
 use Rattle.trace.specs.Kinds.{Recorded, event, readAs, chipOf, happened, compared, replay, theChip}
 use Rattle.trace.specs.OneByOne.{Placed, placed, Script, script, scriptFrom, applied}

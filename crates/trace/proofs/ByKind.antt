@@ -7,9 +7,10 @@ use native.Mathlib.Omega.{arith}
 use borrow.Author.Tests.{ne-eqb}
 use lib.ListN.{length, drop}
 use lib.Seq.{slice, length-slice}
-use Rattle.bus.specs.Numbers.{kindUnknown}
+use Rattle.constants.specs.Numbers.{kindUnknown}
 use Rattle.bus.specs.Chip.{Chip, resetPulse}
-use Rattle.trace.specs.Records.{Record, headerSize, recordAt}
+use Rattle.constants.specs.Sizes.{headerSize}
+use Rattle.trace.specs.Records.{Record, recordAt}
 use Rattle.trace.specs.Front.{frontOf}
 use Rattle.trace.specs.Play.{stopped, playEvents, playRecord}
 use Rattle.trace.specs.Kinds.{event, command, write, readAs, eventsOf, theChip}

@@ -9,14 +9,15 @@ use native.Mathlib.Omega.{arith}
 use borrow.Author.Tests.{ne-eqb}
 use lib.ListN.{length, getD, take, drop}
 use lib.Seq.{slice}
-use Rattle.bus.specs.Numbers.{taken, headerCut, kindUnknown, readDiffers}
+use Rattle.constants.specs.Numbers.{taken, headerCut, kindUnknown, readDiffers}
 use Rattle.bus.specs.Chip.{Chip, dataRead, step}
 use Rattle.bus.specs.Events.{numberOf, byteOf, dummyOf}
 use Rattle.bus.specs.Calls.{Called, replyOf, concluded, call}
 use Rattle.bus.specs.declared.calls.Reply.{Reply}
 use Rattle.bus.proofs.Answers.{step-answers, was-taken}
 use Rattle.bus.proofs.Stored.{call-stored}
-use Rattle.trace.specs.Records.{headerSize, lengthOf, recordBytes, recordAt, splitFrom, split}
+use Rattle.constants.specs.Sizes.{headerSize}
+use Rattle.trace.specs.Records.{lengthOf, recordBytes, recordAt, splitFrom, split}
 use Rattle.trace.specs.Play.{refuses, Ending, stopped, done, played, onEnding, playEvents, playRecord, playFrom, play}
 use Rattle.trace.specs.Kinds.{eventsOf, readAs, replay, chipOf, theChip}
 use Rattle.trace.specs.Run.{Ran, ran, stopOf, ranOf, run}

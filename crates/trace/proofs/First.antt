@@ -10,8 +10,9 @@ use borrow.Author.Tests.{eqb-true, eqb-false, le-leb}
 use lib.Dec.{eqb}
 use lib.ListN.{length, take, drop, length-drop, take-append-drop, drop-of-length-le}
 use lib.Seq.{getD-take, drop-drop, take-add, length-take-le}
-use Rattle.bus.specs.Numbers.{taken, headerCut}
-use Rattle.trace.specs.Records.{ended, _then_, headerSize, lengthOf, whole, recordAt, splitFrom, split}
+use Rattle.constants.specs.Numbers.{taken, headerCut}
+use Rattle.constants.specs.Sizes.{headerSize}
+use Rattle.trace.specs.Records.{ended, _then_, lengthOf, whole, recordAt, splitFrom, split}
 use Rattle.trace.specs.Play.{Machine, Ending, stopped, done, Played, played, playRecord, playFrom, play}
 use Rattle.trace.proofs.Further.{further, record-further}
 use Rattle.trace.proofs.Fronts.{room}

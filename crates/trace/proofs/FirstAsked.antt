@@ -9,8 +9,8 @@ use native.Mathlib.Omega.{arith}
 use lib.Dec.{eqb}
 use lib.ListN.{length}
 use Rattle.codes.proofs.Tests.{chosen}
-use Rattle.bus.specs.Sizes.{memorySize}
-use Rattle.bus.specs.Numbers.{tooShort, outOfRange, kindUnknown}
+use Rattle.constants.specs.Sizes.{memorySize}
+use Rattle.constants.specs.Numbers.{tooShort, outOfRange, kindUnknown}
 use Rattle.bus.specs.Chip.{Chip, dataRead}
 use Rattle.bus.specs.Registers.{registersOf}
 use Rattle.bus.specs.Image.{short, legal, asked}

@@ -5,7 +5,8 @@ use mathlib.Core.Bool.{Bool, true, false, cond}
 use mathlib.Core.List.{List, [], _∷_}
 use Prim.Native.Nat.{ℕ, zero, suc, _+_}
 use native.Mathlib.Omega.{arith}
-use Rattle.trace.specs.Records.{Record, Trace, ended, cut, _then_, headerSize, lengthOf, whole, recordAt, splitFrom}
+use Rattle.constants.specs.Sizes.{headerSize}
+use Rattle.trace.specs.Records.{Record, Trace, ended, cut, _then_, lengthOf, whole, recordAt, splitFrom}
 use Rattle.trace.proofs.Cases.{by-cases}
 use Rattle.trace.specs.Play.{Machine, Ending, stopped, done, onEnding, Played, played, playEvents, playRecord, playFrom}
 

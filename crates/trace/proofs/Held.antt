@@ -7,7 +7,7 @@ use Prim.Native.Nat.{ℕ}
 use lib.Dec.{eqb}
 use lib.ListN.{length, drop}
 use Rattle.codes.proofs.Tests.{chosen}
-use Rattle.bus.specs.Sizes.{memorySize}
+use Rattle.constants.specs.Sizes.{memorySize}
 use Rattle.bus.specs.Chip.{Chip, dataRead}
 use Rattle.bus.specs.declared.answer.Answer.{Answer}
 use Rattle.bus.proofs.Kept.{LegalRegisters, Keeps, IsByte, step-keeps}

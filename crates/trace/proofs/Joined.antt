@@ -9,8 +9,9 @@ use native.Mathlib.Omega.{arith}
 use borrow.Author.Tests.{le-leb}
 use lib.ListN.{length, drop, length-append, length-drop, List·getD-append}
 use lib.Seq.{take-append-le, drop-append-le}
-use Rattle.bus.specs.Numbers.{taken}
-use Rattle.trace.specs.Records.{Record, Trace, ended, cut, _then_, number, headerSize, lengthOf, payloadOf, whole, recordAt, splitFrom, split}
+use Rattle.constants.specs.Numbers.{taken}
+use Rattle.constants.specs.Sizes.{headerSize}
+use Rattle.trace.specs.Records.{Record, Trace, ended, cut, _then_, number, lengthOf, payloadOf, whole, recordAt, splitFrom, split}
 use Rattle.trace.specs.Play.{Result, refuses, gives, onResult, Machine, Ending, stopped, done, onEnding, Played, played, playEvents, playRecord, playFrom, play}
 use Rattle.trace.proofs.Fronts.{room}
 use Rattle.trace.proofs.Further.{traceFurther, further, split-further, play-further}

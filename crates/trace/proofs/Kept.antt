@@ -4,7 +4,8 @@ use mathlib.Core.Bool.{Bool, true, false, cond}
 use mathlib.Core.List.{List, [], _∷_}
 use Prim.Native.Nat.{ℕ, zero, suc, _+_, _<_}
 use lib.ListN.{take, drop}
-use Rattle.trace.specs.Records.{Record, Trace, ended, cut, _then_, headerSize, lengthOf, whole, recordAt, splitFrom}
+use Rattle.constants.specs.Sizes.{headerSize}
+use Rattle.trace.specs.Records.{Record, Trace, ended, cut, _then_, lengthOf, whole, recordAt, splitFrom}
 use Rattle.trace.specs.Play.{Result, refuses, gives, onResult, Machine, Ending, stopped, done, onEnding, Played, played, playEvents, playRecord, playFrom}
 
 abbrev pub All : {A : Type 0} → (A → Type 0) → List A → Type 0

@@ -3,7 +3,8 @@
 use mathlib.Core.Path.{_≡_, refl, sym, _∙_, ap, fun-ext}
 use mathlib.Core.List.{List, [], _∷_, _++_}
 use Prim.Native.Nat.{ℕ, _+_}
-use Rattle.trace.specs.Records.{Trace, ended, cut, _then_, headerSize}
+use Rattle.constants.specs.Sizes.{headerSize}
+use Rattle.trace.specs.Records.{Trace, ended, cut, _then_}
 use Rattle.trace.specs.Play.{Result, refuses, gives, onResult, Machine, stopped, onEnding, Played, played, playEvents, playRecord, playFrom}
 use Rattle.trace.proofs.Cases.{by-cases}
 use Rattle.trace.specs.OneByOne.{Placed, placed, Script, script, scriptFrom, applied, oneByOne}

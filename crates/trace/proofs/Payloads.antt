@@ -8,7 +8,7 @@ use borrow.Author.Tests.{eqb-true, eqb-false}
 use lib.Dec.{eqb}
 use lib.ListN.{length}
 use Rattle.codes.proofs.Tests.{chosen}
-use Rattle.bus.specs.Numbers.{kindUnknown}
+use Rattle.constants.specs.Numbers.{kindUnknown}
 use Rattle.bus.specs.Chip.{resetPulse}
 use Rattle.trace.specs.Play.{Result, refuses, gives}
 use Rattle.trace.specs.Given.{Unknown, noKind, loaded}

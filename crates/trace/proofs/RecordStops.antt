@@ -6,11 +6,12 @@ use mathlib.Core.List.{List}
 use Prim.Native.Nat.{ℕ, _+_, _≤_, _<_}
 use native.Mathlib.Omega.{arith}
 use lib.ListN.{length, getD, drop}
-use Rattle.bus.specs.Numbers.{taken, columnAbove, kindUnknown, readDiffers}
+use Rattle.constants.specs.Numbers.{taken, columnAbove, kindUnknown, readDiffers}
 use Rattle.bus.specs.Chip.{Chip, Event, commandByte, dataWritten, resetPulse, dataRead, step}
 use Rattle.bus.specs.Events.{resetPin}
 use Rattle.bus.specs.declared.answer.After.{After}
-use Rattle.trace.specs.Records.{headerSize, lengthOf, kindOf, payloadOf, whole, recordAt}
+use Rattle.constants.specs.Sizes.{headerSize}
+use Rattle.trace.specs.Records.{lengthOf, kindOf, payloadOf, whole, recordAt}
 use Rattle.trace.specs.Front.{frontOf}
 use Rattle.trace.specs.Play.{Result, stopped, playRecord}
 use Rattle.trace.specs.Kinds.{Recorded, event, readAs, command, write, happened, replay, theChip}

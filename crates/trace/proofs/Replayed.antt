@@ -5,7 +5,7 @@ use mathlib.Core.Bool.{true, false, _||_}
 use mathlib.Core.List.{List}
 use Prim.Native.Nat.{ℕ}
 use lib.Dec.{eqb}
-use Rattle.bus.specs.Numbers.{readDiffers}
+use Rattle.constants.specs.Numbers.{readDiffers}
 use Rattle.bus.specs.Chip.{Event, step, dataRead}
 use Rattle.bus.specs.declared.registers.Registers.{Registers}
 use Rattle.bus.specs.declared.answer.After.{After}

@@ -8,8 +8,9 @@ use native.Mathlib.Nat.{add-zero}
 use native.Mathlib.Omega.{arith}
 use lib.ListN.{length, drop}
 use lib.Seq.{drop-drop}
-use Rattle.bus.specs.Numbers.{taken, headerCut}
-use Rattle.trace.specs.Records.{Trace, ended, cut, _then_, headerSize, lengthOf, whole, recordAt, splitFrom}
+use Rattle.constants.specs.Numbers.{taken, headerCut}
+use Rattle.constants.specs.Sizes.{headerSize}
+use Rattle.trace.specs.Records.{Trace, ended, cut, _then_, lengthOf, whole, recordAt, splitFrom}
 use Rattle.trace.specs.Front.{frontOf}
 use Rattle.trace.specs.Play.{Machine, stopped, done, played, playRecord, playFrom}
 use Rattle.trace.specs.declared.records.Header.{Header}

@@ -7,7 +7,7 @@ use Prim.Native.Nat.{ℕ, _≤_}
 use native.Mathlib.Omega.{arith}
 use lib.ListN.{length, take, drop}
 use lib.Seq.{length-take-le}
-use Rattle.bus.specs.Numbers.{taken, columnAbove, headerCut, kindUnknown}
+use Rattle.constants.specs.Numbers.{taken, columnAbove, headerCut, kindUnknown}
 use Rattle.bus.specs.Chip.{Chip}
 use Rattle.bus.specs.Image.{asked}
 use Rattle.bus.specs.declared.registers.Registers.{Registers}

@@ -5,9 +5,9 @@ use mathlib.Core.List.{List, [], _++_}
 use Prim.Native.Nat.{ℕ, _+_}
 use native.Mathlib.Omega.{arith}
 use lib.ListN.{length, drop}
-use Rattle.bus.specs.Sizes.{imageSize, memorySize}
+use Rattle.constants.specs.Sizes.{imageSize, memorySize}
 use Rattle.bus.specs.Chip.{Chip}
-use Rattle.bus.specs.Numbers.{taken}
+use Rattle.constants.specs.Numbers.{taken}
 use Rattle.bus.specs.Image.{asked, stored}
 use Rattle.bus.specs.declared.registers.Registers.{Registers}
 use Rattle.bus.specs.declared.image.Asked.{Asked}

@@ -5,7 +5,7 @@ use mathlib.Core.List.{List, [], _∷_, map}
 use Prim.Native.Nat.{ℕ}
 use lib.ListN.{take, replicate, set}
 use Rattle.codes.specs.Table.{table, commandBy, commandOf, operandBy, operandOf, meaningOf}
-use Rattle.bus.specs.Sizes.{memorySize}
+use Rattle.constants.specs.Sizes.{memorySize}
 use Rattle.bus.specs.Registers.{largestValues, powerOn, imageOf, _with_≔_}
 use Rattle.bus.specs.Places.{column, on, fresh}
 use Rattle.bus.specs.Memory.{kept, onward}

@@ -7,7 +7,7 @@ use Prim.Native.Nat.{ℕ, _≤_, _<_}
 use native.Mathlib.Omega.{arith}
 use borrow.Author.Tests.{eqb-false}
 use lib.Dec.{eqb}
-use Rattle.bus.specs.Numbers.{taken, columnAbove, kindUnknown, readDiffers}
+use Rattle.constants.specs.Numbers.{taken, columnAbove, kindUnknown, readDiffers}
 use Rattle.bus.specs.Chip.{Chip, dataRead, step}
 use Rattle.bus.specs.declared.answer.After.{After}
 use Rattle.bus.specs.declared.answer.Answer.{Answer}

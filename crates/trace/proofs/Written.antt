@@ -8,7 +8,8 @@ use native.Mathlib.Omega.{arith}
 use borrow.Author.Tests.{le-leb}
 use lib.ListN.{length, drop, length-append}
 use lib.Seq.{take-append-seam, drop-append-seam}
-use Rattle.trace.specs.Records.{Trace, _then_, headerSize, recordBytes, whole, split}
+use Rattle.constants.specs.Sizes.{headerSize}
+use Rattle.trace.specs.Records.{Trace, _then_, recordBytes, whole, split}
 use Rattle.trace.proofs.Further.{traceFurther, split-further}
 use Rattle.trace.proofs.Rest.{split-whole}
 

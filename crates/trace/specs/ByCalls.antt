@@ -3,7 +3,7 @@ use Prim.Native.Nat.{ℕ}
 use mathlib.Core.Bool.{cond, not, _&&_, _||_}
 use mathlib.Core.List.{List, [], _∷_}
 use lib.Dec.{eqb}
-use Rattle.bus.specs.Numbers.{taken, readDiffers}
+use Rattle.constants.specs.Numbers.{taken, readDiffers}
 use Rattle.bus.specs.Chip.{Event, dataRead}
 use Rattle.bus.specs.Calls.{call}
 use Rattle.bus.specs.declared.calls.Reply.{Reply}

@@ -6,11 +6,12 @@ use mathlib.Core.Bool.{true, false}
 use mathlib.Core.List.{List, _++_}
 use lib.ListN.{length, getD, take, drop}
 use lib.Seq.{slice}
-use Rattle.bus.specs.Numbers.{taken}
+use Rattle.constants.specs.Numbers.{taken}
 use Rattle.bus.specs.Chip.{dataRead}
 use Rattle.bus.specs.Calls.{call}
 use Rattle.bus.specs.declared.calls.Reply.{Reply}
-use Rattle.trace.specs.Records.{headerSize, lengthOf, kindOf, whole, recordBytes}
+use Rattle.constants.specs.Sizes.{headerSize}
+use Rattle.trace.specs.Records.{lengthOf, kindOf, whole, recordBytes}
 use Rattle.trace.specs.Run.{Ran, ran, stopOf, run}
 
 -- A header should stand at an offset: the bytes before it run, and all are taken.

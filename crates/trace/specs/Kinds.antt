@@ -4,7 +4,7 @@ use mathlib.Core.Bool.{cond, _||_, _&&_}
 use mathlib.Core.List.{List, [], _∷_, map}
 use lib.Dec.{eqb}
 use lib.ListN.{length}
-use Rattle.bus.specs.Numbers.{kindUnknown, readDiffers}
+use Rattle.constants.specs.Numbers.{kindUnknown, readDiffers}
 use Rattle.bus.specs.Chip.{Chip, Event, commandByte, dataWritten, dataRead, resetPulse, step}
 use Rattle.bus.specs.declared.registers.Registers.{Registers}
 use Rattle.bus.specs.declared.answer.Answer.{Answer}

@@ -1,8 +1,9 @@
 -- The events of a whole trace one by one, for the law that a played trace is what they give in order up to the first refused one.
 use Prim.Native.Nat.{ℕ, _+_}
 use mathlib.Core.List.{List, [], _∷_, _++_}
-use Rattle.bus.specs.Numbers.{taken, headerCut}
-use Rattle.trace.specs.Records.{Trace, ended, cut, _then_, headerSize}
+use Rattle.constants.specs.Numbers.{taken, headerCut}
+use Rattle.constants.specs.Sizes.{headerSize}
+use Rattle.trace.specs.Records.{Trace, ended, cut, _then_}
 use Rattle.trace.specs.Play.{Result, onResult, Machine, Played, played}
 
 -- An event of a trace, the offset of its byte, and the count of records before its own.

@@ -1,8 +1,9 @@
 -- A trace played over any machine that has a step, up to the first refusal.
 use Prim.Native.Nat.{ℕ, _+_}
 use mathlib.Core.List.{List, [], _∷_}
-use Rattle.bus.specs.Numbers.{taken, headerCut}
-use Rattle.trace.specs.Records.{Record, Trace, ended, cut, _then_, headerSize}
+use Rattle.constants.specs.Numbers.{taken, headerCut}
+use Rattle.constants.specs.Sizes.{headerSize}
+use Rattle.trace.specs.Records.{Record, Trace, ended, cut, _then_}
 
 -- Either a refusal number or what was asked for.
 pub data Result (A : Type 0) : Type 0 where

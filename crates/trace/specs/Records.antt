@@ -4,6 +4,7 @@ use mathlib.Core.Bool.{Bool, cond, _&&_}
 use mathlib.Core.List.{List, [], _∷_}
 use lib.Dec.{leb}
 use lib.ListN.{length, getD, take, drop}
+use Rattle.constants.specs.Sizes.{headerSize}
 
 -- A record: its kind, its payload, and the offset of its first byte.
 pub record Record : Type 0 where
@@ -23,9 +24,6 @@ abbrev pub number : List ℕ → ℕ → ℕ
 number bytes place = getD bytes place 0 + 256 * getD bytes (place + 1) 0
 
 -- A record's header: the length of its payload, then its kind, two bytes each.
-abbrev pub headerSize : ℕ
-headerSize = 4
-
 abbrev pub lengthOf : List ℕ → ℕ
 lengthOf bytes = number bytes 0
 

@@ -13,9 +13,9 @@ ghost use Rattle.trace.specs.Kinds.{event, command, write, readAs, theCh
 ghost use Rattle.trace.specs.Code.{endingOf, haltedOf};
 use bus::answer::After;
 use bus::answer::Answer;
-use bus::refusal::READ_DIFFERS;
-use bus::refusal::TAKEN;
 use bus::registers::Registers;
+use constants::refusal::READ_DIFFERS;
+use constants::refusal::TAKEN;
 
 // The first refused event of a record: its number, and its byte's offset.
 pub struct Halt {

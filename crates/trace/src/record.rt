@@ -14,8 +14,8 @@ use crate::events::reset_pin;
 use crate::events::writes;
 use crate::records::Front;
 use crate::records::Header;
-use bus::refusal::KIND_UNKNOWN;
 use bus::registers::Registers;
+use constants::refusal::KIND_UNKNOWN;
 
 // The record with this header that stands at an offset of the trace.
 pub fn obey(

@@ -11,9 +11,9 @@ use crate::record::obey;
 use crate::records::Front;
 use bus::image::Asked;
 use bus::image::ask;
-use bus::refusal::HEADER_CUT;
-use bus::refusal::TAKEN;
 use bus::registers::Registers;
+use constants::refusal::HEADER_CUT;
+use constants::refusal::TAKEN;
 
 // Where a run stopped: the number, the offset and the count of whole records done.
 pub struct Stop {

@@ -4,7 +4,7 @@ use mathlib.Core.Path.{_≡_, refl, _∙_, ap}
 use mathlib.Core.List.{List, append-nil}
 use Prim.Native.Nat.{ℕ}
 use lib.ListN.{replicate}
-use Rattle.bus.specs.Sizes.{memorySize}
+use Rattle.constants.specs.Sizes.{memorySize, frameSize}
 use Rattle.bus.specs.Registers.{largestValues, powerOn, imageOf}
 use Rattle.bus.specs.Image.{within, awaitedCodes, legal, short, asked}
 use Rattle.trace.specs.Records.{split}
@@ -12,7 +12,6 @@ use Rattle.trace.specs.Play.{play}
 use Rattle.trace.specs.Kinds.{chipOf, theChip}
 use Rattle.trace.proofs.Kept.{Bytes}
 use Rattle.trace.proofs.Runs.{run-legal}
-use Rattle.picture.specs.Sizes.{frameSize}
 use Rattle.picture.specs.Frame.{frame}
 use Rattle.picture.specs.Draw.{drawOn, draw}
 use Rattle.tracelisting.specs.Job.{ranFromPowerOn, frameAfter}

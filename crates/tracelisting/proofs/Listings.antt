@@ -8,13 +8,12 @@ use mathlib.Core.Bool.{Bool, true, false, cond}
 use lib.Dec.{ltb}
 use borrow.Author.Tests.{le-ltb}
 use lib.ListN.{length, drop, replicate, length-append}
-use Rattle.bus.specs.Sizes.{memorySize}
+use Rattle.constants.specs.Sizes.{memorySize, frameSize}
 use Rattle.bus.specs.Registers.{powerOn, imageOf}
 use Rattle.trace.specs.Run.{Ran, ran, run}
 use Rattle.trace.specs.declared.run.Stop.{Stop}
-use Rattle.picture.specs.Sizes.{frameSize}
 use Rattle.picture.specs.Draw.{drawn, draw}
-use Rattle.framelisting.specs.Sizes.{longestListing}
+use Rattle.constants.specs.Sizes.{longestListing}
 use Rattle.framelisting.specs.Text.{listingOf}
 use Rattle.framelisting.specs.Listing.{Outcome, outcome, written, listed}
 use Rattle.framelisting.specs.declared.Listed.{Listed}

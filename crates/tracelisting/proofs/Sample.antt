@@ -5,7 +5,7 @@ use mathlib.Core.List.{List}
 use Prim.Native.Nat.{ℕ}
 use lib.ListN.{set, replicate}
 use Rattle.codes.specs.Table.{table, commandBy, commandOf, meaningOf}
-use Rattle.bus.specs.Sizes.{memorySize, width}
+use Rattle.constants.specs.Sizes.{memorySize, width, frameSize}
 use Rattle.bus.specs.Places.{column, on}
 use Rattle.bus.specs.Registers.{largestValues, powerOn, imageOf, _with_≔_}
 use Rattle.bus.specs.Memory.{kept, onward}
@@ -16,7 +16,6 @@ use Rattle.trace.specs.Records.{splitFrom, split}
 use Rattle.trace.specs.Play.{playEvents, playRecord, playFrom}
 use Rattle.trace.specs.Kinds.{eventsOf, happened, replay}
 use Rattle.trace.specs.Run.{Ran, ran, stopOf, ranOf, runOn, run}
-use Rattle.picture.specs.Sizes.{frameSize}
 use Rattle.picture.specs.Rows.{comOf, used, ramRowOf, panelShows, rowShows}
 use Rattle.picture.specs.Frame.{bit, columnOf, turned, shownBit, whileOn, segment, line as Frame·line, grid, frame}
 use Rattle.picture.specs.Draw.{drawOn, draw}

@@ -9,7 +9,7 @@ use lib.Dec.{ltb}
 use lib.ListN.{set, replicate}
 use borrow.Author.Tests.{ltb-true}
 use Rattle.codes.specs.Table.{table, offsetOf, framePhasesOf, commandBy, operandBy, commandOf, operandOf, meaningOf}
-use Rattle.bus.specs.Sizes.{width, memorySize}
+use Rattle.constants.specs.Sizes.{width, memorySize, frameRows, frameSize}
 use Rattle.bus.specs.Registers.{largestValues, powerOn, registersOf}
 use Rattle.bus.specs.Memory.{kept, onward}
 use Rattle.bus.specs.Events.{numberOf, byteOf, dummyOf, obeyed, command, access, write, written, read, resetPin}
@@ -20,7 +20,6 @@ use Rattle.trace.specs.Records.{splitFrom, split}
 use Rattle.trace.specs.Play.{playEvents, playRecord, playFrom}
 use Rattle.trace.specs.Kinds.{eventsOf, happened, compared, replay}
 use Rattle.trace.specs.Run.{Ran, ran, stopOf, ranOf, runOn, run}
-use Rattle.picture.specs.Sizes.{frameRows, frameSize}
 use Rattle.picture.specs.Rows.{comOf, used, ramRowOf, panelShows, rowShows}
 use Rattle.picture.specs.Frame.{bit, columnOf, turned, shownBit, whileOn, segment, line as Frame·line, frame, rowOf as Frame·rowOf}
 use Rattle.picture.specs.Draw.{drawOn, draw}

@@ -4,12 +4,11 @@ use mathlib.Core.Bool.{cond}
 use mathlib.Core.List.{List, _++_}
 use lib.Dec.{ltb}
 use lib.ListN.{length, drop, replicate}
-use Rattle.bus.specs.Sizes.{memorySize}
+use Rattle.constants.specs.Sizes.{memorySize, frameSize}
 use Rattle.bus.specs.Registers.{powerOn, imageOf}
 use Rattle.trace.specs.Run.{Ran, run}
-use Rattle.picture.specs.Sizes.{frameSize}
 use Rattle.picture.specs.Draw.{draw}
-use Rattle.framelisting.specs.Sizes.{longestListing}
+use Rattle.constants.specs.Sizes.{longestListing}
 use Rattle.framelisting.specs.Ascii.{ascii}
 use Rattle.framelisting.specs.Text.{listingOf}
 

@@ -2,14 +2,14 @@
 ghost use mathlib.Core.Path.{_≡_};
 ghost use Prim.Native.Nat.{_≤_};
 ghost use lib.ListN.{length};
-ghost use Rattle.framelisting.specs.Sizes.{longestListing};
+ghost use Rattle.constants.specs.Sizes.{longestListing};
 ghost use Rattle.tracelisting.specs.Job.{listingOfTrace, textFor, printed, printedOf};
 use bus::registers::Registers;
-use framelisting::LONGEST_LISTING;
+use constants::sizes::FRAME_SIZE;
+use constants::sizes::LONGEST_LISTING;
+use constants::sizes::LONGEST_TRACE;
+use constants::sizes::MEMORY_SIZE;
 use framelisting::Listed;
-
-// Bytes of the longest trace that is listed.
-pub const LONGEST_TRACE: usize = 65536;
 
 // Puts what the listing program prints for its input into a buffer that is long enough for any listing, and answers the text's length.
 pub fn list_input(input: &[u8], text: &mut [u8]) -> usize
@@ -29,8 +29,8 @@ fn list_trace(trace: &[u8], text: &mut [u8]) -> usize
         return 0;
     }
     let mut state = Registers::power_on().image();
-    let mut memory = [0u8; 1188];
-    let mut frame = [0u8; 8580];
+    let mut memory = [0u8; MEMORY_SIZE];
+    let mut frame = [0u8; FRAME_SIZE];
     let stop = trace::run::run(&mut state, &mut memory, trace);
     picture::draw::draw(&state, &memory, &mut frame);
     match framelisting::list(stop.number, stop.offset, &frame, text) {

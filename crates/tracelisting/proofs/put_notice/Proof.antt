@@ -9,7 +9,7 @@ use borrow.Author.Tests.{lt-ltb, le-ltb}
 use denote.Ref.{now}
 use lib.ListN.{length, take, drop, set, getD, length-append, length-drop}
 use lib.Seq.{length-take-le, take-length, take-suc, drop-cons, set-at}
-use Rattle.framelisting.specs.Sizes.{longestListing}
+use Rattle.constants.specs.Sizes.{longestListing}
 use Rattle.tracelisting.specs.Job.{printedOf}
 use Rattle.tracelisting.proofs.put_notice.Statement.{statement}
 use Rattle.tracelisting.proofs.put_notice.Tie as tie

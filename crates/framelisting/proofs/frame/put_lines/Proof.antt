@@ -1,4 +1,4 @@
--- `listing::frame::put_lines` meets its contract: the lines of the rows from here on are put from here on.
+-- `listing::frame::put_lines` meets its contract: the lines of the frameRows from here on are put from here on.
 -- Assumes nothing.
 use Rattle.framelisting.proofs.frame.put_lines.Statement.{statement}
 use Rattle.framelisting.proofs.frame.put_lines.Tie as tie
@@ -9,7 +9,7 @@ use native.Mathlib.Numerals.{add-one}
 use native.Mathlib.Omega.{arith}
 use denote.Ref.{now}
 use lib.ListN.{take, drop}
-use Rattle.framelisting.specs.Sizes.{width, rows}
+use Rattle.constants.specs.Sizes.{width, frameRows}
 use Rattle.framelisting.specs.Put.{Countable}
 use Rattle.framelisting.specs.Text.{line, rowOf, lines}
 use Rattle.framelisting.proofs.Pieces.{Rest, begin, turn, done, room, room-left, rest-length}
@@ -29,10 +29,10 @@ part frame p =
     rw e
 
 abbrev Inv-loop : tie.InvT-loop
-Inv-loop text₀ at frame next₀ p₀ text next p = (p ≤ rows) × Rest text₀ at (lines width frame rows 0) text next (lines width frame (rows - p) p)
+Inv-loop text₀ at frame next₀ p₀ text next p = (p ≤ frameRows) × Rest text₀ at (lines width frame frameRows 0) text next (lines width frame (frameRows - p) p)
 
 abbrev μ-loop : tie.MeasureT-loop
-μ-loop text₀ at frame next₀ p₀ text next p = rows - p
+μ-loop text₀ at frame next₀ p₀ text next p = frameRows - p
 
 loop-holds : tie.Need-loop-holds Inv-loop μ-loop
 loop-holds c = (omega arith, begin _ _ _)
@@ -58,7 +58,7 @@ put-line-requires c κs =
     let start = at .before .before .before in
     let frame = now (start .args .frame) in
     let p = at .loop .p in
-    subst⁻¹ (λ row. Countable (at .loop .next) (line p row)) (part frame p) (room (at .loop .next) (line p (rowOf width frame p)) _ (rw (lines-on width frame rows p (c .before .before .loop-test .taken)) at (room-left (at .loop .inv .1) (start .pre .1))))
+    subst⁻¹ (λ row. Countable (at .loop .next) (line p row)) (part frame p) (room (at .loop .next) (line p (rowOf width frame p)) _ (rw (lines-on width frame frameRows p (c .before .before .loop-test .taken)) at (room-left (at .loop .inv .1) (start .pre .1))))
 
 add-p : tie.Need-add-p Inv-loop μ-loop
 add-p c = omega arith
@@ -71,7 +71,7 @@ loop-again c =
     let at = c .before .before .before .before .before .before in
     let frame = now (at .before .before .before .args .frame) in
     let p = at .loop .p in
-    (omega arith, turn (rw (lines-on width frame rows p (c .before .before .before .before .before .loop-test .taken)) at (at .loop .inv .1)) (rw (part frame p) at (c .before .before .put-line .ensures)))
+    (omega arith, turn (rw (lines-on width frame frameRows p (c .before .before .before .before .before .loop-test .taken)) at (at .loop .inv .1)) (rw (part frame p) at (c .before .before .put-line .ensures)))
 
 same-length : tie.Need-same-length Inv-loop μ-loop
 same-length c = rest-length (c .before .loop .inv .1)
@@ -79,7 +79,7 @@ same-length c = rest-length (c .before .loop .inv .1)
 returns : tie.Need-returns Inv-loop μ-loop
 unfolding lines
 returns c =
-    let e : rows - c .before .loop .p ≡ 0 = omega arith in
+    let e : frameRows - c .before .loop .p ≡ 0 = omega arith in
     done (rw e at (c .before .loop .inv .1))
 
 pub put-lines-spec : {M : Type 1} → statement M

@@ -8,10 +8,9 @@ use Prim.Native.Nat.{ℕ, _+_, _*_, _-_, _≤_}
 use native.Mathlib.Omega.{arith}
 use denote.Ref.{now}
 use lib.ListN.{drop, length-take, length-drop}
-use Rattle.bus.specs.Sizes.{width}
+use Rattle.constants.specs.Sizes.{width, height}
 use Rattle.bus.specs.declared.registers.Registers.{Registers}
 use Rattle.picture.proofs.Lines.{grid-kept, grid-turn}
-use Rattle.picture.specs.Sizes.{height}
 use Rattle.picture.specs.Rows.{panelRow, rowShows}
 use Rattle.picture.specs.Frame.{segment, grid, frame}
 

@@ -5,7 +5,7 @@ use mathlib.Core.Path.{_∙_, sym}
 use native.Mathlib.Omega.{arith}
 use borrow.Author.Tests.{eq-eqb, ne-eqb}
 use denote.Ref.{now}
-use Rattle.picture.specs.Sizes.{height}
+use Rattle.constants.specs.Sizes.{height}
 use Rattle.picture.specs.Frame.{segment, whileOn}
 use Rattle.picture.proofs.Lines.{line-same}
 use Rattle.picture.proofs.Lit.{all-lit}

@@ -8,7 +8,7 @@ use Prim.Native.Nat.{_≤_, _-_}
 use native.Mathlib.Omega.{arith}
 use denote.Ref.{now}
 use lib.ListN.{drop}
-use Rattle.bus.specs.Sizes.{width}
+use Rattle.constants.specs.Sizes.{width}
 use Rattle.picture.specs.Frame.{line}
 use Rattle.picture.proofs.Lines.{line-turn, line-done, line-kept}
 

@@ -9,7 +9,7 @@ use Prim.Native.Nat.{ℕ, _≤_, _-_, _/_, _%_, _^_}
 use native.Mathlib.Omega.{arith}
 use denote.Ref.{now}
 use lib.ListN.{getD, drop}
-use Rattle.bus.specs.Sizes.{width}
+use Rattle.constants.specs.Sizes.{width}
 use Rattle.picture.specs.Frame.{line, turned}
 use Rattle.picture.proofs.Lines.{line-turn, line-done, line-kept}
 

@@ -8,7 +8,8 @@ use native.Mathlib.Omega.{arith}
 use borrow.Author.Needs.{needs}
 use denote.Ref.{now}
 use lib.ListN.{length, drop}
-use Rattle.trace.specs.Records.{headerSize, split}
+use Rattle.constants.specs.Sizes.{headerSize}
+use Rattle.trace.specs.Records.{split}
 use Rattle.trace.specs.Front.{frontOf}
 use Rattle.trace.specs.Play.{play, playFrom}
 use Rattle.trace.specs.Kinds.{theChip, chipOf}

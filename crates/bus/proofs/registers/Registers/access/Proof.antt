@@ -3,8 +3,8 @@
 use mathlib.Core.Path.{_≡_}
 use Prim.Native.Nat.{ℕ, _≤_, _<_}
 use borrow.Author.Tests.{eq-eqb, ne-eqb, le-leb, lt-leb, lt-ltb, le-ltb}
-use Rattle.bus.specs.Sizes.{lastColumn, pages, memorySize}
-use Rattle.bus.specs.Numbers.{taken, tooShort, outOfRange, codeAwaited, columnAbove}
+use Rattle.constants.specs.Sizes.{lastColumn, pages, memorySize}
+use Rattle.constants.specs.Numbers.{taken, tooShort, outOfRange, codeAwaited, columnAbove}
 use Rattle.bus.specs.Events.{access}
 use Rattle.bus.specs.declared.registers.Registers.{Registers}
 use Rattle.bus.proofs.registers.Registers.access.Statement.{statement}

@@ -1,0 +1,50 @@
+-- The sizes of document 01.
+use Prim.Native.Nat.{ℕ, _+_, _*_}
+
+-- columns of the display memory, and of each row of the frame
+abbrev pub width : ℕ
+width = 132
+
+-- the last column, after which comes 0
+abbrev pub lastColumn : ℕ
+lastColumn = 131
+
+-- pages of the display memory
+abbrev pub pages : ℕ
+pages = 9
+
+-- the page that holds the icons
+abbrev pub iconPage : ℕ
+iconPage = 8
+
+-- bytes of the state image
+abbrev pub imageSize : ℕ
+imageSize = 23
+
+-- bytes of the display memory, 1,188
+abbrev pub memorySize : ℕ
+memorySize = pages * width
+
+-- panel rows; the RAM row after the last of them has the icons
+abbrev pub height : ℕ
+height = 64
+
+-- rows of the frame: the panel rows, then the icon line
+abbrev pub frameRows : ℕ
+frameRows = height + 1
+
+-- bytes of the frame, 8,580
+abbrev pub frameSize : ℕ
+frameSize = frameRows * width
+
+-- bytes of a record's header in a trace
+abbrev pub headerSize : ℕ
+headerSize = 4
+
+-- bytes of the longest trace that the listing program takes
+abbrev pub longestTrace : ℕ
+longestTrace = 65536
+
+-- bytes of the longest listing: a buffer of that length is enough for any
+abbrev pub longestListing : ℕ
+longestListing = 27408

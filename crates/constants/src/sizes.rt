@@ -1,0 +1,26 @@
+// The sizes of document 01.
+
+// Columns of the display memory, bytes of a page, and places of each row of the frame.
+pub const WIDTH: usize = 132;
+// The last column, after which comes 0.
+pub const LAST_COLUMN: u8 = 131;
+// Pages of the display memory.
+pub const PAGES: u8 = 9;
+// The page that holds the icons.
+pub const ICON_PAGE: u8 = 8;
+// Bytes of the state image.
+pub const IMAGE_SIZE: usize = 23;
+// Bytes of the display memory.
+pub const MEMORY_SIZE: usize = 1188;
+// Panel rows; the RAM row after the last of them has the icons.
+pub const HEIGHT: u8 = 64;
+// Rows of the frame: the panel rows, then the icon line.
+pub const FRAME_ROWS: usize = 65;
+// Bytes of the frame.
+pub const FRAME_SIZE: usize = 8580;
+// Bytes of a record's header in a trace.
+pub const HEADER_SIZE: usize = 4;
+// Bytes of the longest trace that the listing program takes.
+pub const LONGEST_TRACE: usize = 65536;
+// Bytes of the longest listing: a buffer of that length is enough for any.
+pub const LONGEST_LISTING: usize = 27408;
