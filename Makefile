@@ -16,6 +16,8 @@ SEED   ?= 1
 TIMES  ?= 1
 TRACE  ?= traces/screens/weighing.trace
 PREFIX ?= /usr/local
+# make itself, for the scripts that test it (a line with MAKE runs under -n too)
+MAKING := $(MAKE)
 Q      := $(if $(filter-out 0,$(V)),,@)
 
 ifeq ($(shell uname -m),x86_64)
@@ -61,7 +63,7 @@ ARCHIVE  := $(OUT)/libssd1815b.a
 SHARED   := $(OUT)/libssd1815b.so
 
 .PHONY: tool show shared install uninstall test compare calls check-tool \
-        check-traces check-install check-python sanitize mutants bench \
+        check-traces check-install check-python check-papers sanitize mutants bench \
         instructions traces spread oracle cross clean help
 .DELETE_ON_ERROR:
 
@@ -92,6 +94,7 @@ help:
 	@echo 'make check-traces  every trace, yours in traces/recorded too: oracle beside the tool'
 	@echo 'make check-install an installation in an empty folder, and C programs built against it'
 	@echo 'make check-python  the Python module: the samples of document 01, its errors, its README'
+	@echo 'make check-papers  the commands of the papers, as they stand, in a copy'
 	@echo 'make sanitize      the tests of the C side with address and undefined-behaviour checks'
 	@echo 'make mutants       damaged plain C, which the comparison must catch'
 	@echo 'make bench         the library beside plain C: time'
@@ -124,14 +127,14 @@ check-tool: $(TOOL) $(NO_PNG) $(PARTS)
 	host/test/refusals.sh $(RUN) $(TOOL)
 	host/test/pictures.sh '$(RUN) $(TOOL)' '$(RUN) $(NO_PNG)'
 	host/test/terminal.sh $(RUN) $(TOOL)
-	MODEL=$(MODEL) MAKE='$(MAKE)' host/test/makefile.sh
+	MODEL=$(MODEL) MAKE=$(MAKING) host/test/makefile.sh
 
 check-traces: $(TOOL) oracle
 	traces/check.sh $(ORACLE) $(RUN) $(TOOL)
 	traces/test.sh $(ORACLE) $(RUN) $(TOOL)
 
 check-install: $(TOOL) $(ARCHIVE) $(SHARED)
-	MAKE='$(MAKE)' MODEL=$(MODEL) CC=$(CC) install/test.sh $(RUN)
+	MAKE=$(MAKING) MODEL=$(MODEL) CC=$(CC) install/test.sh $(RUN)
 
 # Off x86-64 the machine's Python cannot load the library, so there the C is
 # plain and native.
@@ -142,6 +145,10 @@ else
 check-python:
 	$(MAKE) check-python MODEL=plain NATIVE=yes CROSS= RUN= CC=gcc VARIANT=-native
 endif
+
+check-papers:
+	.ci/papers
+	host/test/papers.sh
 
 # The library itself is not compiled with these checks; its steps outside what
 # it is lent are seen by the rooms of host/compare/room.h.  Off x86-64 the

@@ -251,6 +251,9 @@ told_at 2 'write 00 x 132' 'command 30'
 told_at 3 'reset' '' 'bytes 01 00'
 told_at 3 '# no trace' 'text A' 'record 0005 00'
 told_at 2 'command 81' 'write 00'
+check 'typed.py: the line of the awaited code' out_has "  $own/mine.txt:1: command 81"
+told_at 3 '# column' 'command 0F 18' 'write AA'
+check 'typed.py: the line of the column' out_has "  $own/mine.txt:2: command 0F 18"
 typed "$copy/traces/rules/bits.txt"
 check 'typed.py: taken, status 0' status_is 0
 check 'typed.py: taken, no line' [ -z "$(line_of '.*bits.txt')" ]
