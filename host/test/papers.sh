@@ -43,10 +43,16 @@ paper '    cd traces' '    make help' '' 'Then' '' '    make help'
 check 'a folder is kept in its block: no Makefile there' said 'paper.md:2: FAILED: make help'
 check 'a folder is kept in its block alone' said 'paper.md:6: make help'
 
+# shellcheck disable=SC2016  # the shell of the paper has the variable
+paper '    export THING=help' '    make $THING' '' 'Then' '' '    make help$THING'
+check 'a variable is kept in its block' said '^papers: 3 commands, 3 run, 0 failed$'
+
 paper '    make help' '    .ci/run   # all' '    make test'
 check 'not run: status 0' status_is 0
 check 'not run: the gate' said 'paper.md:2: .ci/run   # all \(not run: it is the gate, or this\)'
 check 'not run: a target that is there' said 'paper.md:3: make test \(not run: the gate runs it by itself\)'
+paper '    make help' '    make install' '    make install PREFIX=/usr'
+check 'not run: an installation outside the copy' said '^papers: 3 commands, 1 run, 0 failed$'
 
 paper '    make \\' '      help'
 check 'a line that goes on' said '^papers: 1 commands, 1 run, 0 failed$'
