@@ -54,6 +54,7 @@ check 'not run: a target that is there' said 'paper.md:3: make test \(not run: t
 paper '    make help' '    make install' '    make install PREFIX=/usr'
 check 'not run: an installation outside the copy' said '^papers: 3 commands, 1 run, 0 failed$'
 
+# shellcheck disable=SC1003  # a backslash at the end of a line
 paper '    make \\' '      help'
 check 'a line that goes on' said '^papers: 1 commands, 1 run, 0 failed$'
 paper 'No command.' '' '    frame 132 65' '    end'
