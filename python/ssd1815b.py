@@ -21,7 +21,6 @@ No two threads are in the library at once: a call holds Python's lock.
 from __future__ import annotations
 
 import ctypes
-import ctypes.util
 import enum
 import functools
 import os
@@ -151,6 +150,7 @@ class LibraryNotFound(OSError):
 # ---- the library ----
 
 NAME = "libssd1815b.so"
+SYSTEM_NAME = "libssd1815b.so.4"  # of this version
 BYTE = ctypes.c_uint8
 SIZE = ctypes.c_size_t
 BYTES = ctypes.POINTER(BYTE)
@@ -185,10 +185,7 @@ def library_path() -> str:
         warnings.warn("ssd1815b: plain C, which is not proved, as the proved library is not built (`make shared`)",
                       stacklevel=2)
         return str(built / "plain" / NAME)
-    system = ctypes.util.find_library("ssd1815b")
-    if system is None:
-        raise LibraryNotFound(f"no {NAME}: `make shared` builds it, or SSD1815B_LIBRARY says where it is")
-    return system
+    return SYSTEM_NAME
 
 
 @functools.lru_cache(maxsize=None)
@@ -198,6 +195,8 @@ def _library() -> ctypes.PyDLL:
     try:
         loaded = ctypes.PyDLL(path)
     except OSError as failure:
+        if path == SYSTEM_NAME:
+            raise LibraryNotFound(f"no {NAME}: `make shared` builds it, or SSD1815B_LIBRARY says where it is") from None
         raise LibraryNotFound(f"{path} cannot be loaded: {failure}") from failure
     for name, parameters in _CALLS.items():
         call = getattr(loaded, name, None)

@@ -7,6 +7,7 @@ What is expected is what document 01 says.  SSD1815B_LIBRARY names the library.
 from __future__ import annotations
 
 import contextlib
+import copy
 import io
 import os
 import pathlib
@@ -135,6 +136,13 @@ class Calls(unittest.TestCase):
         chip.write(0x55)
         self.assertEqual(chip.start(), 0)
         self.assertEqual((chip.state, chip.memory), (POWER_ON, bytes(1188)))
+
+    def test_a_copy_is_a_chip_of_its_own(self) -> None:
+        chip = commanded(0xAF)
+        other = copy.deepcopy(chip)
+        other.write(0x55)
+        self.assertEqual((chip.memory[0], other.memory[0]), (0, 0x55))
+        self.assertEqual((chip.state[Register.COLUMN], other.state[Register.COLUMN]), (0, 1))
 
     def test_reset_pin(self) -> None:
         chip = commanded(0xAF, 0x81)
@@ -298,6 +306,11 @@ class Header(unittest.TestCase):
             if not name.startswith("VERSION"):
                 self.assertEqual(names[name], int(value), name)
 
+    def test_version(self) -> None:
+        version = re.search(r'^#define SSD1815B_VERSION +"(\d+)\.', HEADER.read_text(), re.M)
+        assert version
+        self.assertEqual(ssd1815b.SYSTEM_NAME, f"libssd1815b.so.{version[1]}")
+
     def test_calls(self) -> None:
         declared = re.findall(r"^uint8_t (ssd1815b_\w+)\(", HEADER.read_text(), re.M)
         self.assertEqual(sorted(declared), sorted(ssd1815b._CALLS))
@@ -340,8 +353,13 @@ class Library(unittest.TestCase):
         named = self.put("elsewhere/any.so")
         self.assertEqual(self.asked(SSD1815B_LIBRARY=named).stdout.strip(), named)
 
+    def test_installed(self) -> None:
+        self.put(f"lib/{ssd1815b.SYSTEM_NAME}")
+        said = self.asked(LD_LIBRARY_PATH=str(self.root / "lib"))
+        self.assertEqual((said.stdout.strip(), said.stderr), (ssd1815b.SYSTEM_NAME, ""))
+
     def test_none(self) -> None:
-        said = self.asked(PATH="/nowhere")
+        said = self.asked()
         if said.returncode != 0:  # else one is installed on this machine
             self.assertIn("no libssd1815b.so: `make shared` builds it, or SSD1815B_LIBRARY says where", said.stderr)
 

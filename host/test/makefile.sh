@@ -74,26 +74,28 @@ mkdir -p target/staticlib && ar rcs target/staticlib/libhost.a
 echo 'rt: target/staticlib/libhost.a has the functions of host that are marked #[no_mangle] pub extern "C"'
 END
 chmod +x "$here/bin/rt"
-building=("$MAKE" --no-print-directory -C "$copy" MODEL=proved)
-ran env PATH="$here/bin:$PATH" "${building[@]}"
+# As by itself, whatever this make was called with.
+apart=(env -u MAKEFLAGS -u VARIANT -u EXTRA -u V)
+building=("${apart[@]}" PATH="$here/bin:$PATH" "$MAKE" --no-print-directory -C "$copy" MODEL=proved)
+ran "${building[@]}"
 check 'building: status 0' status_is 0
 check 'building: that it takes minutes is said before' grep -q "^proving the library's 3 crates: some minutes" "$copy/said"
 sed -i '1d; s/host ([0-9]* s)/host (N s)/' "$here/out"
 check 'building: a line for each crate, and the tool' \
   out_is $'proved codes (6 s)\nproved bus (unchanged since it was last proved)\nproved host (N s)\ntarget/c/proved/ssd1815b'
 check 'building: nothing on standard error' nothing_on err
-ran env PATH="$here/bin:$PATH" "${building[@]}"
+ran "${building[@]}"
 check 'building again: the tool alone' out_is target/c/proved/ssd1815b
 
 rm -r "$copy/target"
-ran env PATH="$here/bin:$PATH" "${building[@]}" V=1
+ran "${building[@]}" V=1
 check 'building with V=1: status 0' status_is 0
 check 'building with V=1: command lines' grep -q '^[^ ]*gcc .*host/tool/main.c' "$here/out"
 check 'building with V=1: what the prover says' out_has 'fn codes::command_of: proved'
 
 rm -r "$copy/target"
 : > "$copy/broken"
-ran env PATH="$here/bin:$PATH" "${building[@]}"
+ran "${building[@]}"
 check 'building what is not proved: status 2' status_is 2
 check 'building what is not proved: all that the prover says' out_has 'rt: host NOT PROVED (exit 1, 2 s)'
 check 'building what is not proved: no tool' [ ! -e "$copy/target/c/proved/ssd1815b" ]
@@ -105,7 +107,7 @@ mkdir "$here/without"
 for command in bash sh cat mkdir sed uname {,x86_64-linux-gnu-}{gcc,as,ld} qemu-x86_64; do
   path=$(command -v "$command") && ln -s "$path" "$here/without/$command"
 done
-without=(env PATH="$here/without" "$(command -v "$MAKE")" --no-print-directory -C "$copy")
+without=("${apart[@]}" PATH="$here/without" "$(command -v "$MAKE")" --no-print-directory -C "$copy")
 ran "${without[@]}" MODEL=proved show
 check 'no rt: status 2' status_is 2
 check 'no rt: said' err_has 'there is no rt on the PATH'
