@@ -1,21 +1,21 @@
 -- What an answer stands for: its number, and for what is no read byte 0 and not "dummy".
 -- Assumes nothing.
 use mathlib.Core.Path.{_≡_, refl, sym}
-use mathlib.Core.Bool.{false, cond, false≢true}
-use mathlib.Core.List.{List}
+use mathlib.Core.Bool.{Bool, true, false, cond, false≢true}
+use mathlib.Core.List.{List, [], _∷_}
 use Prim.Native.Nat.{ℕ, _≤_, _<_}
 use native.Mathlib.Omega.{arith}
 use lib.Dec.{leb, ltb, eqb, lit≤}
-use lib.ListN.{length}
+use lib.ListN.{length, getD}
 use borrow.Author.Tests.{eqb-true, eqb-false}
 use Rattle.codes.specs.Table.{meaningOf}
 use Rattle.codes.specs.declared.Command.{Command}
 use Rattle.codes.proofs.Tests.{chosen}
+use Rattle.codes.proofs.Others.{sortOf}
 use Rattle.constants.specs.Sizes.{lastColumn, pages, memorySize}
-use Rattle.constants.specs.Numbers.{taken, columnAbove}
+use Rattle.constants.specs.Numbers.{taken, outOfRange, outsideTable, noPage, notAllowed, codeAwaited, columnAbove}
 use Rattle.bus.specs.Events.{numberOf, obeyed, command, access, write, read, resetPin}
 use Rattle.bus.specs.Chip.{Event, commandByte, dataWritten, dataRead, resetPulse, step}
-use Rattle.bus.specs.Given.{numberOfCommand, numberOfEvent, isRead}
 use Rattle.bus.specs.declared.registers.Registers.{Registers}
 use Rattle.bus.specs.declared.answer.After.{After}
 use Rattle.bus.specs.declared.answer.Answer.{Answer}
@@ -29,6 +29,24 @@ StandsFor number (Answer.Refused refusal) = (number ≡ refusal) × (taken < ref
 abbrev pub Silent : Answer → Type 0
 Silent (Answer.Taken after) = (after .byte ≡ 0) × (after .dummy ≡ false)
 Silent (Answer.Refused number) = Unit {0}
+
+-- the number of a named command: 0 of one that the table has, 4 of B9-BF, 5 of an n that is not allowed, 2 of one whose code is none of the seven, 3 of a byte outside
+abbrev pub numberOfCommand : Command → ℕ
+numberOfCommand named = getD (taken ∷ noPage ∷ notAllowed ∷ outOfRange ∷ outsideTable ∷ []) (sortOf named) taken
+
+-- what the registers of a legal state meet
+abbrev pub numberOfEvent : Event → Registers → ℕ
+numberOfEvent (commandByte b) r = numberOfCommand (meaningOf (r .awaited) b)
+numberOfEvent (dataWritten b) r = cond (eqb (r .awaited) 0) (cond (leb (r .column) lastColumn) taken columnAbove) codeAwaited
+numberOfEvent dataRead r = cond (eqb (r .awaited) 0) (cond (leb (r .column) lastColumn) taken columnAbove) codeAwaited
+numberOfEvent resetPulse r = taken
+
+-- a data byte read
+abbrev pub isRead : Event → Bool
+isRead (commandByte b) = false
+isRead (dataWritten b) = false
+isRead dataRead = true
+isRead resetPulse = false
 
 obeyed-answers : (named : Command) (r : Registers) → StandsFor (numberOfCommand named) (obeyed named r) × Silent (obeyed named r)
 unfolding obeyed

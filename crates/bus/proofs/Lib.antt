@@ -9,6 +9,7 @@ pub mod Untouched
 pub mod Settled
 pub mod Ranges
 pub mod Exactly
+pub mod Given
 pub mod Stored
 pub mod Waiting
 pub mod StaysLegal

@@ -1,11 +1,22 @@
+-- the place of each register in the image
 pub mod Places
+-- the image, the ranges, power-on, one register set
 pub mod Registers
+-- where a byte lies, what of it is kept, the column after it
 pub mod Memory
+-- what each of the four events answers, and the memory that a write leaves
 pub mod Events
+-- the chip as a machine: registers and memory, a step for each event
 pub mod Chip
+-- when a lent image is legal; refusals 1 and 2
 pub mod Image
+-- the whole outcome of a call
 pub mod Calls
-pub mod Given
+-- why some laws take bytes below 256
 pub mod Bytes
+-- what is legal stays legal
 pub mod StaysLegal
+-- each number exactly when, with its byte and dummy mark
+pub mod Given
+-- a call on lent images is the event on the chip
 pub mod CallsOnChip
