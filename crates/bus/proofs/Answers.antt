@@ -15,7 +15,7 @@ use Rattle.codes.proofs.Others.{sortOf}
 use Rattle.constants.specs.Sizes.{lastColumn, pages, memorySize}
 use Rattle.constants.specs.Numbers.{taken, outOfRange, outsideTable, noPage, notAllowed, codeAwaited, columnAbove}
 use Rattle.bus.specs.Events.{numberOf, obeyed, command, access, write, read, resetPin}
-use Rattle.bus.specs.Chip.{Event, commandByte, dataWritten, dataRead, resetPulse, step}
+use Rattle.bus.specs.Chip.{Event, commandByte, dataWritten, dataRead, resetPulse, step, Leaves}
 use Rattle.bus.specs.declared.registers.Registers.{Registers}
 use Rattle.bus.specs.declared.answer.After.{After}
 use Rattle.bus.specs.declared.answer.Answer.{Answer}
@@ -48,37 +48,37 @@ isRead (dataWritten b) = false
 isRead dataRead = true
 isRead resetPulse = false
 
-obeyed-answers : (named : Command) (r : Registers) → StandsFor (numberOfCommand named) (obeyed named r) × Silent (obeyed named r)
+obeyed-answers : (named : Command) (r : Registers) → StandsFor (numberOfCommand named) (obeyed named r) × Silent (obeyed named r) × Leaves (λ later. later .fresh ≡ 1) (obeyed named r)
 unfolding obeyed
-obeyed-answers (Command.ColumnLow value) r = (refl, (refl, refl))
-obeyed-answers (Command.ColumnHigh value) r = (refl, (refl, refl))
-obeyed-answers (Command.ResistorRatio value) r = (refl, (refl, refl))
-obeyed-answers (Command.PowerControl value) r = (refl, (refl, refl))
-obeyed-answers (Command.StartLine value) r = (refl, (refl, refl))
-obeyed-answers (Command.Contrast value) r = (refl, (refl, refl))
-obeyed-answers (Command.ColumnDirection value) r = (refl, (refl, refl))
-obeyed-answers (Command.Bias value) r = (refl, (refl, refl))
-obeyed-answers (Command.EntireOn value) r = (refl, (refl, refl))
-obeyed-answers (Command.Reverse value) r = (refl, (refl, refl))
-obeyed-answers (Command.Multiplex value) r = (refl, (refl, refl))
-obeyed-answers (Command.HeldByte value) r = (refl, (refl, refl))
-obeyed-answers (Command.QuarterBias value) r = (refl, (refl, refl))
-obeyed-answers Command.IndicatorOff r = (refl, (refl, refl))
-obeyed-answers (Command.IndicatorMode value) r = (refl, (refl, refl))
-obeyed-answers (Command.DisplayOn value) r = (refl, (refl, refl))
-obeyed-answers (Command.Page value) r = (refl, (refl, refl))
-obeyed-answers Command.NoPage r = ((refl, lit≤ tt, lit≤ tt), tt)
-obeyed-answers (Command.RowDirection value) r = (refl, (refl, refl))
-obeyed-answers (Command.Offset value) r = (refl, (refl, refl))
-obeyed-answers (Command.FramePhases value) r = (refl, (refl, refl))
-obeyed-answers Command.EnterReadModifyWrite r = (refl, (refl, refl))
-obeyed-answers Command.SoftwareReset r = (refl, (refl, refl))
-obeyed-answers Command.Nothing r = (refl, (refl, refl))
-obeyed-answers Command.LeaveReadModifyWrite r = (refl, (refl, refl))
-obeyed-answers (Command.Await value) r = (refl, (refl, refl))
-obeyed-answers Command.NotAllowed r = ((refl, lit≤ tt, lit≤ tt), tt)
-obeyed-answers Command.NotAwaited r = ((refl, lit≤ tt, lit≤ tt), tt)
-obeyed-answers Command.Outside r = ((refl, lit≤ tt, lit≤ tt), tt)
+obeyed-answers (Command.ColumnLow value) r = (refl, (refl, refl), refl)
+obeyed-answers (Command.ColumnHigh value) r = (refl, (refl, refl), refl)
+obeyed-answers (Command.ResistorRatio value) r = (refl, (refl, refl), refl)
+obeyed-answers (Command.PowerControl value) r = (refl, (refl, refl), refl)
+obeyed-answers (Command.StartLine value) r = (refl, (refl, refl), refl)
+obeyed-answers (Command.Contrast value) r = (refl, (refl, refl), refl)
+obeyed-answers (Command.ColumnDirection value) r = (refl, (refl, refl), refl)
+obeyed-answers (Command.Bias value) r = (refl, (refl, refl), refl)
+obeyed-answers (Command.EntireOn value) r = (refl, (refl, refl), refl)
+obeyed-answers (Command.Reverse value) r = (refl, (refl, refl), refl)
+obeyed-answers (Command.Multiplex value) r = (refl, (refl, refl), refl)
+obeyed-answers (Command.HeldByte value) r = (refl, (refl, refl), refl)
+obeyed-answers (Command.QuarterBias value) r = (refl, (refl, refl), refl)
+obeyed-answers Command.IndicatorOff r = (refl, (refl, refl), refl)
+obeyed-answers (Command.IndicatorMode value) r = (refl, (refl, refl), refl)
+obeyed-answers (Command.DisplayOn value) r = (refl, (refl, refl), refl)
+obeyed-answers (Command.Page value) r = (refl, (refl, refl), refl)
+obeyed-answers Command.NoPage r = ((refl, lit≤ tt, lit≤ tt), tt, tt)
+obeyed-answers (Command.RowDirection value) r = (refl, (refl, refl), refl)
+obeyed-answers (Command.Offset value) r = (refl, (refl, refl), refl)
+obeyed-answers (Command.FramePhases value) r = (refl, (refl, refl), refl)
+obeyed-answers Command.EnterReadModifyWrite r = (refl, (refl, refl), refl)
+obeyed-answers Command.SoftwareReset r = (refl, (refl, refl), refl)
+obeyed-answers Command.Nothing r = (refl, (refl, refl), refl)
+obeyed-answers Command.LeaveReadModifyWrite r = (refl, (refl, refl), refl)
+obeyed-answers (Command.Await value) r = (refl, (refl, refl), refl)
+obeyed-answers Command.NotAllowed r = ((refl, lit≤ tt, lit≤ tt), tt, tt)
+obeyed-answers Command.NotAwaited r = ((refl, lit≤ tt, lit≤ tt), tt, tt)
+obeyed-answers Command.Outside r = ((refl, lit≤ tt, lit≤ tt), tt, tt)
 
 abbrev Small : ℕ → Type 0
 Small number = number ≤ columnAbove
@@ -115,6 +115,11 @@ step-answers resetPulse r memory = refl
 pub command-silent : (b : ℕ) (r : Registers) → Silent (command b r)
 unfolding command
 command-silent b r = obeyed-answers (meaningOf (r .awaited) b) _ .1
+
+-- every command byte taken sets fresh to 1
+pub command-fresh : (b : ℕ) (r : Registers) → Leaves (λ later. later .fresh ≡ 1) (command b r)
+unfolding command
+command-fresh b r = obeyed-answers (meaningOf (r .awaited) b) _ .2
 
 pub step-silent : (event : Event) (r : Registers) (memory : List ℕ) → isRead event ≡ false → Silent (step event r memory .answer)
 unfolding step write resetPin

@@ -14,7 +14,7 @@ use Rattle.codes.specs.OneOf.{oneOf}
 use Rattle.codes.specs.Others.{others, among}
 use Rattle.codes.specs.Table.{table, offsetOf, framePhasesOf, commandOf, operandBy, operandOf, meaningOf}
 use Rattle.codes.specs.declared.Command.{Command}
-use Rattle.codes.proofs.Tests.{chosen, either}
+use Rattle.codes.proofs.Tests.{chosen, one-of-each}
 use Rattle.codes.proofs.Others.{sort-listed, past-all}
 use Rattle.constants.specs.Sizes.{lastColumn, pages, memorySize}
 use Rattle.constants.specs.Numbers.{taken, tooShort, outOfRange, outsideTable, noPage, notAllowed}
@@ -137,15 +137,6 @@ reply-given event state memory = rw (asked-table event state memory) (by (short 
 -- so is its number
 pub number-given : (event : Event) (state memory : List ℕ) → call event state memory .reply .number ≡ numberGiven event state memory
 number-given event state memory = ap (λ (reply : Reply). reply .number) (reply-given event state memory)
-
--- what holds at each number of a list holds of one of them
-abbrev Each : (ℕ → Type 0) → List ℕ → Type 0
-Each P [] = Unit {0}
-Each P (m ∷ ms) = P m × Each P ms
-
-one-of-each : (P : ℕ → Type 0) (ms : List ℕ) (n : ℕ) → Each P ms → oneOf ms n ≡ true → P n
-one-of-each P [] n p e = absurd (false≢true e)
-one-of-each P (m ∷ ms) n p e = ⊎-elim (λ q. subst P (sym (eqb-true n m q)) (p .0)) (one-of-each P ms n (p .1)) (either (eqb n m) (oneOf ms n) e)
 
 -- a number that is neither 1 nor 2
 abbrev pub Neither : ℕ → Type 0

@@ -14,9 +14,17 @@ pub mod Image
 pub mod Calls
 -- why some laws take bytes below 256
 pub mod Bytes
+-- image and registers convert without loss
+pub mod ThereAndBack
+-- the image's order and the awaited codes, listed twice
+pub mod TablesAgree
+-- the two readings of a command byte
+pub mod Awaiting
 -- what is legal stays legal
 pub mod StaysLegal
 -- each number exactly when, with its byte and dummy mark
 pub mod Given
+-- what a call leaves as it was, and the one byte that a write changes
+pub mod Untouched
 -- a call on lent images is the event on the chip
 pub mod CallsOnChip
