@@ -28,3 +28,5 @@ pub mod Given
 pub mod Untouched
 -- a call on lent images is the event on the chip
 pub mod CallsOnChip
+-- one result for each statement
+pub mod Settled
