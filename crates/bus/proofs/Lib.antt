@@ -7,9 +7,10 @@ pub mod Kept
 pub mod Answers
 pub mod Untouched
 pub mod Settled
-pub mod Ranges
+pub mod TablesAgree
 pub mod Exactly
+pub mod Given
 pub mod Stored
-pub mod Waiting
+pub mod Awaiting
 pub mod StaysLegal
 pub mod CallsOnChip
