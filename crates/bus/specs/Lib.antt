@@ -3,6 +3,9 @@ pub mod Registers
 pub mod Memory
 pub mod Events
 pub mod Chip
+pub mod Result
+pub mod Recorded
+pub mod Stretch
 pub mod Image
 pub mod Calls
 pub mod Given
