@@ -6,6 +6,7 @@ pub mod Chip
 pub mod Result
 pub mod Recorded
 pub mod Stretch
+pub mod Stretches
 pub mod Image
 pub mod Calls
 pub mod Given
