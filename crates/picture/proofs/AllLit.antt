@@ -11,7 +11,7 @@ use lib.Dec.{ltb}
 use Rattle.bus.specs.declared.registers.Registers.{Registers}
 use Rattle.constants.specs.Sizes.{height}
 use Rattle.picture.specs.Scan.{Scan, ramRow, comOf, used, ramRowOf, panelShows, rowShows}
-use Rattle.picture.specs.Rows.{scanOf}
+use Rattle.picture.specs.Rows.{rowsInUse, scanOf}
 use Rattle.picture.specs.Frame.{whileOn}
 use Rattle.picture.specs.declared.rows.PanelRow.{PanelRow}
 use Rattle.picture.specs.declared.rows.Shown.{Shown}
@@ -21,10 +21,10 @@ pub all-used : (s : Scan) (row : PanelRow) → 0 < s .size → s .inUse ≡ s .s
 unfolding used comOf
 all-used s row pos all = rw all (lt-ltb ((row .0 + s .shift) % s .size) (s .size) (mod-lt _ pos))
 
-pub all-lit : (r : Registers) (memory : List ℕ) (row : PanelRow) (x : ℕ) → r .multiplex ≡ 63 → r .entire ≡ 1 → whileOn r memory (rowShows (scanOf r) row) x ≡ 1
+pub all-lit : (r : Registers) (memory : List ℕ) (row : PanelRow) (x : ℕ) → rowsInUse r ≡ height → r .entire ≡ 1 → whileOn r memory (rowShows (scanOf r) row) x ≡ 1
 unfolding whileOn panelShows rowShows
 all-lit r memory row x all entire = by (ltb (row .0) height)
   where
     by : (t : Bool) → whileOn r memory (cond t (cond (used (scanOf r) (comOf (scanOf r) row)) (Shown.Ram (ramRowOf (scanOf r) (comOf (scanOf r) row))) Shown.Dark) (Shown.Ram (ramRow height))) x ≡ 1
-    by true = rw (all-used (scanOf r) row (omega arith) (omega arith), eq-eqb _ _ entire)
+    by true = rw (all-used (scanOf r) row (omega arith) all, eq-eqb _ _ entire)
     by false = rw (eq-eqb _ _ entire)

@@ -63,7 +63,7 @@ bit-same memory other e row column l k = by (decLt (row .0) height)
     by : Dec (row .0 < height) → getD memory (address (row .0 / 8) column) 0 / 2 ^ (row .0 % 8) % 2 ≡ getD other (address (row .0 / 8) column) 0 / 2 ^ (row .0 % 8) % 2
     by (yes m) = ap (λ byte. byte / 2 ^ (row .0 % 8) % 2) (e .pages (address (row .0 / 8) column) (omega arith))
     by (no n) =
-        let icons : row .0 ≡ 64 = omega arith in
+        let icons : row .0 ≡ height = omega arith in
         rw icons (omega (arith, e .icons column k))
 
 -- memories with the same bits are drawn as the same frame by every setting
