@@ -38,6 +38,9 @@ run --scale=1 "$here/lit.trace"
 line=3$(printf 'f%.0s' {1..32})c
 check 'PBM: the last panel row, two blank lines, the icons, the margin' \
   [ "$(part $((11 + 65 * 17)) 102)" = "$line$(printf '%068d' 0)$line$(printf '%068d' 0)" ]
+run --scale 1 < <(bytes 02 00 01 00 AF B8 01 00 02 00 01)
+check 'PBM: one icon, and nothing else' \
+  [ "$(part 11 $((71 * 17)))" = "$(printf '%0*d' $((68 * 34)) 0)20$(printf '%0*d' $((2 * (71 * 17 - 68 * 17) - 2)) 0)" ]
 run < <(bytes 01 00 01 00 B9)
 check 'refused: status 1' status_is 1
 check 'refused: on standard error' err_has 'refused 4 at 4'

@@ -145,6 +145,10 @@ looks 'this looks like a listing' < <("${tool[@]}" list 2> /dev/null < <(bytes 0
 looks 'this looks like a PBM picture' < <("${tool[@]}" picture < /dev/null)
 looks 'this looks like a PNG picture' < <(printf '\x89PNG\r\n\x1A\n\0\0\0\rIHDR')
 looks 'this looks like a gzip file' < <(printf 'command AF\n' | gzip)
+looks 'this looks like a trace whose numbers have their higher byte first' < <(bytes 00 01 00 01 AF)
+looks 'this looks like no trace' < <(bytes AB CD EF E1 F2)
+looks 'this looks like no trace' < <(bytes 00 00 01 01)
+looks 'this looks like no trace' < <(bytes 00 00 00 05)
 looks 'every byte read from there on is 00 (hex)' < <(head -c 5000 /dev/zero)
 looks 'every byte read from there on is FF (hex)' < <(bytes FF FF FF FF FF FF)
 looks 'every byte read from there on is 00 (hex)' < <(bytes 01 00 01 00 AF 00 00 00 00 00 00)
@@ -156,11 +160,14 @@ looks_like_nothing() {
   check "looks: nothing is said ($*)" [ "$(grep -cE 'looks like|every byte' "$here/err")" -eq 0 ]
 }
 looks_like_nothing 01 00 01
-looks_like_nothing 00 00 01 01
+looks_like_nothing 01 00 04 00 AF
 looks_like_nothing 01 00 01 00 AF 05 00 01 00
-looks_like_nothing AB CD EF E1 F2
+looks_like_nothing 05 00 03 00 AF
 looks_like_nothing 01 00 01 00 30
-# Text that a good trace goes on with is no text source.
+# Text, or a picture's beginning, that a good trace goes on with is neither; and
+# a few bytes are no filling.
 looks_like_nothing 01 00 01 00 AF 63 6F 6D 6D 61 6E 64
+looks_like_nothing 01 00 01 00 AF 50 34 0A 31
+looks_like_nothing 01 00 01 00 AF 00 00 00
 
 checks_end refusals

@@ -70,6 +70,9 @@ done
 check 'junk: no more is read than is needed' [ ! -e "$here/read-whole" ]
 { head -c 50000000 /dev/zero 2> /dev/null && : > "$here/listed-whole"; } | ran "${tool[@]}" list || true
 check 'junk: list reads no more than is needed' [ ! -e "$here/listed-whole" ]
+{ bytes "${sample[@]}"; head -c 50000000 /dev/zero 2> /dev/null && : > "$here/cut-whole"; } |
+  ran "${tool[@]}" state --after 2 || true
+check 'after: what comes later is not read' [ ! -e "$here/cut-whole" ]
 
 # ---- after N records ----
 
@@ -281,6 +284,7 @@ wrong '--after is not for check' check --after 2
 wrong '--after needs a number' list --after
 wrong '--after takes a number of records, not -1' list --after -1
 wrong '--after takes a number of records, not ' list --after=
+wrong '--after takes a number of records, not 18446744073709551615' list --after 18446744073709551615
 wrong '--after takes a number of records, not 99999999999999999999999' list --after 99999999999999999999999
 wrong '-o needs a file' picture -o
 wrong 'no value is taken by --png' picture --png=yes

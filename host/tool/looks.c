@@ -3,6 +3,8 @@
 #include <stdbool.h>
 #include <string.h>
 
+#include "kinds.h"
+
 /* How much of the input is looked at for text. */
 enum { LOOKED_AT = 4096 };
 
@@ -59,18 +61,48 @@ static bool is_one_byte(const uint8_t *bytes, size_t length)
   return i == length;
 }
 
+/* What the first header of a trace says that no header can. */
+static const char *first_header(const uint8_t *header)
+{
+  bool kind = header[3] == 0 && header[2] >= KIND_COMMANDS
+              && header[2] <= KIND_RESET_PIN;
+  bool turned = header[2] == 0 && header[3] >= KIND_COMMANDS
+                && header[3] <= KIND_RESET_PIN;
+  if (kind) {
+    return NULL;
+  }
+  return turned
+           ? "a trace whose numbers have their higher byte first; they are"
+             " wanted with the lower byte first"
+           : "no trace: a record begins with the length of its payload and its"
+             " kind, 1 to 4,\n  two bytes each, the lower byte first";
+}
+
+/* What the whole input looks like, or null. */
+static const char *whole_input(const uint8_t *bytes, size_t length)
+{
+  const char *words = begins_as(bytes, length);
+  if (words == NULL && is_text(bytes, length)) {
+    words = "text; if it is the source of a trace, traces/make.py FILE.txt"
+            " makes FILE.trace of it";
+  }
+  return words != NULL ? words : first_header(bytes);
+}
+
 void looks_print(FILE *out, const struct played *played, size_t first)
 {
   const uint8_t *bytes = played->trace + first;
   size_t length = played->trace_len - first;
-  const char *words = first == 0 ? begins_as(bytes, length) : NULL;
-  if (words != NULL) {
-    fprintf(out, "  this looks like %s\n", words);
-  } else if (length >= 4 && is_one_byte(bytes, length)) {
+  if (length < HEADER_SIZE) {
+    return;
+  }
+  if (is_one_byte(bytes, length)) {
     fprintf(out, "  every byte read from there on is %02X (hex): filling, or a"
             " recording that ended before\n", bytes[0]);
-  } else if (first == 0 && length >= 4 && is_text(bytes, length)) {
-    fputs("  this looks like text; if it is the source of a trace,"
-          " traces/make.py FILE.txt makes FILE.trace of it\n", out);
+    return;
+  }
+  const char *words = first == 0 ? whole_input(bytes, length) : NULL;
+  if (words != NULL) {
+    fprintf(out, "  this looks like %s\n", words);
   }
 }

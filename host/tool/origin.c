@@ -11,12 +11,11 @@ struct origin {
   uint8_t to;
 };
 
-/* Keeps the last event after which a code is awaited that was not before. */
+/* Keeps the last event after which a code is awaited. */
 static void see_code(const struct event *event, void *context)
 {
   struct origin *origin = context;
-  uint8_t awaited = event->after[SSD1815B_AWAITED_CODE];
-  if (awaited != 0 && awaited != event->before[SSD1815B_AWAITED_CODE]) {
+  if (event->after[SSD1815B_AWAITED_CODE] != 0) {
     origin->event = *event;
   }
 }
@@ -41,7 +40,7 @@ static void print_bytes(FILE *out, const struct played *played,
 
 void origin_print_code(FILE *out, const struct played *played)
 {
-  struct origin origin;
+  struct origin origin = { 0 };
   replay(played, see_code, &origin);
   uint8_t code = played->state[SSD1815B_AWAITED_CODE];
   fprintf(out, "  awaited is the n of %02X (%s), a command byte, since %zu"
@@ -52,7 +51,7 @@ void origin_print_code(FILE *out, const struct played *played)
 
 void origin_print_column(FILE *out, const struct played *played)
 {
-  struct origin origin;
+  struct origin origin = { 0 };
   replay(played, see_column, &origin);
   uint8_t byte = played->trace[origin.event.offset];
   fprintf(out, "  the column is %u, above 131 since %zu (0x%zX) in record %zu:"
