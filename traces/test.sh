@@ -230,6 +230,7 @@ typed "$own/mine.txt"
 check 'typed.py: refused, status 1' status_is 1
 check 'typed.py: the line' out_has "$own/mine.txt:7: command D3 40"
 check "typed.py: the tool's words follow" [ "$(line_of 'refused 5 at 21 (0x15): ')" -eq $(($(line_of "$own/mine.txt:7:") + 1)) ]
+check 'typed.py: the line, once' [ "$(grep -c "$own/mine.txt:7:" "$here/out")" -eq 1 ]
 check 'typed.py: the screen is shown' [ "$(line_of "$own/mine.txt")" -gt 30 ]
 check 'typed.py: nothing is written' [ ! -e "$own/mine.trace" ]
 typed list "$own/mine.txt"

@@ -79,11 +79,13 @@ def told_line(source, lines, match):
 
 
 def told(words, source, lines):
-    """What the tool printed, with the lines of the source that it speaks of."""
-    rows = []
+    """What the tool printed, with the lines of the source that it speaks of, each once."""
+    rows, said = [], set()
     for row in words.splitlines(keepends=True):
+        refused = told_line(source, lines, REFUSED.match(row))
         earlier = told_line(source, lines, EARLIER.match(row))
-        rows += [told_line(source, lines, REFUSED.match(row)), row, b"  " + earlier if earlier else b""]
+        rows += [refused, row, b"  " + earlier if earlier and earlier not in said else b""]
+        said |= {refused, earlier}
     return b"".join(rows)
 
 
