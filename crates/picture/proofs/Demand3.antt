@@ -29,7 +29,8 @@ use Rattle.picture.proofs.Places.{frame-row, bits-show}
 use Rattle.picture.proofs.Turns.{turnOf, up, down, decided}
 use Rattle.picture.proofs.Bijection.{Bijection, one}
 use Rattle.picture.proofs.Bijection.{one-place as only-place}
-use Rattle.picture.proofs.AllRows.{Bounds, bounds, leavingIcons, ramOf, rowShowing, scroll-below, rows-both-ways, columns-bijection, row-shows, place-shows}
+use Rattle.picture.proofs.AllRows.{leavingIcons, columns-bijection}
+use Rattle.picture.proofs.FullSettings.{Bounds, bounds, scroll-below, ramOf, rowShowing, rows-both-ways, row-shows, place-shows}
 
 -- a memory of zeros
 blank : List ℕ
