@@ -2,9 +2,8 @@
 -- Assumes nothing.
 use mathlib.Core.Path.{_≡_, _∙_, ap}
 use mathlib.Core.List.{List}
-use Prim.Native.Nat.{ℕ, _<_}
+use Prim.Native.Nat.{ℕ, _%_, _<_}
 use native.Mathlib.Omega.{arith}
-use native.Mathlib.Nat.{mod-eq-of-lt}
 use lib.Dec.{eqb}
 use Rattle.constants.specs.Sizes.{width, height, frameRows}
 use Rattle.bus.specs.Places
@@ -13,7 +12,7 @@ use Rattle.bus.specs.Memory.{address}
 use Rattle.bus.proofs.Kept.{legal-facts, bound}
 use Rattle.bus.specs.declared.registers.Registers.{Registers}
 use Rattle.picture.specs.Scan.{panelRow, ramRow, rowShows, columnOf}
-use Rattle.picture.specs.Rows.{rowsInUse, scanOf}
+use Rattle.picture.specs.Rows.{rowsInUse, shift, scanOf}
 use Rattle.picture.specs.Frame.{bit, turned, shownBit, frame, placeOf}
 use Rattle.picture.specs.Demand3.{Full, scroll}
 use Rattle.picture.proofs.Bijection.{Bijection}
@@ -64,9 +63,12 @@ rows-both-ways r = rows-bijection height (eqb (r .«row_direction») 0) (scroll 
 
 module _ (r : Registers) (b : Bounds r) where
   -- this chip's shift, with all rows in use, is the offset
+  full-shift : shift r % height ≡ r .offset
+  full-shift = omega (arith, b .offset, b .allRows)
+
   full-scroll : scrollOf (scanOf r) ≡ scroll r
   unfolding scroll
-  full-scroll = ap (amount height (eqb (r .«row_direction») 0) (r .start)) (mod-eq-of-lt (b .offset))
+  full-scroll = ap (amount height (eqb (r .«row_direction») 0) (r .start)) full-shift
 
   pub row-shows : (y : ℕ) → rowShows (scanOf r) (panelRow y) ≡ Shown.Ram (ramRow (ramOf r y))
   row-shows y = rows-shown (scanOf r) (b .allRows) (b .start) y ∙ ap (λ c. Shown.Ram (ramRow (leavingIcons height (turnOf height (eqb (r .«row_direction») 0) c) y))) full-scroll
