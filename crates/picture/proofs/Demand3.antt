@@ -269,13 +269,13 @@ module _ (r s : Registers) (b : Bounds r) (d : Bounds s) (same : (memory : List 
         line = turns .1;
       }
 
--- the demand is not empty: power-on with the display on is such a setting
-pub full-once-on : Full (powerOn with on ≔ 1)
+full-once-on : Full (powerOn with on ≔ 1)
 unfolding ranges largestValues powerOn within awaitedCodes legal
 full-once-on = record { inRange = refl; allRows = refl; on = refl; notLit = refl }
 
 pub demand3 : Demand3
 demand3 = record {
+  onceOn = full-once-on;
   eachBit = λ r full row column l k. one-place r (bounds r full) row column l k;
   eachPlace = λ r full y x l k. some-bit r (bounds r full) y x l k;
   scrolls = λ r full n memory. scrolled r (bounds r full) n memory;
