@@ -6,8 +6,14 @@ pub mod Asking
 pub mod Kept
 pub mod Answers
 pub mod Untouched
+pub mod Replayed
+pub mod Stretches
+pub mod Alone
 pub mod Settled
-pub mod Ranges
+pub mod TablesAgree
 pub mod Exactly
+pub mod Given
 pub mod Stored
-pub mod Waiting
+pub mod Awaiting
+pub mod StaysLegal
+pub mod CallsOnChip

@@ -1,6 +1,6 @@
 -- The chip as a machine: its state is registers and display memory, and each bus event is a step.
 use Prim.Native.Nat.{ℕ}
-use mathlib.Core.List.{List}
+use mathlib.Core.List.{List, [], _∷_}
 use lib.ListN.{length}
 use Rattle.bus.specs.Events.{command, write, written, read, resetPin}
 use Rattle.bus.specs.declared.registers.Registers.{Registers}
@@ -33,6 +33,11 @@ unfoldable pub registersAfter : Answer → Registers → Registers
 registersAfter (Answer.Taken after) r = after .registers
 registersAfter (Answer.Refused number) r = r
 
+-- What holds of the registers that a taken event leaves.
+abbrev pub Leaves : (Registers → Type 0) → Answer → Type 0
+Leaves P (Answer.Taken after) = P (after .registers)
+Leaves P (Answer.Refused number) = Unit {0}
+
 -- The chip after an event.
 unfoldable pub chipAfter : Event → Chip → Chip
 chipAfter event chip =
@@ -40,3 +45,8 @@ chipAfter event chip =
       registers = registersAfter (step event (chip .registers) (chip .memory) .answer) (chip .registers);
       memory = step event (chip .registers) (chip .memory) .memory;
     }
+
+-- The chip after events, one by one.
+unfoldable pub after : List Event → Chip → Chip
+after [] chip = chip
+after (event ∷ events) chip = after events (chipAfter event chip)
