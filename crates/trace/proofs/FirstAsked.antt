@@ -25,7 +25,8 @@ use Rattle.trace.specs.Kinds.{Recorded, event, readAs, chipOf, happened,
 use Rattle.trace.specs.OneByOne.{Placed, Script, script, scriptFrom, applied}
 use Rattle.trace.specs.Run.{Ran, ran, stopOf, ranOf, run}
 use Rattle.trace.proofs.OneByOne.{one-by-one}
-use Rattle.trace.proofs.Kept.{All, Bytes, Gives, split-of-bytes}
+use Rattle.trace.specs.Bytes.{All, Bytes}
+use Rattle.trace.proofs.Kept.{Gives, split-carries}
 use Rattle.trace.proofs.Held.{Held, Brings, replay-held}
 use Rattle.trace.proofs.Payloads.{by-kind}
 use Rattle.trace.proofs.Sound.{Refusing, headed}
@@ -96,7 +97,7 @@ module _ (state memory trace : List ℕ) where
   found-neither r found bytes =
       let all = scriptFrom theChip (split trace) 0 in
       rw (run-found state memory r found trace, one-by-one theChip (split trace) 0 (chipOf r memory))
-      (applied-neither memory (fits state memory r found .display) (all .events) (all .number) (all .offset) (all .count) (script-brings (split trace) 0 (split-of-bytes 0 0 trace bytes)) (script-neither (split trace) 0) (chipOf r memory) (record { registers = asked-legal state memory r found; size = refl; past = refl }))
+      (applied-neither memory (fits state memory r found .display) (all .events) (all .number) (all .offset) (all .count) (script-brings (split trace) 0 (split-carries _ 0 0 trace bytes)) (script-neither (split trace) 0) (chipOf r memory) (record { registers = asked-legal state memory r found; size = refl; past = refl }))
 
   -- refused first: offset and count are 0, and state and memory stay
   pub one-leaves : short state memory ≡ true → run state memory trace ≡ ran (stopOf tooShort 0 0) state memory

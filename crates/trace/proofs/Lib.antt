@@ -18,8 +18,9 @@ pub mod Kept
 pub mod Held
 pub mod Runs
 pub mod ByCalls
+pub mod Meeting
 pub mod RecordStops
 pub mod RunStops
 pub mod FirstAsked
-pub mod Exactly
+pub mod Given
 pub mod Alone

@@ -22,8 +22,9 @@ use Rattle.trace.specs.Code.{playedOf}
 use Rattle.trace.specs.declared.run.Stop.{Stop}
 use Rattle.trace.specs.declared.run.Finish.{Finish}
 use Rattle.trace.proofs.Joined.{taken-offset, joined}
-use Rattle.trace.proofs.Kept.{Bytes, split-of-bytes, play-keeps}
-use Rattle.trace.proofs.Held.{Held, Brings, brings, replay-held}
+use Rattle.trace.specs.Bytes.{Bytes}
+use Rattle.trace.proofs.Kept.{split-carries, play-keeps, all-any}
+use Rattle.trace.proofs.Held.{Held, Aside, Brings, Anything, brings, brings-any, replay-held, replay-aside}
 use Rattle.trace.proofs.Sound.{the-chip-sound}
 
 -- a run's outcome with the offset and the count of another before it added
@@ -59,7 +60,7 @@ module _ (state memory : List ℕ) (r : Registers) (found : asked state memory �
 
   pub left-held : (trace : List ℕ) → Bytes trace → Held memory (play theChip (split trace) (chipOf r memory) .state)
   unfolding split
-  left-held trace b = play-keeps theChip (Held memory) Brings brings (replay-held memory) (split trace) 0 (chipOf r memory) (split-of-bytes 0 0 trace b) (record { registers = asked-legal state memory r found; size = refl; past = refl })
+  left-held trace b = play-keeps theChip _ (Held memory) Brings brings (replay-held memory) (split trace) 0 (chipOf r memory) (split-carries _ 0 0 trace b) (record { registers = asked-legal state memory r found; size = refl; past = refl })
 
   -- a run from a legal image leaves a legal image
   pub run-legal : (trace : List ℕ) → Bytes trace → asked (run state memory trace .state) (run state memory trace .memory) ≡ Asked.Found (play theChip (split trace) (chipOf r memory) .state .registers)
@@ -68,9 +69,13 @@ module _ (state memory : List ℕ) (r : Registers) (found : asked state memory �
       let h = left-held trace b in
       rw (run-found trace) (asked-stored state (fits .image) _ _ (omega (arith, h .size, fits .display)) (h .registers))
 
-  past-found : (trace : List ℕ) → Bytes trace → (drop imageSize (run state memory trace .state) ≡ drop imageSize state) × (drop memorySize (run state memory trace .memory) ≡ drop memorySize memory)
+  left-aside : (trace : List ℕ) → Aside memory (play theChip (split trace) (chipOf r memory) .state)
+  unfolding split
+  left-aside trace = play-keeps theChip _ (Aside memory) Anything brings-any (replay-aside memory) (split trace) 0 (chipOf r memory) (split-carries _ 0 0 trace (all-any trace)) (record { size = refl; past = refl })
+
+  past-found : (trace : List ℕ) → (drop imageSize (run state memory trace .state) ≡ drop imageSize state) × (drop memorySize (run state memory trace .memory) ≡ drop memorySize memory)
   unfolding ranOf
-  past-found trace b = rw (run-found trace) (stored-past state (fits .image) _, left-held trace b .past)
+  past-found trace = rw (run-found trace) (stored-past state (fits .image) _, left-aside trace .past)
 
   offset-found : (trace : List ℕ) → run state memory trace .stop .number ≡ taken → run state memory trace .stop .offset ≡ length trace
   unfolding ranOf
@@ -106,8 +111,8 @@ module _ (state memory : List ℕ) where
       by (Asked.Refused number) e = refused number e
 
   -- no byte past the needed lengths changes
-  pub run-past : (trace : List ℕ) → Bytes trace → (drop imageSize (run state memory trace .state) ≡ drop imageSize state) × (drop memorySize (run state memory trace .memory) ≡ drop memorySize memory)
-  run-past trace bytes = by-asking _ (λ r e. past-found state memory r e trace bytes) (λ number e. rw (refused-run trace number e) (refl, refl))
+  pub run-past : (trace : List ℕ) → (drop imageSize (run state memory trace .state) ≡ drop imageSize state) × (drop memorySize (run state memory trace .memory) ≡ drop memorySize memory)
+  run-past trace = by-asking _ (λ r e. past-found state memory r e trace) (λ number e. rw (refused-run trace number e) (refl, refl))
 
   -- where all is taken the offset is the trace's length
   pub run-offset : (trace : List ℕ) → run state memory trace .stop .number ≡ taken → run state memory trace .stop .offset ≡ length trace

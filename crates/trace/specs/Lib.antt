@@ -1,9 +1,10 @@
+pub mod Bytes
 pub mod Records
 pub mod Front
 pub mod Play
 pub mod Kinds
 pub mod Code
 pub mod Run
-pub mod Given
 pub mod OneByOne
 pub mod ByCalls
+pub mod Given
