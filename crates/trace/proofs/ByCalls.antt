@@ -28,7 +28,8 @@ use Rattle.trace.specs.ByCalls.{calledBy, meets, byCalls, runByCalls}
 use Rattle.trace.specs.Run.{ran, stopOf, ranOf, run}
 use Rattle.trace.proofs.OneByOne.{one-by-one}
 use Rattle.trace.specs.Bytes.{All, Bytes}
-use Rattle.trace.proofs.Kept.{Carries, Gives, split-carries}
+use Rattle.trace.proofs.Kept.{Carries, split-carries}
+use Rattle.trace.specs.AnyMachine.{Gives}
 use Rattle.trace.proofs.Held.{Brings, brings}
 use Rattle.trace.proofs.Runs.{run-found, fits}
 use Rattle.bus.specs.declared.image.Asked.{Asked}

@@ -26,7 +26,8 @@ use Rattle.trace.specs.OneByOne.{Placed, Script, script, scriptFrom, app
 use Rattle.trace.specs.Run.{Ran, ran, stopOf, ranOf, run}
 use Rattle.trace.proofs.OneByOne.{one-by-one}
 use Rattle.trace.specs.Bytes.{All, Bytes}
-use Rattle.trace.proofs.Kept.{Gives, split-carries}
+use Rattle.trace.proofs.Kept.{split-carries}
+use Rattle.trace.specs.AnyMachine.{Gives}
 use Rattle.trace.proofs.Held.{Held, Brings, replay-held}
 use Rattle.trace.proofs.Payloads.{by-kind}
 use Rattle.trace.proofs.Sound.{Refusing, headed}

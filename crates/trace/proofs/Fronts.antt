@@ -11,9 +11,8 @@ use lib.ListN.{length, drop, length-drop}
 use lib.Seq.{length-take-le, getD-drop}
 use Rattle.codes.proofs.Tests.{both, chosen}
 use Rattle.constants.specs.Sizes.{headerSize}
-use Rattle.trace.specs.Records.{lengthOf, kindOf, payloadOf, whole, number}
+use Rattle.trace.specs.Records.{lengthOf, kindOf, payloadOf, whole, CutShort, fewBytes, pastEnd, number}
 use Rattle.trace.specs.Front.{frontOf}
-use Rattle.trace.specs.Given.{CutShort, fewBytes, pastEnd}
 use Rattle.trace.specs.declared.records.Front.{Front}
 use native.Mathlib.Nat.{add-zero}
 

@@ -7,6 +7,7 @@ use Prim.Native.Nat.{ℕ, zero, suc, _+_}
 use native.Mathlib.Omega.{arith}
 use Rattle.constants.specs.Sizes.{headerSize}
 use Rattle.trace.specs.Records.{Record, Trace, ended, cut, _then_, lengthOf, whole, recordAt, splitFrom}
+use Rattle.trace.specs.AnyMachine.{further}
 use Rattle.trace.proofs.Cases.{by-cases}
 use Rattle.trace.specs.Play.{Machine, Ending, stopped, done, onEnding, Played, played, playEvents, playRecord, playFrom}
 
@@ -27,9 +28,6 @@ endingFurther k (done s) = done s
 pub is-done : {S : Type 0} (k : ℕ) (ending : Ending S) {t : S} → endingFurther k ending ≡ done t → ending ≡ done t
 is-done k (stopped number offset s) e = absurd (let z : _≡_ {A = ℕ} 0 1 = cc in omega arith)
 is-done k (done s) e = e
-
-abbrev pub further : {S : Type 0} → ℕ → ℕ → Played S → Played S
-further k c p = played (p .number) (k + p .offset) (c + p .count) (p .state)
 
 split-choice : (k : ℕ) (there : Bool) (r : Record) (rest rest′ : Trace) (offset : ℕ) → rest′ ≡ traceFurther k rest → cond there (recordFurther k r then rest′) (cut (k + offset)) ≡ traceFurther k (cond there (r then rest) (cut offset))
 split-choice k true r rest rest′ offset e = rw e

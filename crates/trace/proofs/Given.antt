@@ -24,19 +24,20 @@ use Rattle.bus.specs.declared.calls.Reply.{Reply}
 use Rattle.bus.proofs.Asking.{found-legal}
 use Rattle.bus.proofs.Stored.{call-stored}
 use Rattle.trace.specs.Bytes.{All, Bytes}
-use Rattle.trace.specs.Records.{Trace, ended, cut, _then_, lengthOf, kindOf, recordBytes, recordAt, splitFrom, split}
+use Rattle.trace.specs.Records.{Trace, ended, cut, _then_, lengthOf, kindOf, recordBytes, recordAt, splitFrom, split, recordsIn}
 use Rattle.trace.specs.Play.{Result, refuses, gives, onResult, Ending, stopped, done, played, onEnding, playEvents, playRecord, playFrom, play}
 use Rattle.trace.specs.Kinds.{Recorded, eventsOf, replay, chipOf, theChip}
 use Rattle.trace.specs.OneByOne.{Placed, placed, Script, script, scriptFrom}
 use Rattle.trace.specs.ByCalls.{calledBy, meets, byCalls, runByCalls}
 use Rattle.trace.specs.Run.{Ran, ran, stopOf, ranOf, run}
-use Rattle.trace.specs.Given.{GivesAt, stoppedAfter, HeaderCut, KindUnknown, Unknown, noKind, loaded, recordedBy, ranBefore, metThere, EventRefused, eventNumbers, KnownRecords, recordsIn, eventsIn, EachTaken, AllTaken, NumbersGiven}
+use Rattle.trace.specs.Given.{GivesAt, stoppedAfter, HeaderCut, KindUnknown, Unknown, noKind, loaded, recordedBy, ranBefore, metThere, EventRefused, eventNumbers, KnownRecords, eventsIn, EachTaken, AllTaken, NumbersGiven}
 use Rattle.trace.specs.declared.run.Stop.{Stop}
+use Rattle.trace.specs.AnyMachine.{Gives, further}
 use Rattle.trace.proofs.Rest.{rest, plays-cut, plays-stop}
 use Rattle.trace.proofs.Joined.{Ends, endOf, ends-at, Stops, events-stop, joined}
-use Rattle.trace.proofs.Further.{endingFurther, further, events-further, is-done}
+use Rattle.trace.proofs.Further.{endingFurther, events-further, is-done}
 use Rattle.trace.proofs.Written.{split-written}
-use Rattle.trace.proofs.Kept.{Leaves, Gives, all-drop, all-take, events-keep}
+use Rattle.trace.proofs.Kept.{Leaves, all-drop, all-take, events-keep}
 use Rattle.trace.proofs.Held.{Held, Brings, brings, replay-held}
 use Rattle.trace.proofs.Standing.{within-trace}
 use Rattle.trace.proofs.Turn.{playBytes, turn-refused, then-bytes}

@@ -11,10 +11,11 @@ use lib.ListN.{length, drop, length-append, length-drop, List·getD-append}
 use lib.Seq.{take-append-le, drop-append-le}
 use Rattle.constants.specs.Numbers.{taken}
 use Rattle.constants.specs.Sizes.{headerSize}
-use Rattle.trace.specs.Records.{Record, Trace, ended, cut, _then_, number, lengthOf, payloadOf, whole, recordAt, splitFrom, split}
+use Rattle.trace.specs.Records.{Record, Trace, ended, cut, _then_, number, lengthOf, payloadOf, whole, recordAt, splitFrom, split, recordsIn}
 use Rattle.trace.specs.Play.{Result, refuses, gives, onResult, Machine, Ending, stopped, done, onEnding, Played, played, playEvents, playRecord, playFrom, play}
+use Rattle.trace.specs.AnyMachine.{Sound, further}
 use Rattle.trace.proofs.Fronts.{room}
-use Rattle.trace.proofs.Further.{traceFurther, further, split-further, play-further}
+use Rattle.trace.proofs.Further.{traceFurther, split-further, play-further}
 
 -- whole records have nothing cut behind them
 abbrev pub Ends : Trace → Type 0
@@ -91,11 +92,6 @@ ends-at zero offset (byte ∷ a) p q =
     record-ends offset (offset + suc (length a)) all (splitFrom (3 + lengthOf all) (offset + 1) a) (whole all) refl q
     (λ there ends. rw e (ends-at (3 + lengthOf all) (offset + 1) a (omega (arith, room all there .1)) ends))
 
--- A machine that refuses with no 0, which is the number of what is taken.
-pub record Sound {S E : Type 0} (machine : Machine S E) : Type 0 where
-  pub events : (kind : ℕ) (payload : List ℕ) (number : ℕ) → machine .events kind payload ≡ refuses number → number ≡ taken → ⊥
-  pub step : (event : E) (s : S) (number : ℕ) → machine .step event s ≡ refuses number → number ≡ taken → ⊥
-
 module _ {S E : Type 0} (machine : Machine S E) (sound : Sound machine) where
   -- what a record stops with is no 0
   abbrev pub Stops : Ending S → Type 0
@@ -116,22 +112,23 @@ module _ {S E : Type 0} (machine : Machine S E) (sound : Sound machine) where
   record-stops r s = stops (machine .events (r .kind) (r .payload)) (λ events. playEvents machine events (r .place + headerSize) s) (r .place) s (sound .events (r .kind) (r .payload)) (λ events. events-stop events (r .place + headerSize) s)
 
   -- a trace that is taken whole ends, and more is played from what it left
-  record TakenWhole (trace : Trace) (p : Played S) (joined : Trace → Played S) : Type 0 where
+  record TakenWhole (trace : Trace) (before : ℕ) (p : Played S) (joined : Trace → Played S) : Type 0 where
     ends : Ends trace
     offset : p .offset ≡ endOf trace
+    count : p .count ≡ before + recordsIn trace
     more : (others : Trace) → joined others ≡ playFrom machine others (p .count) (p .state)
 
   then-whole : (ending : Ending S) → Stops ending → (r : Record) (rest : Trace) (count : ℕ) → onEnding ending (λ n o t. played n o count t) (λ t. playFrom machine rest (count + 1) t) .number ≡ taken
-      → ((t : S) → playFrom machine rest (count + 1) t .number ≡ taken → TakenWhole rest (playFrom machine rest (count + 1) t) (λ others. playFrom machine (onto rest others) (count + 1) t))
-      → TakenWhole (r then rest) (onEnding ending (λ n o t. played n o count t) (λ t. playFrom machine rest (count + 1) t)) (λ others. onEnding ending (λ n o t. played n o count t) (λ t. playFrom machine (onto rest others) (count + 1) t))
+      → ((t : S) → playFrom machine rest (count + 1) t .number ≡ taken → TakenWhole rest (count + 1) (playFrom machine rest (count + 1) t) (λ others. playFrom machine (onto rest others) (count + 1) t))
+      → TakenWhole (r then rest) count (onEnding ending (λ n o t. played n o count t) (λ t. playFrom machine rest (count + 1) t)) (λ others. onEnding ending (λ n o t. played n o count t) (λ t. playFrom machine (onto rest others) (count + 1) t))
   then-whole (stopped number offset t) stop r rest count h later = absurd (stop h)
   then-whole (done t) stop r rest count h later =
       let w = later t h in
-      record { ends = w .ends; offset = w .offset; more = w .more }
+      record { ends = w .ends; offset = w .offset; count = omega (arith, w .count); more = w .more }
 
-  taken-whole : (trace : Trace) (count : ℕ) (s : S) → playFrom machine trace count s .number ≡ taken → TakenWhole trace (playFrom machine trace count s) (λ others. playFrom machine (onto trace others) count s)
+  taken-whole : (trace : Trace) (count : ℕ) (s : S) → playFrom machine trace count s .number ≡ taken → TakenWhole trace count (playFrom machine trace count s) (λ others. playFrom machine (onto trace others) count s)
   unfolding playFrom
-  taken-whole (ended offset) count s h = record { ends = tt; offset = refl; more = λ others. refl }
+  taken-whole (ended offset) count s h = record { ends = tt; offset = refl; count = sym (add-zero count); more = λ others. refl }
   taken-whole (cut offset) count s h = absurd (omega arith)
   taken-whole (r then rest) count s h = then-whole (playRecord machine r s) (record-stops r s) r rest count h (λ t. taken-whole rest (count + 1) t)
 
@@ -145,13 +142,17 @@ module _ {S E : Type 0} (machine : Machine S E) (sound : Sound machine) where
       play-further machine offset count (splitFrom 0 0 b) 0 t
 
   module _ (a b : List ℕ) (s : S) (h : play machine (split a) s .number ≡ taken) where
-    at-whole : TakenWhole (split a) (play machine (split a) s) (λ others. play machine (onto (split a) others) s)
+    at-whole : TakenWhole (split a) 0 (play machine (split a) s) (λ others. play machine (onto (split a) others) s)
     at-whole = taken-whole (split a) 0 s h
 
     -- all is taken: the offset is the trace's length
     pub taken-offset : play machine (split a) s .offset ≡ length a
     unfolding split
     taken-offset = at-whole .offset ∙ ends-at 0 0 a (omega arith) (at-whole .ends) ∙ zero-add (length a)
+
+    -- and the count is of all its records
+    pub taken-count : play machine (split a) s .count ≡ recordsIn (split a)
+    taken-count = at-whole .count ∙ zero-add (recordsIn (split a))
 
     pub joined : play machine (split (a ++ b)) s ≡ further (play machine (split a) s .offset) (play machine (split a) s .count) (play machine (split b) (play machine (split a) s .state))
     unfolding split

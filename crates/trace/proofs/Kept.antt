@@ -6,6 +6,7 @@ use Prim.Native.Nat.{ℕ, zero, suc, _+_}
 use lib.ListN.{take, drop}
 use Rattle.constants.specs.Sizes.{headerSize}
 use Rattle.trace.specs.Bytes.{All}
+use Rattle.trace.specs.AnyMachine.{Gives}
 use Rattle.trace.specs.Records.{Record, Trace, ended, cut, _then_, lengthOf, whole, recordAt, splitFrom}
 use Rattle.trace.specs.Play.{Result, refuses, gives, onResult, Machine, Ending, stopped, done, onEnding, Played, played, playEvents, playRecord, playFrom}
 
@@ -42,11 +43,6 @@ module _ (R : ℕ → Type 0) where
   split-carries zero offset (byte ∷ bytes) h =
       let all = byte ∷ bytes in
       carries (whole all) (recordAt offset all) _ offset (all-take _ (lengthOf all) (drop headerSize all) (all-drop _ headerSize all h)) (split-carries (3 + lengthOf all) (offset + 1) bytes (h .1))
-
--- what holds of what a result gives
-abbrev pub Gives : {A : Type 0} → (A → Type 0) → Result A → Type 0
-Gives P (refuses number) = Unit {0}
-Gives P (gives a) = P a
 
 abbrev pub Leaves : {S : Type 0} → (S → Type 0) → Ending S → Type 0
 Leaves P (stopped number offset s) = P s

@@ -24,3 +24,6 @@ pub mod RunStops
 pub mod FirstAsked
 pub mod Given
 pub mod Alone
+pub mod ReaderWalk
+pub mod Settled
+pub mod AnyMachine

@@ -55,13 +55,13 @@ abbrev pub rest : List ℕ → ℕ → Trace
 rest trace at = splitFrom 0 at (drop at trace)
 
 module _ (trace : List ℕ) (at : ℕ) where
-  rest-nothing : frontOf (drop at trace) ≡ Front.Nothing → rest trace at ≡ ended at
+  pub rest-nothing : frontOf (drop at trace) ≡ Front.Nothing → rest trace at ≡ ended at
   rest-nothing h = split-nothing at (drop at trace) (tells (drop at trace) h)
 
-  rest-cut : frontOf (drop at trace) ≡ Front.Cut → rest trace at ≡ cut at
+  pub rest-cut : frontOf (drop at trace) ≡ Front.Cut → rest trace at ≡ cut at
   rest-cut h = let found = tells (drop at trace) h in split-cut at (drop at trace) (found .0) (found .1)
 
-  rest-whole : (header : Header) → frontOf (drop at trace) ≡ Front.Whole header → rest trace at ≡ (recordAt at (drop at trace) then rest trace (at + headerSize + header .length))
+  pub rest-whole : (header : Header) → frontOf (drop at trace) ≡ Front.Whole header → rest trace at ≡ (recordAt at (drop at trace) then rest trace (at + headerSize + header .length))
   rest-whole header h =
       let e : at + (headerSize + header .length) ≡ at + headerSize + header .length = omega arith in
       split-whole at (drop at trace) (is-whole trace at header h) ∙ rw (its-length trace at header h, drop-drop (headerSize + header .length) at trace, e)

@@ -18,9 +18,10 @@ use Rattle.trace.specs.Play.{Played, played, playFrom, play}
 use Rattle.trace.specs.Kinds.{chipOf, theChip}
 use Rattle.trace.specs.Run.{Ran, ranOf, run}
 use Rattle.trace.specs.Given.{HeaderAt, HeaderCut, KindUnknown, recordedBy}
+use Rattle.trace.specs.AnyMachine.{Reached}
 use Rattle.trace.proofs.Rest.{rest}
 use Rattle.trace.proofs.Joined.{taken-offset}
-use Rattle.trace.proofs.First.{Reached, First, all, cutAt, stopAt, first, from-there}
+use Rattle.trace.proofs.First.{First, all, cutAt, stopAt, first, from-there}
 use Rattle.trace.proofs.Payloads.{by-kind}
 use Rattle.trace.proofs.Sound.{the-chip-sound}
 use Rattle.trace.proofs.Runs.{run-found, by-asking, refused-run, refused-taken}

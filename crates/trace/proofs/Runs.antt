@@ -1,4 +1,4 @@
--- The run's laws: two outcomes of its statement are equal; it leaves a legal image, and every byte past the needed lengths as it was; no records, and whole records followed by more.
+-- The run's laws: it leaves a legal image, and every byte past the needed lengths as it was; no records, and whole records followed by more.
 -- Assumes nothing.
 use mathlib.Core.Path.{_≡_, refl, sym, _∙_, ap, subst}
 use mathlib.Core.List.{List, [], _++_}
@@ -18,9 +18,7 @@ use Rattle.trace.specs.Records.{splitFrom, split}
 use Rattle.trace.specs.Play.{Played, playFrom, play}
 use Rattle.trace.specs.Kinds.{chipOf, theChip}
 use Rattle.trace.specs.Run.{Ran, ran, stopOf, ranOf, runOn, run}
-use Rattle.trace.specs.Code.{playedOf}
 use Rattle.trace.specs.declared.run.Stop.{Stop}
-use Rattle.trace.specs.declared.run.Finish.{Finish}
 use Rattle.trace.proofs.Joined.{taken-offset, joined}
 use Rattle.trace.specs.Bytes.{Bytes}
 use Rattle.trace.proofs.Kept.{split-carries, play-keeps, all-any}
@@ -30,19 +28,6 @@ use Rattle.trace.proofs.Sound.{the-chip-sound}
 -- a run's outcome with the offset and the count of another before it added
 abbrev pub runFurther : Stop → Ran → Ran
 runFurther before r = ran (stopOf (r .stop .number) (before .offset + r .stop .offset) (before .count + r .stop .count)) (r .state) (r .memory)
-
--- two outcomes that satisfy the run's statement are equal
-pub same-run : {stated : Ran} (s t : Stop) (state state′ memory memory′ : List ℕ) → ran s state memory ≡ stated → ran t state′ memory′ ≡ stated → (s ≡ t) × (state ≡ state′) × (memory ≡ memory′)
-same-run s t state state′ memory memory′ p q =
-    let e = p ∙ sym q in
-    (ap (λ r. r .stop) e, ap (λ r. r .state) e, ap (λ r. r .memory) e)
-
--- and so are two that satisfy the play's
-pub same-play : {stated : Played Chip} (f g : Finish) (memory memory′ : List ℕ) → playedOf f memory ≡ stated → playedOf g memory′ ≡ stated → (f ≡ g) × (memory ≡ memory′)
-unfolding playedOf
-same-play f g memory memory′ p q =
-    let e = p ∙ sym q in
-    (rw (ap (λ r. r .number) e, ap (λ r. r .offset) e, ap (λ r. r .count) e, ap (λ r. r .state .registers) e), ap (λ r. r .state .memory) e)
 
 -- the run of a trace on a legal state and memory, which hold registers r
 module _ (state memory : List ℕ) (r : Registers) (found : asked state memory ≡ Asked.Found r) where

@@ -15,7 +15,7 @@ use Rattle.bus.proofs.Answers.{StandsFor, step-answers}
 use Rattle.trace.specs.Play.{Result, refuses, gives}
 use Rattle.trace.specs.Kinds.{Recorded, event, readAs, chipOf, happened, compared, replay, theChip}
 use Rattle.trace.proofs.Payloads.{Kind, commands, writes, reads, reset, none, by-kind}
-use Rattle.trace.proofs.Joined.{Sound}
+use Rattle.trace.specs.AnyMachine.{Sound}
 
 -- what holds of the number that a result refuses with
 abbrev pub Refusing : {A : Type 0} → (ℕ → Type 0) → Result A → Type 0

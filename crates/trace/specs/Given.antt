@@ -13,7 +13,7 @@ use Rattle.codes.specs.OneOf.{oneOf}
 use Rattle.bus.specs.Image.{short, legal}
 use Rattle.bus.specs.Calls.{call}
 use Rattle.trace.specs.Bytes.{Bytes}
-use Rattle.trace.specs.Records.{Trace, ended, cut, _then_, lengthOf, kindOf, whole, recordBytes, split}
+use Rattle.trace.specs.Records.{Trace, ended, cut, _then_, lengthOf, kindOf, whole, CutShort, recordBytes, split, recordsIn}
 use Rattle.trace.specs.Kinds.{Recorded, command, write, readAs, theChip}
 use Rattle.trace.specs.OneByOne.{Placed, scriptFrom}
 use Rattle.trace.specs.ByCalls.{calledBy, meets, byCalls}
@@ -30,11 +30,6 @@ stoppedAfter number offset before = ran (stopOf number offset (before .stop .cou
 -- A header should stand at an offset: the bytes before it run, and all are taken.
 abbrev pub HeaderAt : List ℕ → List ℕ → List ℕ → ℕ → Type 0
 HeaderAt state memory trace offset = run state memory (take offset trace) .stop .number ≡ taken
-
--- One to three bytes are left, or the payload is past the end.
-pub data CutShort (left : List ℕ) : Type 0 where
-  fewBytes : 0 < length left → length left < headerSize → CutShort left
-  pastEnd : headerSize ≤ length left → length left < headerSize + lengthOf left → CutShort left
 
 -- The kind is not 1 to 4, or 4 with a payload.
 pub data Unknown (kind size : ℕ) : Type 0 where
@@ -90,12 +85,6 @@ abbrev pub KnownRecords : Trace → Type 0
 KnownRecords (ended offset) = Unit {0}
 KnownRecords (cut offset) = ⊥
 KnownRecords (r then rest) = (Unknown (r .kind) (length (r .payload)) → ⊥) × KnownRecords rest
-
--- The count of a trace's records.
-abbrev pub recordsIn : Trace → ℕ
-recordsIn (ended offset) = 0
-recordsIn (cut offset) = 0
-recordsIn (r then rest) = 1 + recordsIn rest
 
 -- The events of a trace, in order.
 abbrev pub eventsIn : List ℕ → List (Placed Recorded)

@@ -7,4 +7,7 @@ pub mod Code
 pub mod Run
 pub mod OneByOne
 pub mod ByCalls
+pub mod AnyMachine
 pub mod Given
+pub mod ReaderWalk
+pub mod Settled
