@@ -27,3 +27,4 @@ pub mod Alone
 pub mod ReaderWalk
 pub mod Settled
 pub mod AnyMachine
+pub mod RunLaws

@@ -4,7 +4,7 @@ use mathlib.Core.Path.{_≡_, refl, sym, _∙_, ap, subst}
 use mathlib.Core.List.{List, [], _++_}
 use Prim.Native.Nat.{ℕ, _+_}
 use native.Mathlib.Omega.{arith}
-use lib.ListN.{length, drop}
+use lib.ListN.{length, drop, length-drop}
 use Rattle.constants.specs.Sizes.{imageSize, memorySize}
 use Rattle.bus.specs.Chip.{Chip}
 use Rattle.constants.specs.Numbers.{taken}
@@ -13,21 +13,17 @@ use Rattle.bus.specs.declared.registers.Registers.{Registers}
 use Rattle.bus.specs.declared.image.Asked.{Asked}
 use Rattle.bus.proofs.Asking.{OneOrTwo, asked-refusal}
 use Rattle.bus.proofs.Kept.{asked-legal}
-use Rattle.bus.proofs.Stored.{Sized, sized, stored-own, stored-again, stored-past, asked-stored}
+use Rattle.bus.proofs.Stored.{Sized, sized, stored-long, stored-own, stored-again, stored-past, asked-stored}
 use Rattle.trace.specs.Records.{splitFrom, split}
 use Rattle.trace.specs.Play.{Played, playFrom, play}
 use Rattle.trace.specs.Kinds.{chipOf, theChip}
 use Rattle.trace.specs.Run.{Ran, ran, stopOf, ranOf, runOn, run}
-use Rattle.trace.specs.declared.run.Stop.{Stop}
+use Rattle.trace.specs.RunLaws.{runFurther}
 use Rattle.trace.proofs.Joined.{taken-offset, joined}
 use Rattle.trace.specs.Bytes.{Bytes}
 use Rattle.trace.proofs.Kept.{split-carries, play-keeps, all-any}
 use Rattle.trace.proofs.Held.{Held, Aside, Brings, Anything, brings, brings-any, replay-held, replay-aside}
 use Rattle.trace.proofs.Sound.{the-chip-sound}
-
--- a run's outcome with the offset and the count of another before it added
-abbrev pub runFurther : Stop → Ran → Ran
-runFurther before r = ran (stopOf (r .stop .number) (before .offset + r .stop .offset) (before .count + r .stop .count)) (r .state) (r .memory)
 
 -- the run of a trace on a legal state and memory, which hold registers r
 module _ (state memory : List ℕ) (r : Registers) (found : asked state memory ≡ Asked.Found r) where
@@ -61,6 +57,12 @@ module _ (state memory : List ℕ) (r : Registers) (found : asked state memory �
   past-found : (trace : List ℕ) → (drop imageSize (run state memory trace .state) ≡ drop imageSize state) × (drop memorySize (run state memory trace .memory) ≡ drop memorySize memory)
   unfolding ranOf
   past-found trace = rw (run-found trace) (stored-past state (fits .image) _, left-aside trace .past)
+
+  lengths-found : (trace : List ℕ) → (length (run state memory trace .state) ≡ length state) × (length (run state memory trace .memory) ≡ length memory)
+  unfolding ranOf
+  lengths-found trace =
+      let h = fits .image in
+      rw (run-found trace, stored-long state h (play theChip (split trace) (chipOf r memory) .state .registers)) (rw (length-drop imageSize state) (omega arith), left-aside trace .size)
 
   offset-found : (trace : List ℕ) → run state memory trace .stop .number ≡ taken → run state memory trace .stop .offset ≡ length trace
   unfolding ranOf
@@ -98,6 +100,9 @@ module _ (state memory : List ℕ) where
   -- no byte past the needed lengths changes
   pub run-past : (trace : List ℕ) → (drop imageSize (run state memory trace .state) ≡ drop imageSize state) × (drop memorySize (run state memory trace .memory) ≡ drop memorySize memory)
   run-past trace = by-asking _ (λ r e. past-found state memory r e trace) (λ number e. rw (refused-run trace number e) (refl, refl))
+
+  pub run-lengths : (trace : List ℕ) → (length (run state memory trace .state) ≡ length state) × (length (run state memory trace .memory) ≡ length memory)
+  run-lengths trace = by-asking _ (λ r e. lengths-found state memory r e trace) (λ number e. rw (refused-run trace number e) (refl, refl))
 
   -- where all is taken the offset is the trace's length
   pub run-offset : (trace : List ℕ) → run state memory trace .stop .number ≡ taken → run state memory trace .stop .offset ≡ length trace

@@ -17,7 +17,7 @@ use Rattle.trace.specs.Records.{Trace, ended, cut, _then_, lengthOf, kin
 use Rattle.trace.specs.Kinds.{Recorded, command, write, readAs, theChip}
 use Rattle.trace.specs.OneByOne.{Placed, scriptFrom}
 use Rattle.trace.specs.ByCalls.{calledBy, meets, byCalls}
-use Rattle.trace.specs.Run.{Ran, ran, stopOf, run}
+use Rattle.trace.specs.Run.{Ran, ran, stopOf, run, Accepted}
 
 -- A run gives a number at an offset.
 abbrev pub GivesAt : Ran → ℕ → ℕ → Type 0
@@ -99,8 +99,7 @@ EachTaken (p ∷ rest) state memory =
 
 -- 0: every record and every event is taken.
 pub record AllTaken (state memory trace : List ℕ) : Type 0 where
-  pub long : short state memory ≡ false
-  pub inRanges : legal state ≡ true
+  pub accepted : Accepted state memory
   pub records : KnownRecords (split trace)
   pub events : EachTaken (eventsIn trace) state memory
 

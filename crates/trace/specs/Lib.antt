@@ -9,5 +9,6 @@ pub mod OneByOne
 pub mod ByCalls
 pub mod AnyMachine
 pub mod Given
+pub mod RunLaws
 pub mod ReaderWalk
 pub mod Settled
