@@ -23,6 +23,8 @@ use Rattle.bus.specs.Memory.{onward}
 use Rattle.bus.specs.Events.{done, enter, leave, softwareReset, obeyed, command, access, moved, write, read, resetPin}
 use Rattle.bus.specs.Chip.{Event, commandByte, dataWritten, dataRead, resetPulse, step}
 use Rattle.bus.specs.Image.{within, awaitedCodes, legal, asked}
+pub use Rattle.bus.specs.Bytes.{IsByte}
+pub use Rattle.bus.specs.StaysLegal.{LegalRegisters, Keeps}
 use Rattle.bus.proofs.Legal.{long}
 use Rattle.bus.specs.declared.registers.Registers.{Registers}
 use Rattle.bus.specs.declared.answer.Answer.{Answer}
@@ -30,12 +32,6 @@ use Rattle.bus.proofs.Access.{opened}
 use Rattle.bus.proofs.Asking.{found-legal}
 use Rattle.bus.proofs.ThereAndBack.{image-registers, image-with}
 use Rattle.bus.specs.declared.image.Asked.{Asked}
-
--- the three parts of being legal, as facts of the registers
-pub record LegalRegisters (r : Registers) : Type 0 where
-  pub inRanges : within largestValues (imageOf r) ≡ true
-  pub code : oneOf awaitedCodes (r .awaited) ≡ true
-  pub savedZero : cond (eqb (r .modify) 0) (eqb (r .saved) 0) true ≡ true
 
 pub legal-facts : (r : Registers) → legal (imageOf r) ≡ true → LegalRegisters r
 unfolding legal
@@ -89,11 +85,6 @@ state-facts state h e =
 -- the ranges after a register is set to a value in its own
 put : (r : Registers) (place value : ℕ) → within largestValues (imageOf r) ≡ true → value ≤ getD largestValues place 0 → within largestValues (imageOf (r with place ≔ value)) ≡ true
 put r place value e h = rw (image-with r place value) (within-set largestValues (imageOf r) place value e h)
-
--- what an answer leaves is legal
-abbrev pub Keeps : Answer → Type 0
-Keeps (Answer.Taken after) = LegalRegisters (after .registers)
-Keeps (Answer.Refused number) = Unit {0}
 
 -- a taken command byte leaves what it set, with fresh 1
 done-keeps : (r : Registers) → LegalRegisters r → Keeps (done r)
@@ -226,16 +217,9 @@ read-keeps r memory l =
     taken-keeps (access r (length memory)) _
     (λ e. chosen Keeps (eqb (r .fresh) 1) _ _ (λ f. set-plain r fresh 0 l (lit≤ tt) refl refl refl) (λ g. chosen LegalRegisters (eqb (r .modify) 1) r (moved r) (λ f. l) (λ f. moved-keeps r (length memory) l e)))
 
-power-on-legal : LegalRegisters powerOn
+pub power-on-legal : LegalRegisters powerOn
 unfolding powerOn largestValues within awaitedCodes
 power-on-legal = record { inRanges = refl; code = refl; savedZero = refl }
-
--- the byte that an event brings
-abbrev pub IsByte : Event → Type 0
-IsByte (commandByte b) = b < 256
-IsByte (dataWritten b) = b < 256
-IsByte dataRead = Unit {0}
-IsByte resetPulse = Unit {0}
 
 pub step-keeps : (event : Event) (r : Registers) (memory : List ℕ) → IsByte event → LegalRegisters r → Keeps (step event r memory .answer)
 unfolding step resetPin

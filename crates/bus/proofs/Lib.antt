@@ -11,3 +11,5 @@ pub mod Ranges
 pub mod Exactly
 pub mod Stored
 pub mod Waiting
+pub mod StaysLegal
+pub mod CallsOnChip

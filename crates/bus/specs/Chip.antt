@@ -1,6 +1,6 @@
 -- The chip as a machine: its state is registers and display memory, and each bus event is a step.
 use Prim.Native.Nat.{ℕ}
-use mathlib.Core.List.{List}
+use mathlib.Core.List.{List, [], _∷_}
 use lib.ListN.{length}
 use Rattle.bus.specs.Events.{command, write, written, read, resetPin}
 use Rattle.bus.specs.declared.registers.Registers.{Registers}
@@ -40,3 +40,8 @@ chipAfter event chip =
       registers = registersAfter (step event (chip .registers) (chip .memory) .answer) (chip .registers);
       memory = step event (chip .registers) (chip .memory) .memory;
     }
+
+-- The chip after events, one by one.
+unfoldable pub after : List Event → Chip → Chip
+after [] chip = chip
+after (event ∷ events) chip = after events (chipAfter event chip)

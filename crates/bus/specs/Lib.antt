@@ -4,5 +4,9 @@ pub mod Memory
 pub mod Events
 pub mod Chip
 pub mod Image
+pub mod Start
 pub mod Calls
 pub mod Given
+pub mod Bytes
+pub mod StaysLegal
+pub mod CallsOnChip

@@ -1,32 +1,136 @@
--- The bytes outside the table are exactly those that document 01 lists: 30-3F, 80, 82-9F, D0-D2, D5-DF, E1, E4-ED, EF, F0-FF.
+-- The bytes outside the table are those that document 01 lists, and those that name no page are B9 to BF.
 -- Assumes nothing.
-use mathlib.Core.Path.{_≡_, refl}
-use mathlib.Core.Bool.{Bool, true, false, Bool·beq, _&&_, false≢true}
-use Prim.Native.Nat.{ℕ, zero, suc, _<_}
+use mathlib.Core.Path.{_≡_, refl, sym, _∙_, ap}
+use mathlib.Core.Bool.{Bool, true, false, cond, _&&_, false≢true}
+use mathlib.Core.Logic.{_↔_, ⊎-elim}
+use mathlib.Core.List.{List, [], _∷_}
+use Prim.Native.Nat.{ℕ, zero, suc, _≤_, _<_}
 use native.Mathlib.Nat.{not-suc-le-zero, le-of-suc-le-suc, eq-or-lt-of-le}
-use mathlib.Core.Logic.{⊎-elim}
-use Rattle.codes.proofs.Tests.{both}
-use Rattle.codes.specs.Others.{others, among, isOutside}
+use native.Mathlib.Decide.{decLt}
+use native.Mathlib.Omega.{arith}
+use lib.Dec.{leb, eqb}
+use borrow.Author.Tests.{leb-true, eqb-true}
+use Rattle.codes.proofs.Tests.{both, either, chosen}
+use Rattle.codes.proofs.Rows.{in-row, in-gap}
+use Rattle.codes.specs.Others.{others, among, Others}
 use Rattle.codes.specs.Table.{table, commandBy, commandOf}
+use Rattle.codes.specs.declared.Command.{Command}
 
-equal : (s t : Bool) → Bool·beq s t ≡ true → s ≡ t
-equal true true e = refl
-equal true false e = absurd (false≢true e)
-equal false true e = absurd (false≢true e)
-equal false false e = refl
+-- what a byte is named for: a command, or one of the four that are none
+abbrev pub aCommand : ℕ
+aCommand = 0
 
--- the two tests agree at every byte below n
+abbrev pub noPage : ℕ
+noPage = 1
+
+abbrev pub notAllowed : ℕ
+notAllowed = 2
+
+abbrev pub notAwaited : ℕ
+notAwaited = 3
+
+abbrev pub outside : ℕ
+outside = 4
+
+abbrev pub sortOf : Command → ℕ
+sortOf (Command.ColumnLow low) = aCommand
+sortOf (Command.ColumnHigh high) = aCommand
+sortOf (Command.ResistorRatio ratio) = aCommand
+sortOf (Command.PowerControl power) = aCommand
+sortOf (Command.StartLine line) = aCommand
+sortOf (Command.Contrast contrast) = aCommand
+sortOf (Command.ColumnDirection direction) = aCommand
+sortOf (Command.Bias bias) = aCommand
+sortOf (Command.EntireOn entire) = aCommand
+sortOf (Command.Reverse reverse) = aCommand
+sortOf (Command.Multiplex multiplex) = aCommand
+sortOf (Command.HeldByte byte) = aCommand
+sortOf (Command.QuarterBias bias) = aCommand
+sortOf Command.IndicatorOff = aCommand
+sortOf (Command.IndicatorMode mode) = aCommand
+sortOf (Command.DisplayOn on) = aCommand
+sortOf (Command.Page page) = aCommand
+sortOf Command.NoPage = noPage
+sortOf (Command.RowDirection direction) = aCommand
+sortOf (Command.Offset offset) = aCommand
+sortOf (Command.FramePhases phases) = aCommand
+sortOf Command.EnterReadModifyWrite = aCommand
+sortOf Command.SoftwareReset = aCommand
+sortOf Command.Nothing = aCommand
+sortOf Command.LeaveReadModifyWrite = aCommand
+sortOf (Command.Await code) = aCommand
+sortOf Command.NotAllowed = notAllowed
+sortOf Command.NotAwaited = notAwaited
+sortOf Command.Outside = outside
+
+-- the sort of a byte by document 01's lists
+abbrev pub listed : ℕ → ℕ
+listed b = cond (among others b) outside (cond (leb 0xB9 b && leb b 0xBF) noPage aCommand)
+
+-- table and lists agree at every byte below n
 agree : ℕ → Bool
 agree zero = true
-agree (suc n) = Bool·beq (isOutside (commandOf n)) (among others n) && agree n
+agree (suc n) = eqb (sortOf (commandOf n)) (listed n) && agree n
 
-agree-at : (n b : ℕ) → agree n ≡ true → b < n → isOutside (commandOf b) ≡ among others b
+agree-at : (n b : ℕ) → agree n ≡ true → b < n → sortOf (commandOf b) ≡ listed b
 unfolding agree
 agree-at zero b e h = absurd (not-suc-le-zero h)
 agree-at (suc n) b e h =
-    let halves = both (Bool·beq (isOutside (commandOf n)) (among others n)) (agree n) e in
-    ⊎-elim (λ same. rw same (equal (isOutside (commandOf n)) (among others n) (halves .0))) (λ less. agree-at n b (halves .1) less) (eq-or-lt-of-le (le-of-suc-le-suc h))
+    let halves = both (eqb (sortOf (commandOf n)) (listed n)) (agree n) e in
+    ⊎-elim (λ same. rw same (eqb-true _ _ (halves .0))) (λ less. agree-at n b (halves .1) less) (eq-or-lt-of-le (le-of-suc-le-suc h))
 
-pub outside-exactly : (b : ℕ) → b < 256 → isOutside (commandOf b) ≡ among others b
+pub sort-listed : (b : ℕ) → b < 256 → sortOf (commandOf b) ≡ listed b
 unfolding agree commandOf commandBy table
-outside-exactly b h = agree-at 256 b refl h
+sort-listed b h = agree-at 256 b refl h
+
+-- a number past all bytes is in no row
+past-all : (b : ℕ) → 256 ≤ b → Command.Outside ≡ commandOf b
+unfolding table
+past-all b h = in-gap 26 0 256 b b refl refl h (omega arith) tt
+
+-- what holds from first to last of each span holds of what is among them
+abbrev EachSpan : (ℕ → Type 0) → List (ℕ × ℕ) → Type 0
+EachSpan P [] = Unit {0}
+EachSpan P (span ∷ spans) = ((b : ℕ) → span .0 ≤ b → b ≤ span .1 → P b) × EachSpan P spans
+
+by-span : (P : ℕ → Type 0) (spans : List (ℕ × ℕ)) (b : ℕ) → EachSpan P spans → among spans b ≡ true → P b
+by-span P [] b p e = absurd (false≢true e)
+by-span P (span ∷ spans) b p e =
+    ⊎-elim (λ inside. let ends = both (leb (span .0) b) (leb b (span .1)) inside in p .0 b (leb-true _ _ (ends .0)) (leb-true _ _ (ends .1))) (λ later. by-span P spans b (p .1) later) (either (leb (span .0) b && leb b (span .1)) (among spans b) e)
+
+outside-listed : (b : ℕ) → among others b ≡ true → commandOf b ≡ Command.Outside
+unfolding table
+outside-listed b e =
+    by-span (λ b. commandOf b ≡ Command.Outside) others b
+    (λ b low high. sym (in-gap 4 0 0x30 0x3F b refl refl low high tt), (λ b low high. sym (in-gap 5 0 0x80 0x80 b refl refl low high tt), (λ b low high. sym (in-gap 6 0 0x82 0x9F b refl refl low high tt), (λ b low high. sym (in-gap 20 0 0xD0 0xD2 b refl refl low high tt), (λ b low high. sym (in-gap 22 0 0xD5 0xDF b refl refl low high tt), (λ b low high. sym (in-gap 23 0 0xE1 0xE1 b refl refl low high tt), (λ b low high. sym (in-gap 25 0 0xE4 0xED b refl refl low high tt), (λ b low high. sym (in-gap 26 0 0xEF 0xEF b refl refl low high tt), (λ b low high. sym (in-gap 26 0 0xF0 0xFF b refl refl low high tt), tt)))))))))
+    e
+
+-- which list a byte of a sort is in
+listed-outside : (o p : Bool) → cond o outside (cond p noPage aCommand) ≡ outside → o ≡ true
+listed-outside true p e = refl
+listed-outside false true e = absurd (omega (arith, e))
+listed-outside false false e = absurd (omega (arith, e))
+
+listed-page : (o p : Bool) → cond o outside (cond p noPage aCommand) ≡ noPage → p ≡ true
+listed-page true p e = absurd (omega (arith, e))
+listed-page false true e = refl
+listed-page false false e = absurd (omega (arith, e))
+
+no-page-listed : (b : ℕ) → commandOf b ≡ Command.NoPage → (0xB9 ≤ b) × (b ≤ 0xBF)
+no-page-listed b e = by (decLt b 256)
+  where
+    by : Dec (b < 256) → (0xB9 ≤ b) × (b ≤ 0xBF)
+    by (yes h) =
+        let ends = both (leb 0xB9 b) (leb b 0xBF) (listed-page (among others b) (leb 0xB9 b && leb b 0xBF) (sym (sort-listed b h) ∙ ap sortOf e)) in
+        (leb-true _ _ (ends .0), leb-true _ _ (ends .1))
+    by (no h) = let z : outside ≡ noPage = ap sortOf (past-all b (omega (arith, h)) ∙ e) in absurd (omega (arith, z))
+
+no-page-row : (b : ℕ) → 0xB9 ≤ b → b ≤ 0xBF → commandOf b ≡ Command.NoPage
+unfolding table
+no-page-row b low high = sym (in-row 17 b refl refl low high)
+
+pub theOthers : Others
+theOthers = record {
+  outside = λ b h. (λ e. listed-outside (among others b) (leb 0xB9 b && leb b 0xBF) (sym (sort-listed b h) ∙ ap sortOf e), outside-listed b);
+  noPage = λ b. (no-page-listed b, λ ends. no-page-row b (ends .0) (ends .1));
+}

@@ -19,12 +19,12 @@ use Rattle.codes.specs.Table.{table, commandBy, commandOf, meaningOf}
 use Rattle.bus.specs.Registers.{largestValues, powerOn}
 use Rattle.bus.specs.Memory.{address}
 use Rattle.bus.specs.Events.{obeyed, command}
-use Rattle.bus.specs.Chip.{commandByte, step, registersAfter, chipAfter}
+use Rattle.bus.specs.Chip.{commandByte, step, registersAfter, chipAfter, after}
 use Rattle.bus.specs.Image.{within, awaitedCodes, legal}
 use Rattle.bus.specs.declared.registers.Registers.{Registers}
 use Rattle.picture.specs.Rows.{ramRow}
 use Rattle.picture.specs.Frame.{bit, columnOf, turned, shownBit, line, frame, rowOf, placeOf}
-use Rattle.picture.specs.Samples.{after, fromPowerOn}
+use Rattle.picture.specs.Samples.{fromPowerOn}
 use Rattle.picture.specs.Demand3.{Full, flipped, ShowsAt, OnePlace, SomeBit, raised, Scrolls, Content, scroll, Agree, Demand3}
 use Rattle.picture.specs.declared.rows.RamRow.{RamRow}
 use Rattle.picture.proofs.Lines.{line-same, grid-same}

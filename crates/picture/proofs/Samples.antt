@@ -16,10 +16,10 @@ use Rattle.codes.specs.Table.{table, offsetOf, framePhasesOf, commandBy, operan
 use Rattle.bus.specs.Registers.{ranges, powerOn}
 use Rattle.bus.specs.Memory.{kept, onward}
 use Rattle.bus.specs.Events.{numberOf, obeyed, command, access, write, written}
-use Rattle.bus.specs.Chip.{step, registersAfter, chipAfter}
+use Rattle.bus.specs.Chip.{step, registersAfter, chipAfter, after}
 use native.Mathlib.Omega.{arith}
 use Rattle.picture.specs.Rows.{panelRow, ramRow, comOf, used, ramRowOf, panelShows, rowShows}
-use Rattle.picture.specs.Samples.{Samples, after, numberFor, picture}
+use Rattle.picture.specs.Samples.{Samples, numberFor, picture}
 use Rattle.picture.proofs.Places.{row-plain, off-dark}
 use Rattle.picture.specs.declared.rows.Shown.{Shown}
 

@@ -8,14 +8,9 @@ use lib.ListN.{getD, replicate}
 use Rattle.constants.specs.Sizes.{width, memorySize, frameRows, frameSize}
 use Rattle.bus.specs.Registers.{powerOn}
 use Rattle.bus.specs.Events.{numberOf}
-use Rattle.bus.specs.Chip.{Chip, Event, commandByte, dataWritten, step, chipAfter}
+use Rattle.bus.specs.Chip.{Chip, Event, commandByte, dataWritten, step, after}
 use Rattle.picture.specs.Rows.{ramRow}
 use Rattle.picture.specs.Frame.{bit, line, grid, frame, rowOf}
-
--- The chip after events, one by one.
-unfoldable pub after : List Event → Chip → Chip
-after [] chip = chip
-after (event ∷ events) chip = after events (chipAfter event chip)
 
 -- The chip at power-on, with a memory.
 abbrev pub started : List ℕ → Chip
