@@ -10,7 +10,7 @@ use native.Mathlib.Omega.{arith}
 use lib.ListN.{length, take, drop, take-append-drop, drop-of-length-le}
 use Rattle.constants.specs.Numbers.{taken}
 use Rattle.constants.specs.Sizes.{headerSize}
-use Rattle.trace.specs.Bytes.{All}
+use Rattle.bus.specs.Bytes.{All}
 use Rattle.trace.specs.Records.{kindOf, payloadOf, whole, recordAt, splitFrom, split}
 use Rattle.trace.specs.Play.{Result, refuses, gives, onResult, Machine, Ending, stopped, done, Played, played, playEvents, playRecord, playFrom, play}
 use Rattle.trace.specs.AnyMachine.{Sound, Reached, EndsAs, allTaken, headerIsCut, headerRefused, eventRefused, AnyMachine}

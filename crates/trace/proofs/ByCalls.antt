@@ -27,7 +27,7 @@ use Rattle.trace.specs.OneByOne.{Placed, placed, Script, script, scriptF
 use Rattle.trace.specs.ByCalls.{calledBy, meets, byCalls, runByCalls}
 use Rattle.trace.specs.Run.{ran, stopOf, ranOf, run}
 use Rattle.trace.proofs.OneByOne.{one-by-one}
-use Rattle.trace.specs.Bytes.{All, Bytes}
+use Rattle.bus.specs.Bytes.{All, Bytes}
 use Rattle.trace.proofs.Kept.{Carries, split-carries}
 use Rattle.trace.specs.AnyMachine.{Gives}
 use Rattle.trace.proofs.Held.{Brings, brings}

@@ -25,7 +25,7 @@ use Rattle.trace.specs.Kinds.{Recorded, event, readAs, chipOf, happened,
 use Rattle.trace.specs.OneByOne.{Placed, Script, script, scriptFrom, applied}
 use Rattle.trace.specs.Run.{Ran, ran, stopOf, ranOf, run}
 use Rattle.trace.proofs.OneByOne.{one-by-one}
-use Rattle.trace.specs.Bytes.{All, Bytes}
+use Rattle.bus.specs.Bytes.{All, Bytes}
 use Rattle.trace.proofs.Kept.{split-carries}
 use Rattle.trace.specs.AnyMachine.{Gives}
 use Rattle.trace.proofs.Held.{Held, Brings, replay-held}

@@ -23,7 +23,7 @@ use Rattle.bus.specs.declared.image.Asked.{Asked}
 use Rattle.bus.specs.declared.calls.Reply.{Reply}
 use Rattle.bus.proofs.Asking.{found-legal}
 use Rattle.bus.proofs.Stored.{call-stored}
-use Rattle.trace.specs.Bytes.{All, Bytes}
+use Rattle.bus.specs.Bytes.{All, Bytes}
 use Rattle.trace.specs.Records.{Trace, ended, cut, _then_, lengthOf, kindOf, recordBytes, recordAt, splitFrom, split, recordsIn}
 use Rattle.trace.specs.Play.{Result, refuses, gives, onResult, Ending, stopped, done, played, onEnding, playEvents, playRecord, playFrom, play}
 use Rattle.trace.specs.Kinds.{Recorded, eventsOf, replay, chipOf, theChip}

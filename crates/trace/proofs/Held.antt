@@ -14,7 +14,7 @@ use Rattle.bus.proofs.Kept.{LegalRegisters, Keeps, IsByte, step-keeps}
 use Rattle.bus.proofs.Untouched.{step-length, memory-past}
 use Rattle.trace.specs.Play.{Result, refuses, gives}
 use Rattle.trace.specs.Kinds.{Recorded, event, readAs, command, write, happened, compared, replay, eventsOf}
-use Rattle.trace.specs.Bytes.{All, Bytes}
+use Rattle.bus.specs.Bytes.{All, Bytes}
 use Rattle.trace.proofs.Kept.{all-any}
 use Rattle.trace.specs.AnyMachine.{Gives}
 use Rattle.trace.proofs.Payloads.{Kind, commands, writes, reads, reset, none, by-kind}

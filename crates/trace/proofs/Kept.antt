@@ -5,7 +5,7 @@ use mathlib.Core.List.{List, [], _∷_}
 use Prim.Native.Nat.{ℕ, zero, suc, _+_}
 use lib.ListN.{take, drop}
 use Rattle.constants.specs.Sizes.{headerSize}
-use Rattle.trace.specs.Bytes.{All}
+use Rattle.bus.specs.Bytes.{All}
 use Rattle.trace.specs.AnyMachine.{Gives}
 use Rattle.trace.specs.Records.{Record, Trace, ended, cut, _then_, lengthOf, whole, recordAt, splitFrom}
 use Rattle.trace.specs.Play.{Result, refuses, gives, onResult, Machine, Ending, stopped, done, onEnding, Played, played, playEvents, playRecord, playFrom}

@@ -20,7 +20,7 @@ use Rattle.trace.specs.Kinds.{chipOf, theChip}
 use Rattle.trace.specs.Run.{Ran, ran, stopOf, ranOf, runOn, run}
 use Rattle.trace.specs.RunLaws.{runFurther}
 use Rattle.trace.proofs.Joined.{taken-offset, joined}
-use Rattle.trace.specs.Bytes.{Bytes}
+use Rattle.bus.specs.Bytes.{Bytes}
 use Rattle.trace.proofs.Kept.{split-carries, play-keeps, all-any}
 use Rattle.trace.proofs.Held.{Held, Aside, Brings, Anything, brings, brings-any, replay-held, replay-aside}
 use Rattle.trace.proofs.Sound.{the-chip-sound}

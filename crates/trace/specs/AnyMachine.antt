@@ -7,7 +7,7 @@ use mathlib.Core.List.{List, [], _∷_, _++_}
 use lib.ListN.{length, take, drop}
 use Rattle.constants.specs.Numbers.{taken, headerCut}
 use Rattle.constants.specs.Sizes.{headerSize}
-use Rattle.trace.specs.Bytes.{All}
+use Rattle.bus.specs.Bytes.{All}
 use Rattle.trace.specs.Records.{kindOf, payloadOf, whole, CutShort, split, recordsIn}
 use Rattle.trace.specs.Play.{Result, refuses, gives, Machine, done, Played, played, playEvents, play}
 use Rattle.trace.specs.OneByOne.{scriptFrom, oneByOne}

@@ -12,7 +12,7 @@ use Rattle.constants.specs.Sizes.{headerSize}
 use Rattle.codes.specs.OneOf.{oneOf}
 use Rattle.bus.specs.Image.{short, legal}
 use Rattle.bus.specs.Calls.{call}
-use Rattle.trace.specs.Bytes.{Bytes}
+use Rattle.bus.specs.Bytes.{Bytes}
 use Rattle.trace.specs.Records.{Trace, ended, cut, _then_, lengthOf, kindOf, whole, CutShort, recordBytes, split, recordsIn}
 use Rattle.trace.specs.Kinds.{Recorded, command, write, readAs, theChip}
 use Rattle.trace.specs.OneByOne.{Placed, scriptFrom}

@@ -8,7 +8,7 @@ use Rattle.constants.specs.Numbers.{taken}
 use Rattle.constants.specs.Sizes.{imageSize, memorySize}
 use Rattle.bus.specs.Registers.{registersOf}
 use Rattle.bus.specs.Calls.{call}
-use Rattle.trace.specs.Bytes.{Bytes}
+use Rattle.bus.specs.Bytes.{Bytes}
 use Rattle.trace.specs.Records.{split}
 use Rattle.trace.specs.Kinds.{Recorded, chipOf, theChip}
 use Rattle.trace.specs.OneByOne.{Placed, scriptFrom, oneByOne}

@@ -10,7 +10,7 @@ use Rattle.bus.specs.Image.{within, awaitedCodes, legal, short, asked}
 use Rattle.trace.specs.Records.{split}
 use Rattle.trace.specs.Play.{play}
 use Rattle.trace.specs.Kinds.{chipOf, theChip}
-use Rattle.trace.specs.Bytes.{Bytes}
+use Rattle.bus.specs.Bytes.{Bytes}
 use Rattle.trace.proofs.Runs.{run-legal}
 use Rattle.picture.specs.Frame.{frame}
 use Rattle.picture.specs.Draw.{drawOn, draw}
