@@ -8,18 +8,11 @@ use native.Mathlib.Omega.{arith}
 use Rattle.constants.specs.Sizes.{headerSize}
 use Rattle.trace.specs.Records.{Record, Trace, ended, cut, _then_, lengthOf, whole, recordAt, splitFrom}
 use Rattle.trace.specs.AnyMachine.{further}
+use Rattle.trace.specs.SplitLaws.{recordFurther, traceFurther}
 use Rattle.trace.proofs.Cases.{by-cases}
 use Rattle.trace.specs.Play.{Machine, Ending, stopped, done, onEnding, Played, played, playEvents, playRecord, playFrom}
 
--- a record, a split trace and what is played, moved on
-abbrev pub recordFurther : ℕ → Record → Record
-recordFurther k r = record { kind = r .kind; payload = r .payload; place = k + r .place }
-
-abbrev pub traceFurther : ℕ → Trace → Trace
-traceFurther k (ended offset) = ended (k + offset)
-traceFurther k (cut offset) = cut (k + offset)
-traceFurther k (r then rest) = recordFurther k r then traceFurther k rest
-
+-- how a record ends, moved on
 abbrev pub endingFurther : {S : Type 0} → ℕ → Ending S → Ending S
 endingFurther k (stopped number offset s) = stopped number (k + offset) s
 endingFurther k (done s) = done s

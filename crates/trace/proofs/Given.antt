@@ -34,7 +34,8 @@ use Rattle.trace.specs.Given.{GivesAt, stoppedAfter, HeaderCut, KindUnkn
 use Rattle.trace.specs.declared.run.Stop.{Stop}
 use Rattle.trace.specs.AnyMachine.{Gives, further}
 use Rattle.trace.proofs.Rest.{rest, plays-cut, plays-stop}
-use Rattle.trace.proofs.Joined.{Ends, endOf, ends-at, Stops, events-stop, joined}
+use Rattle.trace.proofs.Joined.{ends-at, Stops, events-stop, joined}
+use Rattle.trace.specs.SplitLaws.{Ends, endOf}
 use Rattle.trace.proofs.Further.{endingFurther, events-further, is-done}
 use Rattle.trace.proofs.Written.{split-written}
 use Rattle.trace.proofs.Kept.{Leaves, all-drop, all-take, events-keep}

@@ -15,24 +15,8 @@ use Rattle.trace.specs.Records.{Record, Trace, ended, cut, _then_, numbe
 use Rattle.trace.specs.Play.{Result, refuses, gives, onResult, Machine, Ending, stopped, done, onEnding, Played, played, playEvents, playRecord, playFrom, play}
 use Rattle.trace.specs.AnyMachine.{Sound, further}
 use Rattle.trace.proofs.Fronts.{room}
-use Rattle.trace.proofs.Further.{traceFurther, split-further, play-further}
-
--- whole records have nothing cut behind them
-abbrev pub Ends : Trace → Type 0
-Ends (ended offset) = Unit {0}
-Ends (cut offset) = ⊥
-Ends (r then rest) = Ends rest
-
-abbrev pub endOf : Trace → ℕ
-endOf (ended offset) = offset
-endOf (cut offset) = offset
-endOf (r then rest) = endOf rest
-
--- a trace, and another where it ends
-abbrev pub onto : Trace → Trace → Trace
-onto (ended offset) more = more
-onto (cut offset) more = cut offset
-onto (r then rest) more = r then onto rest more
+use Rattle.trace.proofs.Further.{split-further, play-further}
+use Rattle.trace.specs.SplitLaws.{traceFurther, Ends, endOf, onto}
 
 -- what stands first among the bytes stands first among more of them
 module _ (a b : List ℕ) (h : whole a ≡ true) where

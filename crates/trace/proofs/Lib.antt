@@ -28,3 +28,4 @@ pub mod ReaderWalk
 pub mod Settled
 pub mod AnyMachine
 pub mod RunLaws
+pub mod SplitLaws

@@ -10,7 +10,8 @@ use lib.ListN.{length, drop, length-append}
 use lib.Seq.{take-append-seam, drop-append-seam}
 use Rattle.constants.specs.Sizes.{headerSize}
 use Rattle.trace.specs.Records.{Trace, _then_, recordBytes, whole, split}
-use Rattle.trace.proofs.Further.{traceFurther, split-further}
+use Rattle.trace.proofs.Further.{split-further}
+use Rattle.trace.specs.SplitLaws.{traceFurther}
 use Rattle.trace.proofs.Rest.{split-whole}
 
 two-bytes : (n : ℕ) → n % 256 + 256 * (n / 256) ≡ n

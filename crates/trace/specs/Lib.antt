@@ -11,3 +11,5 @@ pub mod Given
 pub mod RunLaws
 pub mod ReaderWalk
 pub mod Settled
+pub mod Samples
+pub mod SplitLaws
