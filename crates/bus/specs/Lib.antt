@@ -3,6 +3,10 @@ pub mod Registers
 pub mod Memory
 pub mod Events
 pub mod Chip
+pub mod Result
+pub mod Recorded
+pub mod Stretch
+pub mod Stretches
 pub mod Image
 pub mod Start
 pub mod Calls

@@ -1,6 +1,6 @@
 pub mod Samples
 pub mod Turn
-pub mod Replayed
+pub mod Stretched
 pub mod Fronts
 pub mod Standing
 pub mod ByKind
@@ -23,7 +23,6 @@ pub mod RecordStops
 pub mod RunStops
 pub mod FirstAsked
 pub mod Given
-pub mod Alone
 pub mod ReaderWalk
 pub mod Settled
 pub mod AnyMachine

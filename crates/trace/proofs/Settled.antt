@@ -10,7 +10,7 @@ use Rattle.trace.specs.Code.{playedOf}
 use Rattle.trace.specs.Run.{Ran, ran}
 use Rattle.trace.specs.Settled.{Settled}
 use Rattle.trace.specs.declared.reader.Reader.{Reader}
-use Rattle.trace.specs.declared.run.Finish.{Finish}
+use Rattle.trace.specs.declared.run.Played as code
 use Rattle.trace.specs.declared.run.Stop.{Stop}
 
 same-run : {stated : Ran} (s s′ : Stop) (later later′ left left′ : List ℕ) → ran s later left ≡ stated → ran s′ later′ left′ ≡ stated → (s ≡ s′) × (later ≡ later′) × (left ≡ left′)
@@ -18,7 +18,7 @@ same-run s s′ later later′ left left′ p q =
     let e = p ∙ sym q in
     (ap (λ r. r .stop) e, ap (λ r. r .state) e, ap (λ r. r .memory) e)
 
-same-play : {stated : Played Chip} (f f′ : Finish) (left left′ : List ℕ) → playedOf f left ≡ stated → playedOf f′ left′ ≡ stated → (f ≡ f′) × (left ≡ left′)
+same-play : {stated : Played Chip} (f f′ : code.Played) (left left′ : List ℕ) → playedOf f left ≡ stated → playedOf f′ left′ ≡ stated → (f ≡ f′) × (left ≡ left′)
 unfolding playedOf
 same-play f f′ left left′ p q =
     let e = p ∙ sym q in

@@ -14,15 +14,15 @@ use Rattle.trace.specs.Run.{ran, run}
 use Rattle.trace.specs.ReaderWalk.{New, Moved, Next}
 use Rattle.trace.specs.declared.reader.Reader.{Reader}
 use Rattle.trace.specs.declared.records.Front.{Front}
-use Rattle.trace.specs.declared.run.Finish.{Finish}
+use Rattle.trace.specs.declared.run.Played.{Played}
 use Rattle.trace.specs.declared.run.Stop.{Stop}
 
 pub record Settled : Type 0 where
   -- `run::run`: the stop, and the state and memory that are left.
   pub run : (state memory trace : List ℕ) (s s′ : Stop) (later later′ left left′ : List ℕ) → ran s later left ≡ run state memory trace → ran s′ later′ left′ ≡ run state memory trace → (s ≡ s′) × (later ≡ later′) × (left ≡ left′)
   -- `run::play`: the stop, the registers and the memory that are left.
-  pub play : (registers : Registers) (memory trace : List ℕ) (f f′ : Finish) (left left′ : List ℕ)
-      → playedOf f left ≡ play theChip (split trace) (chipOf registers memory) → playedOf f′ left′ ≡ play theChip (split trace) (chipOf registers memory) → (f ≡ f′) × (left ≡ left′)
+  pub play : (registers : Registers) (memory trace : List ℕ) (p p′ : Played) (left left′ : List ℕ)
+      → playedOf p left ≡ play theChip (split trace) (chipOf registers memory) → playedOf p′ left′ ≡ play theChip (split trace) (chipOf registers memory) → (p ≡ p′) × (left ≡ left′)
   -- `records::front_at`: what stands at an offset of the trace.
   pub frontAt : (trace : List ℕ) (at : ℕ) (f f′ : Front) → f ≡ frontOf (drop at trace) → f′ ≡ frontOf (drop at trace) → f ≡ f′
   -- `reader::read_at`: the same, by a reader.

@@ -1,12 +1,12 @@
--- `trace::command::command` meets its contract: what the byte answers is concluded, and what was refused first stays refused.
+-- `bus::calls::command` meets its contract: what the byte answers is concluded, and what was refused first stays refused.
 -- Assumes nothing.
 use borrow.Author.Needs.{needs}
 use mathlib.Core.Path.{refl}
 use Rattle.bus.specs.Chip.{commandByte, step}
 use Rattle.bus.specs.Calls.{askedBefore}
 use Rattle.bus.proofs.Concluded.{concludes, refuses}
-use Rattle.trace.proofs.command.command.Statement.{statement}
-use Rattle.trace.proofs.command.command.Tie as tie
+use Rattle.bus.proofs.calls.command.Statement.{statement}
+use Rattle.bus.proofs.calls.command.Tie as tie
 
 ask-requires : tie.Need-ask-requires
 ask-requires c κs = search needs

@@ -6,12 +6,12 @@ use mathlib.Core.List.{List}
 use Prim.Native.Nat.{ℕ}
 use lib.Dec.{eqb}
 use Rattle.constants.specs.Numbers.{readDiffers}
 use Rattle.bus.specs.Chip.{Event, step, dataRead}
 use Rattle.bus.specs.declared.registers.Registers.{Registers}
 use Rattle.bus.specs.declared.answer.After.{After}
 use Rattle.bus.specs.declared.answer.Answer.{Answer}
-use Rattle.trace.specs.Play.{refuses, gives}
-use Rattle.trace.specs.Kinds.{event, readAs, chipOf, happened, compared, replay}
+use Rattle.bus.specs.Result.{refuses, gives}
+use Rattle.bus.specs.Recorded.{event, readAs, chipOf, happened, compared, replay}
 
 module _ (e : Event) (r : Registers) (memory : List ℕ) {answer : Answer} (a : answer ≡ step e r memory .answer) where
   pub event-taken : {left : List ℕ} {after : After} → left ≡ step e r memory .memory → answer ≡ Answer.Taken after → replay (event e) (chipOf r memory) ≡ gives (chipOf (after .registers) left)

@@ -1,7 +1,7 @@
--- `trace::events::agrees` meets its contract: the tests are the definition's.
+-- `bus::stretch::agrees` meets its contract: the tests are the definition's.
 -- Assumes nothing.
-use Rattle.trace.proofs.events.agrees.Statement.{statement}
-use Rattle.trace.proofs.events.agrees.Tie as tie
+use Rattle.bus.proofs.stretch.agrees.Statement.{statement}
+use Rattle.bus.proofs.stretch.agrees.Tie as tie
 
 returns : tie.Need-returns
 returns c = rw (c .if1 .taken)
