@@ -1,7 +1,6 @@
 -- What holds of a played trace over any machine that has a step.
 -- Assumes nothing.
 use mathlib.Core.Path.{_≡_, refl, sym, _∙_, ap, subst}
-use mathlib.Core.Logic.{_↔_}
 use mathlib.Core.Bool.{true}
 use mathlib.Core.List.{List, [], _∷_, _++_, append-nil}
 use Prim.Native.Nat.{ℕ, _+_}
@@ -10,17 +9,16 @@ use native.Mathlib.Omega.{arith}
 use lib.ListN.{length, take, drop, take-append-drop, drop-of-length-le}
 use Rattle.constants.specs.Numbers.{taken}
 use Rattle.constants.specs.Sizes.{headerSize}
-use Rattle.bus.specs.Bytes.{All}
-use Rattle.trace.specs.Records.{kindOf, payloadOf, whole, recordAt, splitFrom, split}
-use Rattle.trace.specs.Play.{Result, refuses, gives, onResult, Machine, Ending, stopped, done, Played, played, playEvents, playRecord, playFrom, play}
+use Rattle.trace.specs.Records.{kindOf, payloadOf, whole, splitFrom, split}
+use Rattle.trace.specs.Play.{Result, refuses, gives, onResult, Machine, stopped, done, Played, played, playEvents, playRecord, playFrom, play}
 use Rattle.trace.specs.AnyMachine.{Sound, Reached, EndsAs, allTaken, headerIsCut, headerRefused, eventRefused, AnyMachine}
 use Rattle.trace.proofs.OneByOne.{one-by-one}
-use Rattle.trace.proofs.Turn.{never}
-use Rattle.trace.proofs.Fronts.{at-end, cut-tests, tests-cut, front-cut, front-whole}
-use Rattle.trace.proofs.Rest.{plays-nothing, plays-cut, plays-stop}
-use Rattle.trace.proofs.Joined.{taken-offset, taken-count, joined}
-use Rattle.trace.proofs.First.{First, all, cutAt, stopAt, first, from-there}
-use Rattle.trace.proofs.Kept.{split-carries, play-keeps}
+use Rattle.trace.proofs.PayloadBytes.{never}
+use Rattle.trace.proofs.WhatStands.{at-end, cut-tests, tests-cut, front-cut, front-whole}
+use Rattle.trace.proofs.PlayedFurther.{plays-nothing, plays-cut, plays-stop}
+use Rattle.trace.proofs.PlayedJoined.{taken-offset, taken-count, joined}
+use Rattle.trace.proofs.PlayedStops.{First, all, cutAt, stopAt, first, from-there}
+use Rattle.trace.proofs.PlayedKeeps.{split-carries, play-keeps}
 
 take-all : (l : List ℕ) → take (length l) l ≡ l
 take-all l = sym (append-nil (take (length l) l)) ∙ ap (λ more. take (length l) l ++ more) (sym (drop-of-length-le l {i = length l} (omega arith))) ∙ take-append-drop (length l) l

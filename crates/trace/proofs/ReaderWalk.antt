@@ -1,7 +1,6 @@
 -- Walking a trace with the reader visits exactly the records of its split.
 -- Assumes nothing.
 use mathlib.Core.Path.{_≡_, refl, sym, _∙_, ap, subst}
-use mathlib.Core.Logic.{_↔_}
 use mathlib.Core.List.{List}
 use Prim.Native.Nat.{ℕ, zero, suc, _+_, _≤_}
 use native.Mathlib.Omega.{arith}
@@ -14,9 +13,8 @@ use Rattle.trace.specs.ReaderWalk.{New, Walk, nothing, cutShort, onward,
 use Rattle.trace.specs.declared.reader.Reader.{Reader}
 use Rattle.trace.specs.declared.records.Header.{Header}
 use Rattle.trace.specs.declared.records.Front.{Front}
-use Rattle.trace.proofs.Fronts.{at-end}
-use Rattle.trace.proofs.Standing.{the-record}
-use Rattle.trace.proofs.Rest.{rest, rest-nothing, rest-cut, rest-whole}
+use Rattle.trace.proofs.WhatStands.{at-end, the-record}
+use Rattle.trace.proofs.SplitLaws.{rest, rest-nothing, rest-cut, rest-whole}
 
 -- the rest of the trace from the reader's place on
 abbrev ahead : Reader → Trace

@@ -1,6 +1,6 @@
 -- What a run does as a whole.
 -- Assumes nothing.
-use mathlib.Core.Path.{_≡_, refl, sym, _∙_, ap, subst}
+use mathlib.Core.Path.{_≡_, _∙_, ap}
 use mathlib.Core.Logic.{_≢_}
 use mathlib.Core.List.{List, [], _∷_, _++_}
 use Prim.Native.Nat.{ℕ}
@@ -13,15 +13,15 @@ use Rattle.bus.specs.declared.image.Asked.{Asked}
 use Rattle.bus.proofs.Asking.{found-legal}
 use Rattle.trace.specs.Records.{split}
 use Rattle.trace.specs.Kinds.{Recorded, chipOf, theChip}
-use Rattle.trace.specs.OneByOne.{Placed, Script, scriptFrom}
+use Rattle.trace.specs.OneByOne.{Placed, scriptFrom}
 use Rattle.trace.specs.ByCalls.{byCalls, runByCalls}
 use Rattle.trace.specs.Run.{ran, stopOf, ranOf, Accepted}
 use Rattle.trace.specs.Given.{EachTaken}
 use Rattle.trace.specs.RunLaws.{leftBy, metAfter, RunLaws}
 use Rattle.trace.specs.declared.run.Stop.{Stop}
 use Rattle.trace.proofs.OneByOne.{one-by-one}
-use Rattle.trace.proofs.Runs.{run-found, run-empty, run-legal, run-joined, run-past, run-lengths}
-use Rattle.trace.proofs.ByCalls.{run-by-calls}
+use Rattle.trace.proofs.RunOnLent.{run-found, run-empty, run-legal, run-joined, run-past, run-lengths}
+use Rattle.trace.proofs.RunByCalls.{run-by-calls}
 
 -- the calls stop at the first event that meets a refusal
 stops-first : (before : List (Placed Recorded)) (p : Placed Recorded) (rest : List (Placed Recorded)) (stop : Stop) (state memory : List ℕ) → EachTaken before state memory → metAfter before p state memory ≢ taken

@@ -10,8 +10,8 @@ use Rattle.trace.specs.Code.{playedOf}
 use Rattle.trace.specs.Run.{Ran, ran}
 use Rattle.trace.specs.Settled.{Settled}
 use Rattle.trace.specs.declared.reader.Reader.{Reader}
-use Rattle.trace.specs.declared.run.Played as code
 use Rattle.trace.specs.declared.run.Stop.{Stop}
+use Rattle.trace.specs.declared.run.Played as code
 
 same-run : {stated : Ran} (s s′ : Stop) (later later′ left left′ : List ℕ) → ran s later left ≡ stated → ran s′ later′ left′ ≡ stated → (s ≡ s′) × (later ≡ later′) × (left ≡ left′)
 same-run s s′ later later′ left left′ p q =

@@ -1,80 +1,19 @@
 -- Whole records followed by more: playing `a ++ b` is playing `a`, then `b` from what it left, with offset and count added, whenever `a` is taken whole. Over any machine that refuses with no 0.
 -- Assumes nothing.
 use mathlib.Core.Path.{_≡_, refl, sym, _∙_, ap}
-use mathlib.Core.Bool.{Bool, true, false, cond}
 use mathlib.Core.List.{List, [], _∷_, _++_}
-use Prim.Native.Nat.{ℕ, zero, suc, _+_, _≤_, _<_}
+use Prim.Native.Nat.{ℕ, _+_}
 use native.Mathlib.Nat.{add-zero, zero-add}
 use native.Mathlib.Omega.{arith}
-use borrow.Author.Tests.{le-leb}
-use lib.ListN.{length, drop, length-append, length-drop, List·getD-append}
-use lib.Seq.{take-append-le, drop-append-le}
+use lib.ListN.{length}
 use Rattle.constants.specs.Numbers.{taken}
 use Rattle.constants.specs.Sizes.{headerSize}
-use Rattle.trace.specs.Records.{Record, Trace, ended, cut, _then_, number, lengthOf, payloadOf, whole, recordAt, splitFrom, split, recordsIn}
+use Rattle.trace.specs.Records.{Record, Trace, ended, cut, _then_, number, splitFrom, split, recordsIn}
 use Rattle.trace.specs.Play.{Result, refuses, gives, onResult, Machine, Ending, stopped, done, onEnding, Played, played, playEvents, playRecord, playFrom, play}
 use Rattle.trace.specs.AnyMachine.{Sound, further}
-use Rattle.trace.proofs.Fronts.{room}
-use Rattle.trace.proofs.Further.{split-further, play-further}
 use Rattle.trace.specs.SplitLaws.{traceFurther, Ends, endOf, onto}
-
--- what stands first among the bytes stands first among more of them
-module _ (a b : List ℕ) (h : whole a ≡ true) where
-  same-number : (place : ℕ) → place + 1 < length a → number (a ++ b) place ≡ number a place
-  same-number place p =
-      let first : place < length a = omega arith in
-      rw (List·getD-append a b 0 place first, List·getD-append a b 0 (place + 1) p)
-
-  same-length : lengthOf (a ++ b) ≡ lengthOf a
-  same-length = same-number 0 (omega (arith, room a h .0))
-
-  same-payload : payloadOf (a ++ b) ≡ payloadOf a
-  same-payload =
-      rw (same-length, drop-append-le headerSize a b (room a h .0)) (take-append-le (lengthOf a) (drop headerSize a) b (omega (arith, room a h .1, length-drop headerSize a)))
-
-  still-whole : whole (a ++ b) ≡ true
-  still-whole =
-      rw (same-length, length-append a b, le-leb headerSize (length a + length b) (omega (arith, room a h .0)), le-leb (headerSize + lengthOf a) (length a + length b) (omega (arith, room a h .1)))
-
-  pub same-record : (offset : ℕ) → recordAt offset (a ++ b) ≡ recordAt offset a
-  same-record offset = rw (same-payload, same-number 2 (omega (arith, room a h .0)))
-
--- the record at hand, and the rest onto which more is put
-record-onto : (offset : ℕ) (all b : List ℕ) (rest rest′ more : Trace) (there : Bool) → whole all ≡ there → Ends (cond there (recordAt offset all then rest) (cut offset)) → (whole all ≡ true → Ends rest → rest′ ≡ onto rest more)
-    → cond (whole (all ++ b)) (recordAt offset (all ++ b) then rest′) (cut offset) ≡ onto (cond there (recordAt offset all then rest) (cut offset)) more
-record-onto offset all b rest rest′ more true e q same = rw (still-whole all b e, same-record all b e offset, same e q)
-record-onto offset all b rest rest′ more false e q same = absurd q
-
-pub split-onto : (left offset : ℕ) (a b : List ℕ) → left ≤ length a → Ends (splitFrom left offset a) → splitFrom left offset (a ++ b) ≡ onto (splitFrom left offset a) (splitFrom 0 (offset + length a) b)
-unfolding splitFrom
-split-onto zero offset [] b p q = rw add-zero
-split-onto (suc left) offset [] b p q = absurd (omega arith)
-split-onto (suc left) offset (byte ∷ a) b p q =
-    let e : offset + suc (length a) ≡ offset + 1 + length a = omega arith in
-    rw e (split-onto left (offset + 1) a b (omega arith) q)
-split-onto zero offset (byte ∷ a) b p q =
-    let all = byte ∷ a in
-    let e : offset + suc (length a) ≡ offset + 1 + length a = omega arith in
-    record-onto offset all b (splitFrom (3 + lengthOf all) (offset + 1) a) (splitFrom (3 + lengthOf (all ++ b)) (offset + 1) (a ++ b)) (splitFrom 0 (offset + suc (length a)) b) (whole all) refl q
-    (λ there ends. rw (same-length all b there, e) (split-onto (3 + lengthOf all) (offset + 1) a b (omega (arith, room all there .1)) ends))
-
--- a split trace that ends, ends at its length
-record-ends : (offset n : ℕ) (all : List ℕ) (rest : Trace) (there : Bool) → whole all ≡ there → Ends (cond there (recordAt offset all then rest) (cut offset)) → (whole all ≡ true → Ends rest → endOf rest ≡ n) → endOf (cond there (recordAt offset all then rest) (cut offset)) ≡ n
-record-ends offset n all rest true e q same = same e q
-record-ends offset n all rest false e q same = absurd q
-
-pub ends-at : (left offset : ℕ) (a : List ℕ) → left ≤ length a → Ends (splitFrom left offset a) → endOf (splitFrom left offset a) ≡ offset + length a
-unfolding splitFrom
-ends-at zero offset [] p q = rw add-zero
-ends-at (suc left) offset [] p q = absurd (omega arith)
-ends-at (suc left) offset (byte ∷ a) p q =
-    let e : offset + suc (length a) ≡ offset + 1 + length a = omega arith in
-    rw e (ends-at left (offset + 1) a (omega arith) q)
-ends-at zero offset (byte ∷ a) p q =
-    let all = byte ∷ a in
-    let e : offset + suc (length a) ≡ offset + 1 + length a = omega arith in
-    record-ends offset (offset + suc (length a)) all (splitFrom (3 + lengthOf all) (offset + 1) a) (whole all) refl q
-    (λ there ends. rw e (ends-at (3 + lengthOf all) (offset + 1) a (omega (arith, room all there .1)) ends))
+use Rattle.trace.proofs.SplitLaws.{split-further, split-onto, ends-at}
+use Rattle.trace.proofs.PlayedFurther.{play-further}
 
 module _ {S E : Type 0} (machine : Machine S E) (sound : Sound machine) where
   -- what a record stops with is no 0

@@ -1,4 +1,4 @@
--- What each event of a trace of bytes keeps: legal registers, the memory's length, and its bytes past the needed length.
+-- What each event of a trace keeps: legal registers, the memory's length, and its bytes past the needed length.
 -- Assumes nothing.
 use mathlib.Core.Path.{_≡_, _∙_}
 use mathlib.Core.Bool.{_||_}
@@ -10,14 +10,14 @@ use Rattle.codes.proofs.Tests.{chosen}
 use Rattle.constants.specs.Sizes.{memorySize}
 use Rattle.bus.specs.Chip.{Chip, dataRead}
 use Rattle.bus.specs.declared.answer.Answer.{Answer}
+use Rattle.bus.specs.Bytes.{All, Bytes}
 use Rattle.bus.proofs.Kept.{LegalRegisters, Keeps, IsByte, step-keeps}
 use Rattle.bus.proofs.Untouched.{step-length, memory-past}
 use Rattle.trace.specs.Play.{Result, refuses, gives}
 use Rattle.trace.specs.Kinds.{Recorded, event, readAs, command, write, happened, compared, replay, eventsOf}
-use Rattle.bus.specs.Bytes.{All, Bytes}
-use Rattle.trace.proofs.Kept.{all-any}
 use Rattle.trace.specs.AnyMachine.{Gives}
-use Rattle.trace.proofs.Payloads.{Kind, commands, writes, reads, reset, none, by-kind}
+use Rattle.trace.proofs.PlayedKeeps.{all-any}
+use Rattle.trace.proofs.ChipKinds.{Kind, commands, writes, reads, reset, none, by-kind}
 
 pub record Held (first : List ℕ) (c : Chip) : Type 0 where
   pub registers : LegalRegisters (c .registers)

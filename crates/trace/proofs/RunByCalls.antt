@@ -16,6 +16,8 @@ use Rattle.bus.specs.Image.{asked, stored}
 use Rattle.bus.specs.Calls.{replyOf, stateAfter, concluded, call}
 use Rattle.bus.specs.declared.registers.Registers.{Registers}
 use Rattle.bus.specs.declared.answer.Answer.{Answer}
+use Rattle.bus.specs.Bytes.{All, Bytes}
+use Rattle.bus.specs.declared.image.Asked.{Asked}
 use Rattle.bus.proofs.Answers.{StandsFor, step-answers}
 use Rattle.bus.proofs.Kept.{LegalRegisters, Keeps, step-keeps, asked-legal}
 use Rattle.bus.proofs.Untouched.{step-length}
@@ -26,13 +28,11 @@ use Rattle.trace.specs.Kinds.{Recorded, event, readAs, chipOf, happened,
 use Rattle.trace.specs.OneByOne.{Placed, placed, Script, script, scriptFrom, applied}
 use Rattle.trace.specs.ByCalls.{calledBy, meets, byCalls, runByCalls}
 use Rattle.trace.specs.Run.{ran, stopOf, ranOf, run}
-use Rattle.trace.proofs.OneByOne.{one-by-one}
-use Rattle.bus.specs.Bytes.{All, Bytes}
-use Rattle.trace.proofs.Kept.{Carries, split-carries}
 use Rattle.trace.specs.AnyMachine.{Gives}
-use Rattle.trace.proofs.Held.{Brings, brings}
-use Rattle.trace.proofs.Runs.{run-found, fits}
-use Rattle.bus.specs.declared.image.Asked.{Asked}
+use Rattle.trace.proofs.OneByOne.{one-by-one}
+use Rattle.trace.proofs.PlayedKeeps.{Carries, split-carries}
+use Rattle.trace.proofs.ChipKeeps.{Brings, brings}
+use Rattle.trace.proofs.RunOnLent.{run-found, fits}
 
 module _ (state : List ℕ) (h : imageSize ≤ length state) where
   -- the rest of the events, from the chip that one of them leaves

@@ -1,29 +1,28 @@
--- The run's laws: it leaves a legal image, and every byte past the needed lengths as it was; no records, and whole records followed by more.
+-- A run on a lent state and memory: refused first, or played from the image's registers; an empty trace, `a ++ b`, what stays legal, and what is left as it was.
 -- Assumes nothing.
 use mathlib.Core.Path.{_≡_, refl, sym, _∙_, ap, subst}
 use mathlib.Core.List.{List, [], _++_}
-use Prim.Native.Nat.{ℕ, _+_}
+use Prim.Native.Nat.{ℕ}
 use native.Mathlib.Omega.{arith}
 use lib.ListN.{length, drop, length-drop}
 use Rattle.constants.specs.Sizes.{imageSize, memorySize}
-use Rattle.bus.specs.Chip.{Chip}
 use Rattle.constants.specs.Numbers.{taken}
 use Rattle.bus.specs.Image.{asked, stored}
 use Rattle.bus.specs.declared.registers.Registers.{Registers}
 use Rattle.bus.specs.declared.image.Asked.{Asked}
+use Rattle.bus.specs.Bytes.{Bytes}
 use Rattle.bus.proofs.Asking.{OneOrTwo, asked-refusal}
 use Rattle.bus.proofs.Kept.{asked-legal}
 use Rattle.bus.proofs.Stored.{Sized, sized, stored-long, stored-own, stored-again, stored-past, asked-stored}
 use Rattle.trace.specs.Records.{splitFrom, split}
-use Rattle.trace.specs.Play.{Played, playFrom, play}
+use Rattle.trace.specs.Play.{playFrom, play}
 use Rattle.trace.specs.Kinds.{chipOf, theChip}
-use Rattle.trace.specs.Run.{Ran, ran, stopOf, ranOf, runOn, run}
+use Rattle.trace.specs.Run.{ran, stopOf, ranOf, runOn, run}
 use Rattle.trace.specs.RunLaws.{runFurther}
-use Rattle.trace.proofs.Joined.{taken-offset, joined}
-use Rattle.bus.specs.Bytes.{Bytes}
-use Rattle.trace.proofs.Kept.{split-carries, play-keeps, all-any}
-use Rattle.trace.proofs.Held.{Held, Aside, Brings, Anything, brings, brings-any, replay-held, replay-aside}
-use Rattle.trace.proofs.Sound.{the-chip-sound}
+use Rattle.trace.proofs.PlayedJoined.{taken-offset, joined}
+use Rattle.trace.proofs.PlayedKeeps.{split-carries, play-keeps, all-any}
+use Rattle.trace.proofs.ChipKeeps.{Held, Aside, Brings, Anything, brings, brings-any, replay-held, replay-aside}
+use Rattle.trace.proofs.ChipRefusals.{the-chip-sound}
 
 -- the run of a trace on a legal state and memory, which hold registers r
 module _ (state memory : List ℕ) (r : Registers) (found : asked state memory ≡ Asked.Found r) where

@@ -1,4 +1,4 @@
--- One event more of a record's payload, over any machine.
+-- The bytes of a payload played one after the other, each an event: one byte more, where they stop, and the bytes after those that are done. Over any machine.
 -- Assumes nothing.
 use mathlib.Core.Path.{_≡_, refl, sym, _∙_}
 use mathlib.Core.List.{List, [], _∷_, map}
