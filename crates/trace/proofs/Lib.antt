@@ -1,11 +1,11 @@
--- The bytes of a trace, whatever they are played on.
+-- 1. The bytes of a trace, whatever they are played on.
 -- what stands at an offset, by the tests that tell it
 pub mod WhatStands
 -- the split into records: proves specs/SplitLaws
 pub mod SplitLaws
 -- the reader visits the records of the split: proves specs/ReaderWalk
 pub mod ReaderWalk
--- A trace played over any machine.
+-- 2. A trace played over any machine.
 -- played is what the events give one by one
 pub mod OneByOne
 -- from a later offset on, and by what stands there
@@ -20,7 +20,7 @@ pub mod PlayedKeeps
 pub mod PayloadBytes
 -- proves specs/AnyMachine
 pub mod AnyMachine
--- The chip as that machine.
+-- 3. The chip as that machine.
 -- what a record of each kind stands for
 pub mod ChipKinds
 -- what headers and events are refused with
@@ -29,7 +29,7 @@ pub mod ChipRefusals
 pub mod ChipKeeps
 -- a record's events are a stretch on the bus: proves specs/Stretched
 pub mod Stretched
--- The run on a lent state and memory.
+-- 4. The run on a lent state and memory.
 -- refused first, or played from the image's registers; what it leaves
 pub mod RunOnLent
 -- it is what the event calls give one by one
@@ -48,7 +48,7 @@ pub mod GivenEvent
 pub mod Given
 -- samples, by computing: proves specs/Samples
 pub mod Samples
--- The code.
+-- 5. The code.
 -- how the code's run ends
 pub mod RunCode
 -- one result for each public call: proves specs/Settled

@@ -1,4 +1,4 @@
--- What the contracts cite.
+-- 1. What the contracts cite.
 -- bytes split into records
 pub mod Records
 -- what stands first among bytes, as the code has it
@@ -11,7 +11,7 @@ pub mod Kinds
 pub mod Code
 -- the run on a lent state and memory
 pub mod Run
--- What is proved of them.
+-- 2. What is proved of them.
 -- the split, whatever it is played on
 pub mod SplitLaws
 -- the reader visits the records of the split
