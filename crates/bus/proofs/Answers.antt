@@ -1,21 +1,21 @@
 -- What an answer stands for: its number, and for what is no read byte 0 and not "dummy".
 -- Assumes nothing.
 use mathlib.Core.Path.{_≡_, refl, sym}
-use mathlib.Core.Bool.{false, cond, false≢true}
-use mathlib.Core.List.{List}
+use mathlib.Core.Bool.{Bool, true, false, cond, false≢true}
+use mathlib.Core.List.{List, [], _∷_}
 use Prim.Native.Nat.{ℕ, _≤_, _<_}
 use native.Mathlib.Omega.{arith}
 use lib.Dec.{leb, ltb, eqb, lit≤}
-use lib.ListN.{length}
+use lib.ListN.{length, getD}
 use borrow.Author.Tests.{eqb-true, eqb-false}
 use Rattle.codes.specs.Table.{meaningOf}
 use Rattle.codes.specs.declared.Command.{Command}
 use Rattle.codes.proofs.Tests.{chosen}
+use Rattle.codes.proofs.Others.{sortOf}
 use Rattle.constants.specs.Sizes.{lastColumn, pages, memorySize}
-use Rattle.constants.specs.Numbers.{taken, columnAbove}
+use Rattle.constants.specs.Numbers.{taken, outOfRange, outsideTable, noPage, notAllowed, codeAwaited, columnAbove}
 use Rattle.bus.specs.Events.{numberOf, obeyed, command, access, write, read, resetPin}
-use Rattle.bus.specs.Chip.{Event, commandByte, dataWritten, dataRead, resetPulse, step}
-use Rattle.bus.specs.Given.{numberOfCommand, numberOfEvent, isRead}
+use Rattle.bus.specs.Chip.{Event, commandByte, dataWritten, dataRead, resetPulse, step, Leaves}
 use Rattle.bus.specs.declared.registers.Registers.{Registers}
 use Rattle.bus.specs.declared.answer.After.{After}
 use Rattle.bus.specs.declared.answer.Answer.{Answer}
@@ -30,37 +30,55 @@ abbrev pub Silent : Answer → Type 0
 Silent (Answer.Taken after) = (after .byte ≡ 0) × (after .dummy ≡ false)
 Silent (Answer.Refused number) = Unit {0}
 
-obeyed-answers : (named : Command) (r : Registers) → StandsFor (numberOfCommand named) (obeyed named r) × Silent (obeyed named r)
+-- the number of a named command: 0 of one that the table has, 4 of B9-BF, 5 of an n that is not allowed, 2 of one whose code is none of the seven, 3 of a byte outside
+abbrev pub numberOfCommand : Command → ℕ
+numberOfCommand named = getD (taken ∷ noPage ∷ notAllowed ∷ outOfRange ∷ outsideTable ∷ []) (sortOf named) taken
+
+-- what the registers of a legal state meet
+abbrev pub numberOfEvent : Event → Registers → ℕ
+numberOfEvent (commandByte b) r = numberOfCommand (meaningOf (r .awaited) b)
+numberOfEvent (dataWritten b) r = cond (eqb (r .awaited) 0) (cond (leb (r .column) lastColumn) taken columnAbove) codeAwaited
+numberOfEvent dataRead r = cond (eqb (r .awaited) 0) (cond (leb (r .column) lastColumn) taken columnAbove) codeAwaited
+numberOfEvent resetPulse r = taken
+
+-- a data byte read
+abbrev pub isRead : Event → Bool
+isRead (commandByte b) = false
+isRead (dataWritten b) = false
+isRead dataRead = true
+isRead resetPulse = false
+
+obeyed-answers : (named : Command) (r : Registers) → StandsFor (numberOfCommand named) (obeyed named r) × Silent (obeyed named r) × Leaves (λ later. later .fresh ≡ 1) (obeyed named r)
 unfolding obeyed
-obeyed-answers (Command.ColumnLow value) r = (refl, (refl, refl))
-obeyed-answers (Command.ColumnHigh value) r = (refl, (refl, refl))
-obeyed-answers (Command.ResistorRatio value) r = (refl, (refl, refl))
-obeyed-answers (Command.PowerControl value) r = (refl, (refl, refl))
-obeyed-answers (Command.StartLine value) r = (refl, (refl, refl))
-obeyed-answers (Command.Contrast value) r = (refl, (refl, refl))
-obeyed-answers (Command.ColumnDirection value) r = (refl, (refl, refl))
-obeyed-answers (Command.Bias value) r = (refl, (refl, refl))
-obeyed-answers (Command.EntireOn value) r = (refl, (refl, refl))
-obeyed-answers (Command.Reverse value) r = (refl, (refl, refl))
-obeyed-answers (Command.Multiplex value) r = (refl, (refl, refl))
-obeyed-answers (Command.HeldByte value) r = (refl, (refl, refl))
-obeyed-answers (Command.QuarterBias value) r = (refl, (refl, refl))
-obeyed-answers Command.IndicatorOff r = (refl, (refl, refl))
-obeyed-answers (Command.IndicatorMode value) r = (refl, (refl, refl))
-obeyed-answers (Command.DisplayOn value) r = (refl, (refl, refl))
-obeyed-answers (Command.Page value) r = (refl, (refl, refl))
-obeyed-answers Command.NoPage r = ((refl, lit≤ tt, lit≤ tt), tt)
-obeyed-answers (Command.RowDirection value) r = (refl, (refl, refl))
-obeyed-answers (Command.Offset value) r = (refl, (refl, refl))
-obeyed-answers (Command.FramePhases value) r = (refl, (refl, refl))
-obeyed-answers Command.EnterReadModifyWrite r = (refl, (refl, refl))
-obeyed-answers Command.SoftwareReset r = (refl, (refl, refl))
-obeyed-answers Command.Nothing r = (refl, (refl, refl))
-obeyed-answers Command.LeaveReadModifyWrite r = (refl, (refl, refl))
-obeyed-answers (Command.Await value) r = (refl, (refl, refl))
-obeyed-answers Command.NotAllowed r = ((refl, lit≤ tt, lit≤ tt), tt)
-obeyed-answers Command.NotAwaited r = ((refl, lit≤ tt, lit≤ tt), tt)
-obeyed-answers Command.Outside r = ((refl, lit≤ tt, lit≤ tt), tt)
+obeyed-answers (Command.ColumnLow value) r = (refl, (refl, refl), refl)
+obeyed-answers (Command.ColumnHigh value) r = (refl, (refl, refl), refl)
+obeyed-answers (Command.ResistorRatio value) r = (refl, (refl, refl), refl)
+obeyed-answers (Command.PowerControl value) r = (refl, (refl, refl), refl)
+obeyed-answers (Command.StartLine value) r = (refl, (refl, refl), refl)
+obeyed-answers (Command.Contrast value) r = (refl, (refl, refl), refl)
+obeyed-answers (Command.ColumnDirection value) r = (refl, (refl, refl), refl)
+obeyed-answers (Command.Bias value) r = (refl, (refl, refl), refl)
+obeyed-answers (Command.EntireOn value) r = (refl, (refl, refl), refl)
+obeyed-answers (Command.Reverse value) r = (refl, (refl, refl), refl)
+obeyed-answers (Command.Multiplex value) r = (refl, (refl, refl), refl)
+obeyed-answers (Command.HeldByte value) r = (refl, (refl, refl), refl)
+obeyed-answers (Command.QuarterBias value) r = (refl, (refl, refl), refl)
+obeyed-answers Command.IndicatorOff r = (refl, (refl, refl), refl)
+obeyed-answers (Command.IndicatorMode value) r = (refl, (refl, refl), refl)
+obeyed-answers (Command.DisplayOn value) r = (refl, (refl, refl), refl)
+obeyed-answers (Command.Page value) r = (refl, (refl, refl), refl)
+obeyed-answers Command.NoPage r = ((refl, lit≤ tt, lit≤ tt), tt, tt)
+obeyed-answers (Command.RowDirection value) r = (refl, (refl, refl), refl)
+obeyed-answers (Command.Offset value) r = (refl, (refl, refl), refl)
+obeyed-answers (Command.FramePhases value) r = (refl, (refl, refl), refl)
+obeyed-answers Command.EnterReadModifyWrite r = (refl, (refl, refl), refl)
+obeyed-answers Command.SoftwareReset r = (refl, (refl, refl), refl)
+obeyed-answers Command.Nothing r = (refl, (refl, refl), refl)
+obeyed-answers Command.LeaveReadModifyWrite r = (refl, (refl, refl), refl)
+obeyed-answers (Command.Await value) r = (refl, (refl, refl), refl)
+obeyed-answers Command.NotAllowed r = ((refl, lit≤ tt, lit≤ tt), tt, tt)
+obeyed-answers Command.NotAwaited r = ((refl, lit≤ tt, lit≤ tt), tt, tt)
+obeyed-answers Command.Outside r = ((refl, lit≤ tt, lit≤ tt), tt, tt)
 
 abbrev Small : ℕ → Type 0
 Small number = number ≤ columnAbove
@@ -97,6 +115,11 @@ step-answers resetPulse r memory = refl
 pub command-silent : (b : ℕ) (r : Registers) → Silent (command b r)
 unfolding command
 command-silent b r = obeyed-answers (meaningOf (r .awaited) b) _ .1
+
+-- every command byte taken sets fresh to 1
+pub command-fresh : (b : ℕ) (r : Registers) → Leaves (λ later. later .fresh ≡ 1) (command b r)
+unfolding command
+command-fresh b r = obeyed-answers (meaningOf (r .awaited) b) _ .2
 
 pub step-silent : (event : Event) (r : Registers) (memory : List ℕ) → isRead event ≡ false → Silent (step event r memory .answer)
 unfolding step write resetPin

@@ -1,36 +1,63 @@
 -- Document 01, "Numbers given": a single event's call gives each number exactly when the table says so, with the byte and the dummy mark that it says.
 -- Assumes nothing.
 use mathlib.Core.Path.{_≡_, refl, sym, _∙_, ap, subst}
-use mathlib.Core.Bool.{Bool, true, false, cond, not, _&&_, _||_, false≢true}
-use mathlib.Core.Logic.{_↔_, ⊎-elim}
+use mathlib.Core.Bool.{Bool, true, false, cond, not, _&&_, _||_, or-true, false≢true}
+use mathlib.Core.Logic.{⊎-elim}
 use mathlib.Core.List.{List, [], _∷_}
-use Prim.Native.Nat.{ℕ, _≤_, _<_}
+use Prim.Native.Nat.{ℕ, _/_, _≤_, _<_}
+use native.Mathlib.Decide.{decLt}
 use native.Mathlib.Omega.{arith}
 use lib.Dec.{leb, eqb, lit<}
 use lib.ListN.{length, getD}
-use borrow.Author.Tests.{le-ltb, lt-ltb, eqb-true, not-false}
+use borrow.Author.Tests.{le-leb, lt-leb, le-ltb, lt-ltb, eqb-true, not-false}
 use Rattle.codes.specs.OneOf.{oneOf}
-use Rattle.codes.specs.Table.{Row, one, two, table, offsetOf, framePhasesOf, commandBy, commandOf, operandBy, operandOf, meaningOf}
+use Rattle.codes.specs.Others.{others, among}
+use Rattle.codes.specs.Table.{table, offsetOf, framePhasesOf, commandOf, operandBy, operandOf, meaningOf}
 use Rattle.codes.specs.declared.Command.{Command}
-use Rattle.codes.proofs.Tests.{chosen, either}
+use Rattle.codes.proofs.Tests.{chosen, one-of-each}
+use Rattle.codes.proofs.Others.{sort-listed, past-all}
 use Rattle.constants.specs.Sizes.{lastColumn, pages, memorySize}
-use Rattle.constants.specs.Numbers.{taken, tooShort, outOfRange}
+use Rattle.constants.specs.Numbers.{taken, tooShort, outOfRange, outsideTable, noPage, notAllowed}
 use Rattle.bus.specs.Registers.{largestValues, registersOf}
 use Rattle.bus.specs.Memory.{address, kept}
 use Rattle.bus.specs.Events.{numberOf, byteOf, dummyOf, access, dummyRead, byteRead, read}
 use Rattle.bus.specs.Chip.{Event, commandByte, dataWritten, dataRead, resetPulse, step}
 use Rattle.bus.specs.Image.{awaitedCodes, short, legal, asked}
-use Rattle.bus.specs.Given.{numberOfCommand, numberOfEvent, asksRanges, numberGiven, isRead, replyWith, replyGiven}
 use Rattle.bus.specs.Calls.{replyOf, concluded, refused, askedBefore, callOn, call}
 use Rattle.bus.specs.declared.registers.Registers.{Registers}
-use Rattle.bus.specs.declared.answer.After.{After}
 use Rattle.bus.specs.declared.answer.Answer.{Answer}
 use Rattle.bus.specs.declared.image.Asked.{Asked}
 use Rattle.bus.specs.declared.calls.Reply.{Reply}
 use Rattle.bus.proofs.Legal.{long}
 use Rattle.bus.proofs.Kept.{LegalRegisters, bound, state-facts}
-use Rattle.bus.proofs.Asking.{OneOrTwo, before-refusal}
-use Rattle.bus.proofs.Answers.{StandsFor, Silent, metBy, step-answers, step-silent, was-taken}
+use Rattle.bus.proofs.Answers.{numberOfCommand, numberOfEvent, isRead, StandsFor, Silent, metBy, step-answers, step-silent}
+
+-- 2 is not asked at a single reset-pin event
+abbrev pub asksRanges : Event → Bool
+asksRanges (commandByte b) = true
+asksRanges (dataWritten b) = true
+asksRanges dataRead = true
+asksRanges resetPulse = false
+
+-- the number by the table, the lower of 1 and 2 first
+abbrev pub numberGiven : Event → List ℕ → List ℕ → ℕ
+numberGiven event state memory =
+    cond (short state memory) tooShort (cond (asksRanges event && not (legal state)) outOfRange (numberOfEvent event (registersOf state)))
+
+-- the reply with a number
+abbrev pub replyWith : ℕ → Event → Registers → List ℕ → Reply
+replyWith number event r memory =
+    let readTaken = isRead event && eqb number taken in
+    let dummyRead = eqb (r .fresh) 1 in
+    record {
+      number = number;
+      byte = cond (readTaken && not dummyRead) (kept (r .page) (getD memory (address (r .page) (r .column)) 0)) 0;
+      dummy = readTaken && dummyRead;
+    }
+
+-- the whole reply
+abbrev pub replyGiven : Event → List ℕ → List ℕ → Reply
+replyGiven event state memory = replyWith (numberGiven event state memory) event (registersOf state) memory
 
 -- the reply to an event by the number that it meets
 read-reply : (r : Registers) (memory : List ℕ) → replyOf (read r memory) ≡ replyWith (access r (length memory)) dataRead r memory
@@ -111,15 +138,6 @@ reply-given event state memory = rw (asked-table event state memory) (by (short 
 pub number-given : (event : Event) (state memory : List ℕ) → call event state memory .reply .number ≡ numberGiven event state memory
 number-given event state memory = ap (λ (reply : Reply). reply .number) (reply-given event state memory)
 
--- what holds at each number of a list holds of one of them
-abbrev Each : (ℕ → Type 0) → List ℕ → Type 0
-Each P [] = Unit {0}
-Each P (m ∷ ms) = P m × Each P ms
-
-one-of-each : (P : ℕ → Type 0) (ms : List ℕ) (n : ℕ) → Each P ms → oneOf ms n ≡ true → P n
-one-of-each P [] n p e = absurd (false≢true e)
-one-of-each P (m ∷ ms) n p e = ⊎-elim (λ q. subst P (sym (eqb-true n m q)) (p .0)) (one-of-each P ms n (p .1)) (either (eqb n m) (oneOf ms n) e)
-
 -- a number that is neither 1 nor 2
 abbrev pub Neither : ℕ → Type 0
 Neither number = (eqb number tooShort || eqb number outOfRange) ≡ false
@@ -127,36 +145,53 @@ Neither number = (eqb number tooShort || eqb number outOfRange) ≡ false
 abbrev NamesNeither : Command → Type 0
 NamesNeither named = Neither (numberOfCommand named)
 
--- a code that may be awaited has its n
-operand-number : (code n : ℕ) → oneOf awaitedCodes code ≡ true → eqb code 0 ≡ false → NamesNeither (operandOf code n)
+-- a command byte with no code awaited, by document 01's lists; a number past all bytes is outside the table too
+abbrev pub isOther : ℕ → Bool
+isOther b = among others b || leb 256 b
+
+abbrev pub namesNoPage : ℕ → Bool
+namesNoPage b = leb 0xB9 b && leb b 0xBF
+
+by-lists : (o p : Bool) → getD (taken ∷ noPage ∷ notAllowed ∷ outOfRange ∷ outsideTable ∷ []) (cond o 4 (cond p 1 0)) taken ≡ cond (o || false) outsideTable (cond p noPage taken)
+by-lists true p = refl
+by-lists false true = refl
+by-lists false false = refl
+
+pub first-number : (b : ℕ) → numberOfCommand (commandOf b) ≡ cond (isOther b) outsideTable (cond (namesNoPage b) noPage taken)
+first-number b = by (decLt b 256)
+  where
+    by : Dec (b < 256) → numberOfCommand (commandOf b) ≡ cond (isOther b) outsideTable (cond (namesNoPage b) noPage taken)
+    by (yes h) = rw (sort-listed b h, lt-leb 256 b h) (by-lists (among others b) (namesNoPage b))
+    by (no h) = let past : 256 ≤ b = omega (arith, h) in rw (← (past-all b past), le-leb 256 b past, or-true (among others b))
+
+-- an n that its code allows
+abbrev pub allows : ℕ → ℕ → Bool
+allows code n = cond (eqb code 0xD3) (leb n 0x3F) (cond (eqb code 0xD4) (oneOf (0x00 ∷ 0x10 ∷ 0x20 ∷ 0x30 ∷ []) n) true)
+
+pub second-number : (code n : ℕ) → oneOf awaitedCodes code ≡ true → eqb code 0 ≡ false → numberOfCommand (operandOf code n) ≡ cond (allows code n) taken notAllowed
 unfolding awaitedCodes operandOf operandBy table offsetOf framePhasesOf
-operand-number code n h none =
-    one-of-each (λ code. eqb code 0 ≡ false → NamesNeither (operandOf code n)) awaitedCodes code
-    (λ z. absurd (false≢true (sym z)), (λ z. refl, (λ z. refl, (λ z. refl, (λ z. refl, (λ z. chosen NamesNeither (leb n 0x3F) _ _ (λ e. refl) (λ e. refl), (λ z. chosen NamesNeither (oneOf (0x00 ∷ 0x10 ∷ 0x20 ∷ 0x30 ∷ []) n) _ _ (λ e. refl) (λ e. refl), tt)))))))
+second-number code n h none =
+    one-of-each (λ code. eqb code 0 ≡ false → numberOfCommand (operandOf code n) ≡ cond (allows code n) taken notAllowed) awaitedCodes code
+    (λ z. absurd (false≢true (sym z)), (λ z. refl, (λ z. refl, (λ z. refl, (λ z. refl, (λ z. by (Command.Offset n) refl (leb n 0x3F), (λ z. by (Command.FramePhases (n / 16)) refl (oneOf (0x00 ∷ 0x10 ∷ 0x20 ∷ 0x30 ∷ []) n), tt)))))))
     h none
+  where
+    by : (given : Command) → numberOfCommand given ≡ taken → (t : Bool) → numberOfCommand (cond t given Command.NotAllowed) ≡ cond t taken notAllowed
+    by given e true = e
+    by given e false = refl
 
--- no command of the table is refused with 1 or 2
-abbrev EachRow : List Row → Type 0
-EachRow [] = Unit {0}
-EachRow (one first last means ∷ rows) = ((b : ℕ) → NamesNeither (means b)) × EachRow rows
-EachRow (two code gives ∷ rows) = EachRow rows
+-- no command byte is refused with 1 or 2 where its code may be awaited
+command-neither : (b : ℕ) → NamesNeither (commandOf b)
+command-neither b = rw (first-number b) (chosen Neither (isOther b) _ _ (λ e. refl) (λ e. chosen Neither (namesNoPage b) _ _ (λ e. refl) (λ e. refl)))
 
-command-by : (rows : List Row) (b : ℕ) → EachRow rows → NamesNeither (commandBy rows b)
-unfolding commandBy
-command-by [] b s = refl
-command-by (one first last means ∷ rows) b s = chosen NamesNeither (leb first b && leb b last) _ _ (λ e. s .0 b) (λ e. command-by rows b (s .1))
-command-by (two code gives ∷ rows) b s = chosen NamesNeither (eqb b code) _ _ (λ e. refl) (λ e. command-by rows b s)
-
-command-number : (b : ℕ) → NamesNeither (commandOf b)
-unfolding commandOf table
-command-number b = command-by table b (λ b. refl, (λ b. refl, (λ b. refl, (λ b. refl, (λ b. refl, (λ b. refl, (λ b. refl, (λ b. refl, (λ b. refl, (λ b. refl, (λ b. refl, (λ b. refl, (λ b. refl, (λ b. refl, (λ b. refl, (λ b. refl, (λ b. refl, (λ b. refl, (λ b. refl, (λ b. refl, tt))))))))))))))))))))
+operand-neither : (code n : ℕ) → oneOf awaitedCodes code ≡ true → eqb code 0 ≡ false → NamesNeither (operandOf code n)
+operand-neither code n h none = rw (second-number code n h none) (chosen Neither (allows code n) _ _ (λ e. refl) (λ e. refl))
 
 data-neither : (r : Registers) → Neither (numberOfEvent dataRead r)
 data-neither r = chosen Neither (eqb (r .awaited) 0) _ _ (λ e. chosen Neither (leb (r .column) lastColumn) _ _ (λ e. refl) (λ e. refl)) (λ e. refl)
 
 event-neither : (event : Event) (r : Registers) → LegalRegisters r → Neither (numberOfEvent event r)
 unfolding meaningOf
-event-neither (commandByte b) r l = chosen NamesNeither (eqb (r .awaited) 0) _ _ (λ e. command-number b) (operand-number (r .awaited) b (l .code))
+event-neither (commandByte b) r l = chosen NamesNeither (eqb (r .awaited) 0) _ _ (λ e. command-neither b) (operand-neither (r .awaited) b (l .code))
 event-neither (dataWritten b) r l = data-neither r
 event-neither dataRead r l = data-neither r
 event-neither resetPulse r l = refl
@@ -168,51 +203,8 @@ met-neither (dataWritten b) r size l m = rw (access-number r size l m) (data-nei
 met-neither dataRead r size l m = rw (access-number r size l m) (data-neither r)
 met-neither resetPulse r size l m = refl
 
--- nor does one that is not refused before it
-not-before : (event : Event) (state memory : List ℕ) → short state memory ≡ false → asksRanges event && not (legal state) ≡ false → Neither (numberOfEvent event (registersOf state))
-not-before (commandByte b) state memory p q = event-neither (commandByte b) _ (kept-legal state memory p q)
-not-before (dataWritten b) state memory p q = data-neither (registersOf state)
-not-before dataRead state memory p q = data-neither (registersOf state)
-not-before resetPulse state memory p q = refl
-
 pub not-one : {number : ℕ} → Neither number → number ≡ tooShort → ⊥
 not-one h e = false≢true (sym (subst Neither e h))
 
 pub not-two : {number : ℕ} → Neither number → number ≡ outOfRange → ⊥
 not-two h e = false≢true (sym (subst Neither e h))
-
--- 1 is given exactly when a lent state or memory is too short
-pub one-given : (event : Event) (state memory : List ℕ) → call event state memory .reply .number ≡ tooShort ↔ short state memory ≡ true
-one-given event state memory = rw (number-given event state memory) (by (short state memory) (asksRanges event && not (legal state)) refl refl)
-  where
-    by : (s t : Bool) → short state memory ≡ s → asksRanges event && not (legal state) ≡ t → cond s tooShort (cond t outOfRange (numberOfEvent event (registersOf state))) ≡ tooShort ↔ s ≡ true
-    by true t p q = (λ e. refl, λ h. refl)
-    by false true p q = (λ e. absurd (omega (arith, e)), λ h. absurd (false≢true h))
-    by false false p q = (λ e. absurd (not-one (not-before event state memory p q) e), λ h. absurd (false≢true h))
-
--- 2 is given exactly when the image is out of its ranges, where 1 does not go first; it is not asked at the reset pin
-pub two-given : (event : Event) (state memory : List ℕ) → call event state memory .reply .number ≡ outOfRange ↔ (short state memory ≡ false) × (asksRanges event && not (legal state) ≡ true)
-two-given event state memory = rw (number-given event state memory) (by (short state memory) (asksRanges event && not (legal state)) refl refl)
-  where
-    by : (s t : Bool) → short state memory ≡ s → asksRanges event && not (legal state) ≡ t → cond s tooShort (cond t outOfRange (numberOfEvent event (registersOf state))) ≡ outOfRange ↔ (s ≡ false) × (t ≡ true)
-    by true t p q = (λ e. absurd (omega (arith, e)), λ h. absurd (false≢true (sym (h .0))))
-    by false true p q = (λ e. (refl, refl), λ h. refl)
-    by false false p q = (λ e. absurd (not-two (not-before event state memory p q) e), λ h. absurd (false≢true (h .1)))
-
--- an event is taken: what is asked before it finds registers, and its step from them is taken
-pub record IsTaken (event : Event) (state memory : List ℕ) : Type 0 where
-  pub registers : Registers
-  pub after : After
-  pub found : askedBefore event state memory ≡ Asked.Found registers
-  pub answer : step event registers memory .answer ≡ Answer.Taken after
-
--- 0 is given exactly when the event is taken
-pub call-taken : (event : Event) (state memory : List ℕ) → call event state memory .reply .number ≡ taken ↔ IsTaken event state memory
-unfolding call callOn concluded refused replyOf numberOf
-call-taken event state memory = (λ e. on (askedBefore event state memory) refl e, λ t. rw (t .found, t .answer))
-  where
-    on : (asking : Asked) → askedBefore event state memory ≡ asking → callOn asking event state memory .reply .number ≡ taken → IsTaken event state memory
-    on (Asked.Found r) e n =
-        let t = was-taken _ (step event r memory .answer) (step-answers event r memory) n in
-        record { registers = r; after = t .after; found = e; answer = t .is }
-    on (Asked.Refused number) e n = absurd (omega (arith, n, subst OneOrTwo e (before-refusal event state memory) .0))

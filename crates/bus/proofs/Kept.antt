@@ -20,7 +20,7 @@ use Rattle.constants.specs.Numbers.{taken}
 use Rattle.bus.specs.Places.{page, column, start, offset, multiplex, contrast, ratio, power, bias, quarter, held, phases, columnDirection, rowDirection, entire, reverse, on, indicator, mode, awaited, modify, saved, fresh}
 use Rattle.bus.specs.Registers.{largestValues, imageOf, registersOf, _with_≔_, powerOn}
 use Rattle.bus.specs.Memory.{onward}
-use Rattle.bus.specs.Events.{done, enter, leave, softwareReset, obeyed, command, access, moved, write, read, resetPin}
+use Rattle.bus.specs.Events.{commandTaken, enter, leave, softwareReset, obeyed, command, access, moved, write, read, resetPin}
 use Rattle.bus.specs.Chip.{Event, commandByte, dataWritten, dataRead, resetPulse, step}
 use Rattle.bus.specs.Image.{within, awaitedCodes, legal, asked}
 pub use Rattle.bus.specs.Bytes.{IsByte}
@@ -87,9 +87,9 @@ put : (r : Registers) (place value : ℕ) → within largestValues (imageOf r) �
 put r place value e h = rw (image-with r place value) (within-set largestValues (imageOf r) place value e h)
 
 -- a taken command byte leaves what it set, with fresh 1
-done-keeps : (r : Registers) → LegalRegisters r → Keeps (done r)
+fresh-keeps : (r : Registers) → LegalRegisters r → Keeps (commandTaken r)
 unfolding largestValues
-done-keeps r l = record { inRanges = put r fresh 1 (l .inRanges) (lit≤ tt); code = l .code; savedZero = l .savedZero }
+fresh-keeps r l = record { inRanges = put r fresh 1 (l .inRanges) (lit≤ tt); code = l .code; savedZero = l .savedZero }
 
 -- the bound that legal registers have at a place
 pub bound : (r : Registers) → LegalRegisters r → (place : ℕ) → place < 23 → getD (imageOf r) place 0 ≤ getD largestValues place 0
@@ -158,33 +158,33 @@ software-reset-keeps r l = record { inRanges = within-sets resets (imageOf r) (l
 
 obeyed-keeps : (named : Command) (r : Registers) → CommandInRange named → LegalRegisters r → Keeps (obeyed named r)
 unfolding obeyed largestValues codesOf table
-obeyed-keeps (Command.ColumnLow low) r h l = done-keeps _ (set-plain r column _ l (omega (arith, bound r l column (omega arith))) refl refl refl)
-obeyed-keeps (Command.ColumnHigh high) r h l = done-keeps _ (set-plain r column _ l (omega arith) refl refl refl)
-obeyed-keeps (Command.ResistorRatio value) r h l = done-keeps _ (set-plain r ratio value l (omega arith) refl refl refl)
-obeyed-keeps (Command.PowerControl value) r h l = done-keeps _ (set-plain r power value l (omega arith) refl refl refl)
-obeyed-keeps (Command.StartLine value) r h l = done-keeps _ (set-plain r start value l (omega arith) refl refl refl)
-obeyed-keeps (Command.Contrast value) r h l = done-keeps _ (set-plain r contrast value l (omega arith) refl refl refl)
-obeyed-keeps (Command.ColumnDirection value) r h l = done-keeps _ (set-plain r columnDirection value l (omega arith) refl refl refl)
-obeyed-keeps (Command.Bias value) r h l = done-keeps _ (set-plain r bias value l (omega arith) refl refl refl)
-obeyed-keeps (Command.EntireOn value) r h l = done-keeps _ (set-plain r entire value l (omega arith) refl refl refl)
-obeyed-keeps (Command.Reverse value) r h l = done-keeps _ (set-plain r reverse value l (omega arith) refl refl refl)
-obeyed-keeps (Command.Multiplex value) r h l = done-keeps _ (set-plain r multiplex value l (omega arith) refl refl refl)
-obeyed-keeps (Command.HeldByte value) r h l = done-keeps _ (set-plain r held value l (omega arith) refl refl refl)
-obeyed-keeps (Command.QuarterBias value) r h l = done-keeps _ (set-plain r quarter value l (omega arith) refl refl refl)
-obeyed-keeps Command.IndicatorOff r h l = done-keeps _ (set-plain _ mode 0 (set-plain r indicator 0 l (omega arith) refl refl refl) (omega arith) refl refl refl)
-obeyed-keeps (Command.IndicatorMode value) r h l = done-keeps _ (set-plain _ mode value (set-plain r indicator 1 l (omega arith) refl refl refl) (omega arith) refl refl refl)
-obeyed-keeps (Command.DisplayOn value) r h l = done-keeps _ (set-plain r on value l (omega arith) refl refl refl)
-obeyed-keeps (Command.Page value) r h l = done-keeps _ (set-plain r page value l (omega arith) refl refl refl)
+obeyed-keeps (Command.ColumnLow low) r h l = fresh-keeps _ (set-plain r column _ l (omega (arith, bound r l column (omega arith))) refl refl refl)
+obeyed-keeps (Command.ColumnHigh high) r h l = fresh-keeps _ (set-plain r column _ l (omega arith) refl refl refl)
+obeyed-keeps (Command.ResistorRatio value) r h l = fresh-keeps _ (set-plain r ratio value l (omega arith) refl refl refl)
+obeyed-keeps (Command.PowerControl value) r h l = fresh-keeps _ (set-plain r power value l (omega arith) refl refl refl)
+obeyed-keeps (Command.StartLine value) r h l = fresh-keeps _ (set-plain r start value l (omega arith) refl refl refl)
+obeyed-keeps (Command.Contrast value) r h l = fresh-keeps _ (set-plain r contrast value l (omega arith) refl refl refl)
+obeyed-keeps (Command.ColumnDirection value) r h l = fresh-keeps _ (set-plain r columnDirection value l (omega arith) refl refl refl)
+obeyed-keeps (Command.Bias value) r h l = fresh-keeps _ (set-plain r bias value l (omega arith) refl refl refl)
+obeyed-keeps (Command.EntireOn value) r h l = fresh-keeps _ (set-plain r entire value l (omega arith) refl refl refl)
+obeyed-keeps (Command.Reverse value) r h l = fresh-keeps _ (set-plain r reverse value l (omega arith) refl refl refl)
+obeyed-keeps (Command.Multiplex value) r h l = fresh-keeps _ (set-plain r multiplex value l (omega arith) refl refl refl)
+obeyed-keeps (Command.HeldByte value) r h l = fresh-keeps _ (set-plain r held value l (omega arith) refl refl refl)
+obeyed-keeps (Command.QuarterBias value) r h l = fresh-keeps _ (set-plain r quarter value l (omega arith) refl refl refl)
+obeyed-keeps Command.IndicatorOff r h l = fresh-keeps _ (set-plain _ mode 0 (set-plain r indicator 0 l (omega arith) refl refl refl) (omega arith) refl refl refl)
+obeyed-keeps (Command.IndicatorMode value) r h l = fresh-keeps _ (set-plain _ mode value (set-plain r indicator 1 l (omega arith) refl refl refl) (omega arith) refl refl refl)
+obeyed-keeps (Command.DisplayOn value) r h l = fresh-keeps _ (set-plain r on value l (omega arith) refl refl refl)
+obeyed-keeps (Command.Page value) r h l = fresh-keeps _ (set-plain r page value l (omega arith) refl refl refl)
 obeyed-keeps Command.NoPage r h l = tt
-obeyed-keeps (Command.RowDirection value) r h l = done-keeps _ (set-plain r rowDirection value l (omega arith) refl refl refl)
-obeyed-keeps (Command.Offset value) r h l = done-keeps _ (set-plain r offset value l (omega arith) refl refl refl)
-obeyed-keeps (Command.FramePhases value) r h l = done-keeps _ (set-plain r phases value l (omega arith) refl refl refl)
-obeyed-keeps Command.EnterReadModifyWrite r h l = done-keeps _ (enter-keeps r l)
-obeyed-keeps Command.SoftwareReset r h l = done-keeps _ (software-reset-keeps r l)
-obeyed-keeps Command.Nothing r h l = done-keeps r l
-obeyed-keeps Command.LeaveReadModifyWrite r h l = done-keeps _ (leave-keeps r l)
+obeyed-keeps (Command.RowDirection value) r h l = fresh-keeps _ (set-plain r rowDirection value l (omega arith) refl refl refl)
+obeyed-keeps (Command.Offset value) r h l = fresh-keeps _ (set-plain r offset value l (omega arith) refl refl refl)
+obeyed-keeps (Command.FramePhases value) r h l = fresh-keeps _ (set-plain r phases value l (omega arith) refl refl refl)
+obeyed-keeps Command.EnterReadModifyWrite r h l = fresh-keeps _ (enter-keeps r l)
+obeyed-keeps Command.SoftwareReset r h l = fresh-keeps _ (software-reset-keeps r l)
+obeyed-keeps Command.Nothing r h l = fresh-keeps r l
+obeyed-keeps Command.LeaveReadModifyWrite r h l = fresh-keeps _ (leave-keeps r l)
 obeyed-keeps (Command.Await code) r h l =
-    done-keeps _
+    fresh-keeps _
     (record { inRanges = put r awaited code (l .inRanges) (one-of-at-most 255 (codesOf table) code refl h); code = code-legal code h; savedZero = l .savedZero })
 obeyed-keeps Command.NotAllowed r h l = tt
 obeyed-keeps Command.NotAwaited r h l = tt
@@ -209,7 +209,7 @@ moved-keeps r size l e = set-plain r column (onward (r .column)) l (onward-bound
 
 write-keeps : (r : Registers) (size : ℕ) → LegalRegisters r → Keeps (write r size)
 unfolding write
-write-keeps r size l = taken-keeps (access r size) _ (λ e. done-keeps (moved r) (moved-keeps r size l e))
+write-keeps r size l = taken-keeps (access r size) _ (λ e. fresh-keeps (moved r) (moved-keeps r size l e))
 
 read-keeps : (r : Registers) (memory : List ℕ) → LegalRegisters r → Keeps (read r memory)
 unfolding read largestValues

@@ -10,9 +10,10 @@ pub mod Replayed
 pub mod Stretches
 pub mod Alone
 pub mod Settled
-pub mod Ranges
+pub mod TablesAgree
 pub mod Exactly
+pub mod Given
 pub mod Stored
-pub mod Waiting
+pub mod Awaiting
 pub mod StaysLegal
 pub mod CallsOnChip

@@ -1,13 +1,44 @@
--- Two results that satisfy one statement are equal: of the values that the layers hand over, and of a call's whole outcome.
+-- What each public call states has one result.
 -- Assumes nothing.
 use mathlib.Core.Path.{_≡_, sym, _∙_, ap}
 use mathlib.Core.List.{List}
 use Prim.Native.Nat.{ℕ}
+use Rattle.codes.specs.Settled.{Settles}
+use Rattle.codes.proofs.Settled.{equation}
 use Rattle.bus.specs.Calls.{Called, called}
+use Rattle.bus.specs.Settled.{Settled}
 use Rattle.bus.specs.declared.calls.Reply.{Reply}
 
-pub same {ℓ} : {A : Type ℓ} {stated first second : A} → first ≡ stated → second ≡ stated → first ≡ second
-same p q = p ∙ sym q
+-- an outcome of answer, state and memory
+whole : (stated : Called) → Settles (λ (o : Reply × List ℕ × List ℕ). called (o .0) (o .1) (o .2) ≡ stated)
+whole stated first second p q = let e = p ∙ sym q in ap (λ (c : Called). (c .reply, c .state, c .memory)) e
 
-pub same-call : {stated : Called} (r s : Reply) (state state′ memory memory′ : List ℕ) → called r state memory ≡ stated → called s state′ memory′ ≡ stated → (r ≡ s) × (state ≡ state′) × (memory ≡ memory′)
-same-call r s state state′ memory memory′ p q = let e = same p q in (ap (λ c. c .reply) e, ap (λ c. c .state) e, ap (λ c. c .memory) e)
+-- one that leaves the memory
+with-state : (memory : List ℕ) (stated : Called) → Settles (λ (o : Reply × List ℕ). called (o .0) (o .1) memory ≡ stated)
+with-state memory stated first second p q = let e = p ∙ sym q in ap (λ (c : Called). (c .reply, c .state)) e
+
+-- two equations at once
+two-equations : {A B : Type 0} (a : A) (b : B) → Settles (λ (o : A × B). (o .0 ≡ a) × (o .1 ≡ b))
+two-equations a b first second p q = rw (p .0 ∙ sym (q .0), p .1 ∙ sym (q .1))
+
+pub settled : Settled
+settled = record {
+  «calls::write» = λ byte state memory. whole _;
+  «calls::read» = λ state memory. with-state memory _;
+  «calls::reset_pin» = λ state memory. with-state memory _;
+  «calls::conclude» = λ answer state. two-equations _ _;
+  «calls::refuse» = λ number. equation _;
+  «Registers::command» = λ byte self. equation _;
+  «Registers::reset_pin» = λ self. equation _;
+  «Registers::write» = λ self memory byte. two-equations _ _;
+  «Registers::read» = λ self memory. equation _;
+  «Registers::store» = λ self state. equation _;
+  «Registers::image» = λ self. equation _;
+  «Registers::power_on» = equation _;
+  «Registers::power_state» = λ self. equation _;
+  «Registers::with_column» = λ self value. equation _;
+  «Registers::with_fresh» = λ self value. equation _;
+  «image::ask» = λ state memory. equation _;
+  «image::short» = λ state memory. equation _;
+  «image::legal» = λ image. equation _;
+}

@@ -10,6 +10,7 @@ use mathlib.Core.List.{append-nil}
 use lib.Seq.{drop-cons}
 use Rattle.constants.specs.Sizes.{imageSize}
 use Rattle.bus.specs.Registers.{imageOf, registersOf, _with_≔_}
+use Rattle.bus.specs.ThereAndBack.{ThereAndBack}
 use Rattle.bus.specs.declared.registers.Registers.{Registers}
 
 -- n bytes of a list from place i, one by one
@@ -26,12 +27,12 @@ bytes-rest (suc n) i image h =
 pub image-registers : (state : List ℕ) → imageSize ≤ length state → imageOf (registersOf state) ++ drop imageSize state ≡ state
 image-registers state h = bytes-rest 23 0 state h
 
-pub registers-image : (r : Registers) → registersOf (imageOf r) ≡ r
-registers-image r = refl
-
 -- an image with one register set is the image with that byte set
 pub image-with : (r : Registers) (place value : ℕ) → imageOf (r with place ≔ value) ≡ set (imageOf r) place value
 image-with r place value =
     let changed = set (imageOf r) place value in
     let long : length changed ≡ 23 = length-set (imageOf r) place value in
     sym (append-nil _) ∙ ap (λ rest. imageOf (registersOf changed) ++ rest) (sym (drop-of-length-le changed {i = 23} (omega arith))) ∙ image-registers changed (omega arith)
+
+pub thereAndBack : ThereAndBack
+thereAndBack = record { size = λ r. refl; registersBack = λ r. refl; imageBack = image-registers; oneSet = image-with }

@@ -33,6 +33,11 @@ unfoldable pub registersAfter : Answer → Registers → Registers
 registersAfter (Answer.Taken after) r = after .registers
 registersAfter (Answer.Refused number) r = r
 
+-- What holds of the registers that a taken event leaves.
+abbrev pub Leaves : (Registers → Type 0) → Answer → Type 0
+Leaves P (Answer.Taken after) = P (after .registers)
+Leaves P (Answer.Refused number) = Unit {0}
+
 -- The chip after an event.
 unfoldable pub chipAfter : Event → Chip → Chip
 chipAfter event chip =

@@ -32,8 +32,8 @@ abbrev pub silently : Registers → Answer
 silently r = Answer.Taken (record { registers = r; byte = 0; dummy = false })
 
 -- Every command byte taken sets fresh to 1.
-abbrev pub done : Registers → Answer
-done r = silently (r with fresh ≔ 1)
+abbrev pub commandTaken : Registers → Answer
+commandTaken r = silently (r with fresh ≔ 1)
 
 -- E2 sets these; the rest stays.
 abbrev pub softwareReset : Registers → Registers
@@ -50,32 +50,32 @@ leave r = cond (eqb (r .modify) 1) (r with modify ≔ 0 with column ≔ r .saved
 
 -- What each command does, in the table's order; an n where the code is none of the seven is out of range, which a call has asked before.
 unfoldable pub obeyed : Command → Registers → Answer
-obeyed (Command.ColumnLow low) r = done (r with column ≔ r .column / 16 * 16 + low)
-obeyed (Command.ColumnHigh high) r = done (r with column ≔ high * 16 + r .column % 16)
-obeyed (Command.ResistorRatio value) r = done (r with ratio ≔ value)
-obeyed (Command.PowerControl value) r = done (r with power ≔ value)
-obeyed (Command.StartLine value) r = done (r with start ≔ value)
-obeyed (Command.Contrast value) r = done (r with contrast ≔ value)
-obeyed (Command.ColumnDirection value) r = done (r with columnDirection ≔ value)
-obeyed (Command.Bias value) r = done (r with bias ≔ value)
-obeyed (Command.EntireOn value) r = done (r with entire ≔ value)
-obeyed (Command.Reverse value) r = done (r with reverse ≔ value)
-obeyed (Command.Multiplex value) r = done (r with multiplex ≔ value)
-obeyed (Command.HeldByte value) r = done (r with held ≔ value)
-obeyed (Command.QuarterBias value) r = done (r with quarter ≔ value)
-obeyed Command.IndicatorOff r = done (r with indicator ≔ 0 with mode ≔ 0)
-obeyed (Command.IndicatorMode value) r = done (r with indicator ≔ 1 with mode ≔ value)
-obeyed (Command.DisplayOn value) r = done (r with on ≔ value)
-obeyed (Command.Page value) r = done (r with page ≔ value)
+obeyed (Command.ColumnLow low) r = commandTaken (r with column ≔ r .column / 16 * 16 + low)
+obeyed (Command.ColumnHigh high) r = commandTaken (r with column ≔ high * 16 + r .column % 16)
+obeyed (Command.ResistorRatio value) r = commandTaken (r with ratio ≔ value)
+obeyed (Command.PowerControl value) r = commandTaken (r with power ≔ value)
+obeyed (Command.StartLine value) r = commandTaken (r with start ≔ value)
+obeyed (Command.Contrast value) r = commandTaken (r with contrast ≔ value)
+obeyed (Command.ColumnDirection value) r = commandTaken (r with columnDirection ≔ value)
+obeyed (Command.Bias value) r = commandTaken (r with bias ≔ value)
+obeyed (Command.EntireOn value) r = commandTaken (r with entire ≔ value)
+obeyed (Command.Reverse value) r = commandTaken (r with reverse ≔ value)
+obeyed (Command.Multiplex value) r = commandTaken (r with multiplex ≔ value)
+obeyed (Command.HeldByte value) r = commandTaken (r with held ≔ value)
+obeyed (Command.QuarterBias value) r = commandTaken (r with quarter ≔ value)
+obeyed Command.IndicatorOff r = commandTaken (r with indicator ≔ 0 with mode ≔ 0)
+obeyed (Command.IndicatorMode value) r = commandTaken (r with indicator ≔ 1 with mode ≔ value)
+obeyed (Command.DisplayOn value) r = commandTaken (r with on ≔ value)
+obeyed (Command.Page value) r = commandTaken (r with page ≔ value)
 obeyed Command.NoPage r = Answer.Refused noPage
-obeyed (Command.RowDirection value) r = done (r with rowDirection ≔ value)
-obeyed (Command.Offset value) r = done (r with offset ≔ value)
-obeyed (Command.FramePhases value) r = done (r with phases ≔ value)
-obeyed Command.EnterReadModifyWrite r = done (enter r)
-obeyed Command.SoftwareReset r = done (softwareReset r)
-obeyed Command.Nothing r = done r
-obeyed Command.LeaveReadModifyWrite r = done (leave r)
-obeyed (Command.Await code) r = done (r with awaited ≔ code)
+obeyed (Command.RowDirection value) r = commandTaken (r with rowDirection ≔ value)
+obeyed (Command.Offset value) r = commandTaken (r with offset ≔ value)
+obeyed (Command.FramePhases value) r = commandTaken (r with phases ≔ value)
+obeyed Command.EnterReadModifyWrite r = commandTaken (enter r)
+obeyed Command.SoftwareReset r = commandTaken (softwareReset r)
+obeyed Command.Nothing r = commandTaken r
+obeyed Command.LeaveReadModifyWrite r = commandTaken (leave r)
+obeyed (Command.Await code) r = commandTaken (r with awaited ≔ code)
 obeyed Command.NotAllowed r = Answer.Refused notAllowed
 obeyed Command.NotAwaited r = Answer.Refused outOfRange
 obeyed Command.Outside r = Answer.Refused outsideTable

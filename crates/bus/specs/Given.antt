@@ -1,89 +1,84 @@
--- Document 01, "Numbers given", as a table for a single event's call: which number it gives, and with what byte and dummy mark. Exactly.antt proves that the calls give these.
-use Prim.Native.Nat.{ℕ}
-use mathlib.Core.Bool.{Bool, true, false, cond, not, _&&_}
-use mathlib.Core.List.{List}
-use lib.Dec.{leb, eqb}
+-- Document 01, "Numbers given", for the call of a single event: each number exactly when its line says so, and the byte and the dummy mark beside it.
+use Prim.Native.Nat.{ℕ, _≤_, _<_}
+use mathlib.Core.Path.{_≡_}
+use mathlib.Core.Bool.{true, false}
+use mathlib.Core.List.{List, [], _∷_}
+use mathlib.Core.Logic.{_↔_, _⊎_, _≢_}
 use lib.ListN.{getD}
-use Rattle.codes.specs.Table.{meaningOf}
-use Rattle.codes.specs.declared.Command.{Command}
+use Rattle.codes.specs.OneOf.{oneOf}
+use Rattle.codes.specs.Others.{others, among}
 use Rattle.constants.specs.Sizes.{lastColumn}
 use Rattle.constants.specs.Numbers.{taken, tooShort, outOfRange, outsideTable, noPage, notAllowed, codeAwaited, columnAbove}
 use Rattle.bus.specs.Registers.{registersOf}
 use Rattle.bus.specs.Memory.{address, kept}
-use Rattle.bus.specs.Chip.{Event, commandByte, dataWritten, dataRead, resetPulse}
+use Rattle.bus.specs.Chip.{Event, commandByte, dataWritten, dataRead, resetPulse, step}
 use Rattle.bus.specs.Image.{short, legal}
+use Rattle.bus.specs.Calls.{askedBefore, call}
+use Rattle.bus.specs.Bytes.{IsByte}
+use Rattle.bus.specs.StaysLegal.{Accepted}
 use Rattle.bus.specs.declared.registers.Registers.{Registers}
-use Rattle.bus.specs.declared.calls.Reply.{Reply}
+use Rattle.bus.specs.declared.answer.After.{After}
+use Rattle.bus.specs.declared.answer.Answer.{Answer}
+use Rattle.bus.specs.declared.image.Asked.{Asked}
 
--- 3 for a byte outside the table, 4 for B9-BF, 5 for an n that is not allowed; 2 for an n whose code is none of the seven, which a call has asked before
-abbrev pub numberOfCommand : Command → ℕ
-numberOfCommand (Command.ColumnLow value) = taken
-numberOfCommand (Command.ColumnHigh value) = taken
-numberOfCommand (Command.ResistorRatio value) = taken
-numberOfCommand (Command.PowerControl value) = taken
-numberOfCommand (Command.StartLine value) = taken
-numberOfCommand (Command.Contrast value) = taken
-numberOfCommand (Command.ColumnDirection value) = taken
-numberOfCommand (Command.Bias value) = taken
-numberOfCommand (Command.EntireOn value) = taken
-numberOfCommand (Command.Reverse value) = taken
-numberOfCommand (Command.Multiplex value) = taken
-numberOfCommand (Command.HeldByte value) = taken
-numberOfCommand (Command.QuarterBias value) = taken
-numberOfCommand Command.IndicatorOff = taken
-numberOfCommand (Command.IndicatorMode value) = taken
-numberOfCommand (Command.DisplayOn value) = taken
-numberOfCommand (Command.Page value) = taken
-numberOfCommand Command.NoPage = noPage
-numberOfCommand (Command.RowDirection value) = taken
-numberOfCommand (Command.Offset value) = taken
-numberOfCommand (Command.FramePhases value) = taken
-numberOfCommand Command.EnterReadModifyWrite = taken
-numberOfCommand Command.SoftwareReset = taken
-numberOfCommand Command.Nothing = taken
-numberOfCommand Command.LeaveReadModifyWrite = taken
-numberOfCommand (Command.Await value) = taken
-numberOfCommand Command.NotAllowed = notAllowed
-numberOfCommand Command.NotAwaited = outOfRange
-numberOfCommand Command.Outside = outsideTable
+-- An event is taken: what is asked before it finds registers, and its step from them is taken.
+pub record IsTaken (event : Event) (state memory : List ℕ) : Type 0 where
+  pub registers : Registers
+  pub after : After
+  pub found : askedBefore event state memory ≡ Asked.Found registers
+  pub answer : step event registers memory .answer ≡ Answer.Taken after
 
--- what the registers of a legal state meet: 3, 4 or 5 of a command byte, 6 before 7 of a data event, nothing of the reset pin
-abbrev pub numberOfEvent : Event → Registers → ℕ
-numberOfEvent (commandByte b) r = numberOfCommand (meaningOf (r .awaited) b)
-numberOfEvent (dataWritten b) r = cond (eqb (r .awaited) 0) (cond (leb (r .column) lastColumn) taken columnAbove) codeAwaited
-numberOfEvent dataRead r = cond (eqb (r .awaited) 0) (cond (leb (r .column) lastColumn) taken columnAbove) codeAwaited
-numberOfEvent resetPulse r = taken
+-- A command byte with no code awaited, of which this holds.
+abbrev pub FirstByte : (ℕ → Type 0) → Registers → Event → Type 0
+FirstByte P r (commandByte b) = (r .awaited ≡ 0) × P b
+FirstByte P r (dataWritten b) = ⊥
+FirstByte P r dataRead = ⊥
+FirstByte P r resetPulse = ⊥
 
--- 2 is not asked at a single reset-pin event
-abbrev pub asksRanges : Event → Bool
-asksRanges (commandByte b) = true
-asksRanges (dataWritten b) = true
-asksRanges dataRead = true
-asksRanges resetPulse = false
+-- A command byte that is the n of an awaited code, of which this holds.
+abbrev pub SecondByte : (ℕ → ℕ → Type 0) → Registers → Event → Type 0
+SecondByte P r (commandByte n) = (r .awaited ≢ 0) × P (r .awaited) n
+SecondByte P r (dataWritten b) = ⊥
+SecondByte P r dataRead = ⊥
+SecondByte P r resetPulse = ⊥
 
--- the table, the lower of 1 and 2 first
-abbrev pub numberGiven : Event → List ℕ → List ℕ → ℕ
-numberGiven event state memory =
-    cond (short state memory) tooShort (cond (asksRanges event && not (legal state)) outOfRange (numberOfEvent event (registersOf state)))
+-- A data write or read.
+abbrev pub IsData : Event → Type 0
+IsData (commandByte b) = ⊥
+IsData (dataWritten b) = Unit {0}
+IsData dataRead = Unit {0}
+IsData resetPulse = ⊥
 
--- a data byte read
-abbrev pub isRead : Event → Bool
-isRead (commandByte b) = false
-isRead (dataWritten b) = false
-isRead dataRead = true
-isRead resetPulse = false
+-- An n that its code does not allow: D3 allows up to 3F, D4 00, 10, 20 and 30, and the others any.
+abbrev pub NotAllowed : ℕ → ℕ → Type 0
+NotAllowed code n = ((code ≡ 0xD3) × (0x3F < n)) ⊎ ((code ≡ 0xD4) × (oneOf (0x00 ∷ 0x10 ∷ 0x20 ∷ 0x30 ∷ []) n ≡ false))
 
--- the reply with a number: a refusal, and each taken event but a read, answers byte 0 and not "dummy"; a taken read answers "dummy" and byte 0 where fresh is 1, and else the byte
-abbrev pub replyWith : ℕ → Event → Registers → List ℕ → Reply
-replyWith number event r memory =
-    let readTaken = isRead event && eqb number taken in
-    let dummyRead = eqb (r .fresh) 1 in
-    record {
-      number = number;
-      byte = cond (readTaken && not dummyRead) (kept (r .page) (getD memory (address (r .page) (r .column)) 0)) 0;
-      dummy = readTaken && dummyRead;
-    }
+-- The number that the call of an event gives.
+abbrev pub numberFrom : Event → List ℕ → List ℕ → ℕ
+numberFrom event state memory = call event state memory .reply .number
 
--- the whole reply
-abbrev pub replyGiven : Event → List ℕ → List ℕ → Reply
-replyGiven event state memory = replyWith (numberGiven event state memory) event (registersOf state) memory
+pub record Given (event : Event) (state memory : List ℕ) : Type 0 where
+  -- 0: taken.
+  pub number0 : numberFrom event state memory ≡ taken ↔ IsTaken event state memory
+  -- 1: a lent state or memory is too short.
+  pub number1 : numberFrom event state memory ≡ tooShort ↔ short state memory ≡ true
+  -- 2: the state image is out of its ranges (not asked at a single reset-pin event), where 1 does not go first.
+  pub number2 : numberFrom event state memory ≡ outOfRange ↔ (short state memory ≡ false) × (event ≢ resetPulse) × (legal state ≡ false)
+  -- 3: a command byte outside the table, B9-BF apart, with no code awaited.
+  pub number3 : IsByte event → numberFrom event state memory ≡ outsideTable ↔ Accepted state memory × FirstByte (λ b. among others b ≡ true) (registersOf state) event
+  -- 4: B9-BF with no code awaited.
+  pub number4 : numberFrom event state memory ≡ noPage ↔ Accepted state memory × FirstByte (λ b. (0xB9 ≤ b) × (b ≤ 0xBF)) (registersOf state) event
+  -- 5: n of D3 or D4 not allowed.
+  pub number5 : numberFrom event state memory ≡ notAllowed ↔ Accepted state memory × SecondByte NotAllowed (registersOf state) event
+  -- 6: a data write or read while a code is awaited.
+  pub number6 : numberFrom event state memory ≡ codeAwaited ↔ Accepted state memory × IsData event × (registersOf state .awaited ≢ 0)
+  -- 7: a data write or read with column above 131, where 6 does not go first.
+  pub number7 : numberFrom event state memory ≡ columnAbove ↔ Accepted state memory × IsData event × (registersOf state .awaited ≡ 0) × (lastColumn < registersOf state .column)
+  -- No other number is given.
+  pub noOther : numberFrom event state memory ≤ columnAbove
+  -- A refusal, and each taken event but a read, answers byte 0 and not "dummy".
+  pub silent : (numberFrom event state memory ≢ taken) ⊎ (event ≢ dataRead) → (call event state memory .reply .byte ≡ 0) × (call event state memory .reply .dummy ≡ false)
+  -- A taken read with fresh 1 answers "dummy", byte 0.
+  pub dummyRead : event ≡ dataRead → numberFrom event state memory ≡ taken → registersOf state .fresh ≡ 1 → (call event state memory .reply .byte ≡ 0) × (call event state memory .reply .dummy ≡ true)
+  -- A taken read with fresh 0 answers the byte at page and column, of page 8 bit 0 alone.
+  pub byteRead : event ≡ dataRead → numberFrom event state memory ≡ taken → registersOf state .fresh ≡ 0 → (call event state memory .reply .byte ≡ kept (registersOf state .page) (getD memory (address (registersOf state .page) (registersOf state .column)) 0)) × (call event state memory .reply .dummy ≡ false)

@@ -1,16 +1,42 @@
+-- the place of each register in the image
 pub mod Places
+-- the image, the ranges, power-on, one register set
 pub mod Registers
+-- where a byte lies, what of it is kept, the column after it
 pub mod Memory
+-- what each of the four events answers, and the memory that a write leaves
 pub mod Events
+-- the chip as a machine: registers and memory, a step for each event
 pub mod Chip
+-- a refusal number, or what was asked for
 pub mod Result
+-- what a record's payload stands for, and the chip after it
 pub mod Recorded
+-- a stretch of events over any step: how far it came
 pub mod Stretch
-pub mod Stretches
+-- when a lent image is legal; refusals 1 and 2
 pub mod Image
+-- the starting state and memory
 pub mod Start
+-- the whole outcome of a call
 pub mod Calls
-pub mod Given
+-- why some laws take bytes below 256
 pub mod Bytes
+-- image and registers convert without loss
+pub mod ThereAndBack
+-- the image's order and the awaited codes, listed twice
+pub mod TablesAgree
+-- the two readings of a command byte
+pub mod Awaiting
+-- what is legal stays legal
 pub mod StaysLegal
+-- each number exactly when, with its byte and dummy mark
+pub mod Given
+-- what a call leaves as it was, and the one byte that a write changes
+pub mod Untouched
+-- a call on lent images is the event on the chip
 pub mod CallsOnChip
+-- a stretch event by event
+pub mod Stretches
+-- one result for each statement
+pub mod Settled

@@ -79,7 +79,7 @@ pub record Range : Type 0 where
 abbrev pub range : ℕ → ℕ → ℕ → Range
 range register most start = record { place = register; largest = most; atPowerOn = start }
 
--- The ranges in the image's order, which decides; proofs/Ranges.antt shows that each stands at its place. Image.antt has what more is asked of the awaited code and the saved column.
+-- The ranges in the image's order, which decides; TablesAgree.antt says that each stands at its place. Image.antt has what more is asked of the awaited code and the saved column.
 unfoldable pub ranges : List Range
 ranges =
     range page 8 0 ∷

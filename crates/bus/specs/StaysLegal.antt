@@ -6,7 +6,7 @@ use mathlib.Core.List.{List}
 use lib.Dec.{eqb}
 use Rattle.codes.specs.OneOf.{oneOf}
 use Rattle.bus.specs.Registers.{largestValues, imageOf, powerOn}
-use Rattle.bus.specs.Chip.{Event, resetPulse, step}
+use Rattle.bus.specs.Chip.{Event, resetPulse, step, Leaves}
 use Rattle.bus.specs.Image.{within, awaitedCodes, short, legal}
 use Rattle.bus.specs.Calls.{call}
 use Rattle.bus.specs.Bytes.{IsByte}
@@ -19,10 +19,9 @@ pub record LegalRegisters (r : Registers) : Type 0 where
   pub code : oneOf awaitedCodes (r .awaited) ≡ true
   pub savedZero : cond (eqb (r .modify) 0) (eqb (r .saved) 0) true ≡ true
 
--- An answer leaves legal registers; a refusal leaves none of its own.
+-- A taken event leaves legal registers.
 abbrev pub Keeps : Answer → Type 0
-Keeps (Answer.Taken after) = LegalRegisters (after .registers)
-Keeps (Answer.Refused number) = Unit {0}
+Keeps = Leaves LegalRegisters
 
 -- A lent state and memory that 1 and 2 do not refuse: long enough, and the image in its ranges.
 pub record Accepted (state memory : List ℕ) : Type 0 where

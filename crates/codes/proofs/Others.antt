@@ -84,7 +84,7 @@ unfolding agree commandOf commandBy table
 sort-listed b h = agree-at 256 b refl h
 
 -- a number past all bytes is in no row
-past-all : (b : ℕ) → 256 ≤ b → Command.Outside ≡ commandOf b
+pub past-all : (b : ℕ) → 256 ≤ b → Command.Outside ≡ commandOf b
 unfolding table
 past-all b h = in-gap 26 0 256 b b refl refl h (omega arith) tt
 

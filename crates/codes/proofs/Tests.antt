@@ -1,6 +1,6 @@
 -- Laws on tests that every layer uses: a test that fails, the two halves of one that holds, and membership in a list of codes.
 -- Assumes nothing.
-use mathlib.Core.Path.{_≡_, refl}
+use mathlib.Core.Path.{_≡_, refl, sym, subst}
 use mathlib.Core.Bool.{Bool, true, false, cond, _&&_, _||_, false≢true}
 use mathlib.Core.Logic.{_⊎_, inl, inr, ⊎-elim}
 use mathlib.Core.List.{List, [], _∷_}
@@ -38,3 +38,12 @@ one-of-at-most x [] n h e = absurd (false≢true e)
 one-of-at-most x (m ∷ ms) n h e =
     let halves = both (leb m x) (atMost x ms) h in
     ⊎-elim (λ p. omega (arith, eqb-true n m p, leb-true m x (halves .0))) (λ p. one-of-at-most x ms n (halves .1) p) (either (eqb n m) (oneOf ms n) e)
+
+-- what holds at each number of a list holds of one of them
+abbrev pub Each : (ℕ → Type 0) → List ℕ → Type 0
+Each P [] = Unit {0}
+Each P (m ∷ ms) = P m × Each P ms
+
+pub one-of-each : (P : ℕ → Type 0) (ms : List ℕ) (n : ℕ) → Each P ms → oneOf ms n ≡ true → P n
+one-of-each P [] n p e = absurd (false≢true e)
+one-of-each P (m ∷ ms) n p e = ⊎-elim (λ q. subst P (sym (eqb-true n m q)) (p .0)) (one-of-each P ms n (p .1)) (either (eqb n m) (oneOf ms n) e)

@@ -1,0 +1,242 @@
+-- Document 01, "Numbers given": a single event's call gives each number exactly when the table says so, with the byte and the dummy mark that it says.
+-- Assumes nothing.
+use mathlib.Core.Path.{_≡_, refl, sym, _∙_, ap, subst}
+use mathlib.Core.Bool.{Bool, true, false, cond, not, _&&_, _||_, or-false, false≢true}
+use mathlib.Core.Logic.{_↔_, _⊎_, inl, inr, ⊎-elim, _≢_}
+use mathlib.Core.List.{List, [], _∷_}
+use Prim.Native.Nat.{ℕ, zero, suc, _≤_, _<_}
+use native.Mathlib.Omega.{arith}
+use lib.Dec.{leb, eqb, lit≤}
+use lib.ListN.{getD}
+use borrow.Author.Tests.{le-leb, lt-leb, leb-true, leb-false, eq-eqb, ne-eqb, eqb-true, eqb-false, not-false}
+use Rattle.codes.specs.OneOf.{oneOf}
+use Rattle.codes.specs.Others.{others, among}
+use Rattle.codes.specs.Table.{commandOf, operandOf, meaningOf}
+use Rattle.codes.specs.declared.Command.{Command}
+use Rattle.codes.proofs.Tests.{both, chosen}
+use Rattle.codes.proofs.Others.{theOthers}
+use Rattle.constants.specs.Sizes.{lastColumn}
+use Rattle.constants.specs.Numbers.{taken, tooShort, outOfRange, outsideTable, noPage, notAllowed, codeAwaited, columnAbove}
+use Rattle.bus.specs.Registers.{registersOf}
+use Rattle.bus.specs.Memory.{address, kept}
+use Rattle.bus.specs.Events.{numberOf}
+use Rattle.bus.specs.Chip.{Event, commandByte, dataWritten, dataRead, resetPulse, step}
+use Rattle.bus.specs.Image.{short, legal}
+use Rattle.bus.specs.Calls.{replyOf, concluded, refused, askedBefore, callOn, call}
+use Rattle.bus.specs.Bytes.{IsByte}
+use Rattle.bus.specs.StaysLegal.{LegalRegisters, Accepted}
+use Rattle.bus.specs.Given.{IsTaken, FirstByte, SecondByte, IsData, NotAllowed, numberFrom, Given}
+use Rattle.bus.specs.declared.registers.Registers.{Registers}
+use Rattle.bus.specs.declared.answer.Answer.{Answer}
+use Rattle.bus.specs.declared.image.Asked.{Asked}
+use Rattle.bus.specs.declared.calls.Reply.{Reply}
+use Rattle.bus.proofs.Legal.{long}
+use Rattle.bus.proofs.Kept.{state-facts}
+use Rattle.bus.proofs.Asking.{OneOrTwo, before-refusal}
+use Rattle.bus.proofs.Answers.{numberOfCommand, numberOfEvent, isRead, step-answers, was-taken}
+use Rattle.bus.proofs.Exactly.{asksRanges, numberGiven, replyWith, replyGiven, reply-given, number-given, isOther, namesNoPage, first-number, allows, second-number}
+
+-- 0 is given exactly when the event is taken
+call-taken : (event : Event) (state memory : List ℕ) → call event state memory .reply .number ≡ taken ↔ IsTaken event state memory
+unfolding call callOn concluded refused replyOf numberOf
+call-taken event state memory = (λ e. on (askedBefore event state memory) refl e, λ t. rw (t .found, t .answer))
+  where
+    on : (asking : Asked) → askedBefore event state memory ≡ asking → callOn asking event state memory .reply .number ≡ taken → IsTaken event state memory
+    on (Asked.Found r) e n =
+        let t = was-taken _ (step event r memory .answer) (step-answers event r memory) n in
+        record { registers = r; after = t .after; found = e; answer = t .is }
+    on (Asked.Refused number) e n = absurd (omega (arith, n, subst OneOrTwo e (before-refusal event state memory) .0))
+
+-- an n that is not allowed fails its code's test, and one that fails it is not allowed
+not-allowed : (code n : ℕ) → allows code n ≡ false → NotAllowed code n
+not-allowed code n e = by (eqb code 0xD3) (eqb code 0xD4) refl refl e
+  where
+    by : (d e : Bool) → eqb code 0xD3 ≡ d → eqb code 0xD4 ≡ e → cond d (leb n 0x3F) (cond e (oneOf (0x00 ∷ 0x10 ∷ 0x20 ∷ 0x30 ∷ []) n) true) ≡ false → NotAllowed code n
+    by true e p q h = inl (eqb-true code 0xD3 p, leb-false n 0x3F h)
+    by false true p q h = inr (eqb-true code 0xD4 q, h)
+    by false false p q h = absurd (false≢true (sym h))
+
+allows-not : (code n : ℕ) → NotAllowed code n → allows code n ≡ false
+allows-not code n h = ⊎-elim (λ a. rw (eq-eqb code 0xD3 (a .0)) (lt-leb n 0x3F (a .1))) (λ a. rw (a .0) (a .1)) h
+
+module _ (event : Event) (state memory : List ℕ) where
+  -- what document 01's table says beside each number from 1 on
+  abbrev Facts : ℕ → Type 0
+  Facts zero = Unit {0}
+  Facts (suc zero) = short state memory ≡ true
+  Facts (suc (suc zero)) = (short state memory ≡ false) × (event ≢ resetPulse) × (legal state ≡ false)
+  Facts (suc (suc (suc zero))) = Accepted state memory × FirstByte (λ b. isOther b ≡ true) (registersOf state) event
+  Facts (suc (suc (suc (suc zero)))) = Accepted state memory × FirstByte (λ b. (0xB9 ≤ b) × (b ≤ 0xBF)) (registersOf state) event
+  Facts (suc (suc (suc (suc (suc zero))))) = Accepted state memory × SecondByte NotAllowed (registersOf state) event
+  Facts (suc (suc (suc (suc (suc (suc zero)))))) = Accepted state memory × IsData event × (registersOf state .awaited ≢ 0)
+  Facts (suc (suc (suc (suc (suc (suc (suc zero))))))) = Accepted state memory × IsData event × (registersOf state .awaited ≡ 0) × (lastColumn < registersOf state .column)
+  Facts (suc (suc (suc (suc (suc (suc (suc (suc n)))))))) = ⊥
+
+-- the facts hold of the number that an accepted state gives, event by event
+module _ (state memory : List ℕ) (a : Accepted state memory) where
+  command-facts : (b : ℕ) → Facts (commandByte b) state memory (numberOfEvent (commandByte b) (registersOf state))
+  unfolding meaningOf
+  command-facts b =
+      let l = state-facts state (long state memory (a .longEnough) .0) (a .inRanges) in
+      let code = registersOf state .awaited in
+      chosen (λ named. Facts (commandByte b) state memory (numberOfCommand named)) (eqb (registersOf state .awaited) 0) _ _
+      (λ none. rw (first-number b)
+      (chosen (Facts (commandByte b) state memory) (isOther b) _ _
+      (λ other. (a, (eqb-true _ _ none, other)))
+      (λ other. chosen (Facts (commandByte b) state memory) (namesNoPage b) _ _ (λ p. let ends = both (leb 0xB9 b) (leb b 0xBF) p in (a, (eqb-true _ _ none, (leb-true _ _ (ends .0), leb-true _ _ (ends .1))))) (λ p. tt))))
+      (λ some. rw (second-number (registersOf state .awaited) b (l .code) some)
+      (chosen (Facts (commandByte b) state memory) (allows (registersOf state .awaited) b) _ _ (λ t. tt) (λ t. (a, (eqb-false _ _ some, not-allowed _ b t)))))
+
+  data-facts : (event : Event) → IsData event → Facts event state memory (cond (eqb (registersOf state .awaited) 0) (cond (leb (registersOf state .column) lastColumn) taken columnAbove) codeAwaited)
+  data-facts event d =
+      chosen (Facts event state memory) (eqb (registersOf state .awaited) 0) _ _
+      (λ none. chosen (Facts event state memory) (leb (registersOf state .column) lastColumn) _ _ (λ t. tt) (λ t. (a, d, eqb-true _ _ none, leb-false _ _ t)))
+      (λ some. (a, d, eqb-false _ _ some))
+
+-- what is not refused first is accepted
+accepted : (state memory : List ℕ) → short state memory ≡ false → not (legal state) ≡ false → Accepted state memory
+accepted state memory p q = record { longEnough = p; inRanges = not-false (legal state) q }
+
+event-facts : (event : Event) (state memory : List ℕ) → short state memory ≡ false → asksRanges event && not (legal state) ≡ false → Facts event state memory (numberOfEvent event (registersOf state))
+event-facts (commandByte b) state memory p q = command-facts state memory (accepted state memory p q) b
+event-facts (dataWritten b) state memory p q = data-facts state memory (accepted state memory p q) (dataWritten b) tt
+event-facts dataRead state memory p q = data-facts state memory (accepted state memory p q) dataRead tt
+event-facts resetPulse state memory p q = tt
+
+not-true : (t : Bool) → not t ≡ true → t ≡ false
+not-true true e = absurd (false≢true e)
+not-true false e = refl
+
+-- an event before which the ranges are asked is no pulse on the reset pin
+asks : (event : Event) → asksRanges event ≡ true → event ≢ resetPulse
+asks event e same = false≢true (subst (λ event. asksRanges event ≡ true) same e)
+
+asked-of : (event : Event) → event ≢ resetPulse → asksRanges event ≡ true
+asked-of (commandByte b) n = refl
+asked-of (dataWritten b) n = refl
+asked-of dataRead n = refl
+asked-of resetPulse n = absurd (n refl)
+
+all-facts : (event : Event) (state memory : List ℕ) → Facts event state memory (numberGiven event state memory)
+all-facts event state memory =
+    chosen (Facts event state memory) (short state memory) _ _ (λ s. s)
+    (λ s. chosen (Facts event state memory) (asksRanges event && not (legal state)) _ _ (λ t. let halves = both (asksRanges event) (not (legal state)) t in (s, asks event (halves .0), not-true (legal state) (halves .1))) (event-facts event state memory s))
+
+-- and the number follows from the facts
+module _ (state memory : List ℕ) (a : Accepted state memory) where
+  given-accepted : (event : Event) → numberGiven event state memory ≡ numberOfEvent event (registersOf state)
+  given-accepted (commandByte b) = rw (a .longEnough, a .inRanges)
+  given-accepted (dataWritten b) = rw (a .longEnough, a .inRanges)
+  given-accepted dataRead = rw (a .longEnough, a .inRanges)
+  given-accepted resetPulse = rw (a .longEnough)
+
+  first-given : (n : ℕ) (P : ℕ → Type 0) → ((b : ℕ) → P b → numberOfCommand (commandOf b) ≡ n) → (event : Event) → FirstByte P (registersOf state) event → numberOfEvent event (registersOf state) ≡ n
+  unfolding meaningOf
+  first-given n P p (commandByte b) f = rw (eq-eqb (registersOf state .awaited) 0 (f .0)) (p b (f .1))
+  first-given n P p (dataWritten b) f = absurd f
+  first-given n P p dataRead f = absurd f
+  first-given n P p resetPulse f = absurd f
+
+  second-given : (event : Event) → SecondByte NotAllowed (registersOf state) event → numberOfEvent event (registersOf state) ≡ notAllowed
+  unfolding meaningOf
+  second-given (commandByte b) f =
+      let l = state-facts state (long state memory (a .longEnough) .0) (a .inRanges) in
+      let some = ne-eqb (registersOf state .awaited) 0 (f .0) in
+      rw some (second-number (registersOf state .awaited) b (l .code) some ∙ rw (allows-not (registersOf state .awaited) b (f .1)))
+  second-given (dataWritten b) f = absurd f
+  second-given dataRead f = absurd f
+  second-given resetPulse f = absurd f
+
+  data-given : (n : ℕ) → cond (eqb (registersOf state .awaited) 0) (cond (leb (registersOf state .column) lastColumn) taken columnAbove) codeAwaited ≡ n → (event : Event) → IsData event → numberOfEvent event (registersOf state) ≡ n
+  data-given n e (commandByte b) d = absurd d
+  data-given n e (dataWritten b) d = e
+  data-given n e dataRead d = e
+  data-given n e resetPulse d = absurd d
+
+module _ (event : Event) (state memory : List ℕ) where
+  exactly : (n : ℕ) → (Facts event state memory n → numberGiven event state memory ≡ n) → numberFrom event state memory ≡ n ↔ Facts event state memory n
+  exactly n back =
+      let same = number-given event state memory in
+      (λ e. subst (Facts event state memory) (sym same ∙ e) (all-facts event state memory), λ f. same ∙ back f)
+
+  one : Facts event state memory tooShort → numberGiven event state memory ≡ tooShort
+  one s = rw s
+
+  two : Facts event state memory outOfRange → numberGiven event state memory ≡ outOfRange
+  two f = rw (f .0, asked-of event (f .1), f .2)
+
+  three : Facts event state memory outsideTable → numberGiven event state memory ≡ outsideTable
+  three f = given-accepted state memory (f .0) event ∙ first-given state memory (f .0) outsideTable (λ b. isOther b ≡ true) (λ b other. first-number b ∙ rw other) event (f .1)
+
+  four : Facts event state memory noPage → numberGiven event state memory ≡ noPage
+  four f = given-accepted state memory (f .0) event ∙ first-given state memory (f .0) noPage (λ b. (0xB9 ≤ b) × (b ≤ 0xBF)) (λ b ends. ap numberOfCommand (theOthers .noPage b .1 ends)) event (f .1)
+
+  five : Facts event state memory notAllowed → numberGiven event state memory ≡ notAllowed
+  five f = given-accepted state memory (f .0) event ∙ second-given state memory (f .0) event (f .1)
+
+  six : Facts event state memory codeAwaited → numberGiven event state memory ≡ codeAwaited
+  six f = given-accepted state memory (f .0) event ∙ data-given state memory (f .0) codeAwaited (rw (ne-eqb (registersOf state .awaited) 0 (f .2))) event (f .1)
+
+  seven : Facts event state memory columnAbove → numberGiven event state memory ≡ columnAbove
+  seven f = given-accepted state memory (f .0) event ∙ data-given state memory (f .0) columnAbove (rw (eq-eqb (registersOf state .awaited) 0 (f .2), lt-leb (registersOf state .column) lastColumn (f .3))) event (f .1)
+
+-- of a byte, what is outside the table is among the others
+of-a-byte : (r : Registers) (event : Event) → IsByte event → FirstByte (λ b. isOther b ≡ true) r event ↔ FirstByte (λ b. among others b ≡ true) r event
+of-a-byte r (commandByte b) h = (λ f. (f .0, rw (lt-leb 256 b h, or-false (among others b)) at (f .1)), λ f. (f .0, rw (f .1)))
+of-a-byte r (dataWritten b) h = (λ f. f, λ f. f)
+of-a-byte r dataRead h = (λ f. f, λ f. f)
+of-a-byte r resetPulse h = (λ f. f, λ f. f)
+
+bounded : (event : Event) (state memory : List ℕ) → (n : ℕ) → Facts event state memory n → n ≤ columnAbove
+bounded event state memory zero f = lit≤ tt
+bounded event state memory (suc zero) f = lit≤ tt
+bounded event state memory (suc (suc zero)) f = lit≤ tt
+bounded event state memory (suc (suc (suc zero))) f = lit≤ tt
+bounded event state memory (suc (suc (suc (suc zero)))) f = lit≤ tt
+bounded event state memory (suc (suc (suc (suc (suc zero))))) f = lit≤ tt
+bounded event state memory (suc (suc (suc (suc (suc (suc zero)))))) f = lit≤ tt
+bounded event state memory (suc (suc (suc (suc (suc (suc (suc zero))))))) f = lit≤ tt
+bounded event state memory (suc (suc (suc (suc (suc (suc (suc (suc n)))))))) f = absurd f
+
+-- byte and dummy mark
+not-read : (event : Event) → event ≢ dataRead → isRead event ≡ false
+not-read (commandByte b) n = refl
+not-read (dataWritten b) n = refl
+not-read dataRead n = absurd (n refl)
+not-read resetPulse n = refl
+
+and-false : (t : Bool) → (t && false) ≡ false
+and-false true = refl
+and-false false = refl
+
+module _ (event : Event) (state memory : List ℕ) where
+  silent-reply : (isRead event && eqb (numberGiven event state memory) taken) ≡ false → (replyGiven event state memory .byte ≡ 0) × (replyGiven event state memory .dummy ≡ false)
+  silent-reply e = (rw e, rw e)
+
+  silent-when : (numberFrom event state memory ≢ taken) ⊎ (event ≢ dataRead) → (isRead event && eqb (numberGiven event state memory) taken) ≡ false
+  silent-when h =
+      ⊎-elim
+      (λ n. rw (ne-eqb (numberGiven event state memory) taken (λ e. n (number-given event state memory ∙ e)), and-false (isRead event)))
+      (λ n. rw (not-read event n))
+      h
+
+  read-reply : event ≡ dataRead → numberFrom event state memory ≡ taken → (isRead event && eqb (numberGiven event state memory) taken) ≡ true
+  read-reply e n = rw (sym (number-given event state memory) ∙ n, ap isRead e)
+
+  pub given : Given event state memory
+  given =
+      let reply = reply-given event state memory in
+      record {
+        number0 = call-taken event state memory;
+        number1 = exactly event state memory tooShort (one event state memory);
+        number2 = exactly event state memory outOfRange (two event state memory);
+        number3 = λ h. let e = exactly event state memory outsideTable (three event state memory) in let swap = of-a-byte (registersOf state) event h in (λ n. let f = e .0 n in (f .0, swap .0 (f .1)), λ f. e .1 (f .0, swap .1 (f .1)));
+        number4 = exactly event state memory noPage (four event state memory);
+        number5 = exactly event state memory notAllowed (five event state memory);
+        number6 = exactly event state memory codeAwaited (six event state memory);
+        number7 = exactly event state memory columnAbove (seven event state memory);
+        noOther = rw (number-given event state memory) (bounded event state memory _ (all-facts event state memory));
+        silent = λ h. rw reply (silent-reply (silent-when h));
+        dummyRead = λ e n fresh. rw (reply, read-reply e n, fresh) (refl, refl);
+        byteRead = λ e n fresh. rw (reply, read-reply e n, fresh) (refl, refl);
+      }

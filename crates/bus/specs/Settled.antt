@@ -1,0 +1,38 @@
+-- Any two results that satisfy what a public call of this crate states are equal: its answer, and what it leaves of everything lent to be changed. A field has the name of its call.
+use Prim.Native.Nat.{ℕ}
+use mathlib.Core.Path.{_≡_}
+use mathlib.Core.Bool.{Bool}
+use mathlib.Core.List.{List}
+use lib.ListN.{length}
+use Rattle.codes.specs.Settled.{Settles}
+use Rattle.bus.specs.Places.{column, fresh}
+use Rattle.bus.specs.Registers.{imageOf, _with_≔_, powerOn, powerState}
+use Rattle.bus.specs.Events.{command, write, written, read, resetPin}
+use Rattle.bus.specs.Chip.{dataWritten, dataRead, resetPulse}
+use Rattle.bus.specs.Image.{short, legal, asked, stored}
+use Rattle.bus.specs.Calls.{called, replyOf, stateAfter, call}
+use Rattle.bus.specs.declared.registers.Registers.{Registers}
+use Rattle.bus.specs.declared.registers.PowerState.{PowerState}
+use Rattle.bus.specs.declared.answer.Answer.{Answer}
+use Rattle.bus.specs.declared.image.Asked.{Asked}
+use Rattle.bus.specs.declared.calls.Reply.{Reply}
+
+pub record Settled : Type 0 where
+  pub «calls::write» : (byte : ℕ) (state memory : List ℕ) → Settles (λ (o : Reply × List ℕ × List ℕ). called (o .0) (o .1) (o .2) ≡ call (dataWritten byte) state memory)
+  pub «calls::read» : (state memory : List ℕ) → Settles (λ (o : Reply × List ℕ). called (o .0) (o .1) memory ≡ call dataRead state memory)
+  pub «calls::reset_pin» : (state memory : List ℕ) → Settles (λ (o : Reply × List ℕ). called (o .0) (o .1) memory ≡ call resetPulse state memory)
+  pub «calls::conclude» : (answer : Answer) (state : List ℕ) → Settles (λ (o : Reply × List ℕ). (o .0 ≡ replyOf answer) × (o .1 ≡ stateAfter answer state))
+  pub «calls::refuse» : (number : ℕ) → Settles (λ (r : Reply). r ≡ replyOf (Answer.Refused number))
+  pub «Registers::command» : (byte : ℕ) (self : Registers) → Settles (λ (r : Answer). r ≡ command byte self)
+  pub «Registers::reset_pin» : (self : Registers) → Settles (λ (r : Answer). r ≡ resetPin self)
+  pub «Registers::write» : (self : Registers) (memory : List ℕ) (byte : ℕ) → Settles (λ (o : Answer × List ℕ). (o .0 ≡ write self (length memory)) × (o .1 ≡ written byte self memory))
+  pub «Registers::read» : (self : Registers) (memory : List ℕ) → Settles (λ (r : Answer). r ≡ read self memory)
+  pub «Registers::store» : (self : Registers) (state : List ℕ) → Settles (λ (later : List ℕ). later ≡ stored self state)
+  pub «Registers::image» : (self : Registers) → Settles (λ (r : List ℕ). r ≡ imageOf self)
+  pub «Registers::power_on» : Settles (λ (r : Registers). r ≡ powerOn)
+  pub «Registers::power_state» : (self : Registers) → Settles (λ (r : PowerState). r ≡ powerState self)
+  pub «Registers::with_column» : (self : Registers) (value : ℕ) → Settles (λ (r : Registers). r ≡ (self with column ≔ value))
+  pub «Registers::with_fresh» : (self : Registers) (value : ℕ) → Settles (λ (r : Registers). r ≡ (self with fresh ≔ value))
+  pub «image::ask» : (state memory : List ℕ) → Settles (λ (r : Asked). r ≡ asked state memory)
+  pub «image::short» : (state memory : List ℕ) → Settles (λ (r : Bool). r ≡ short state memory)
+  pub «image::legal» : (image : List ℕ) → Settles (λ (r : Bool). r ≡ legal image)
