@@ -100,7 +100,7 @@ module _ (trace : List ℕ) where
   unknown-stops at w c (loaded k p) = kind-4-loaded trace at _ w c k p
 
   -- the bytes of a record that stands at an offset, played one by one
-  abbrev pub itsBytes : ℕ → Chip → Type 0
+  abbrev itsBytes : ℕ → Chip → Type 0
   itsBytes at c = playRecord theChip (recordAt at (drop at trace)) c ≡ playBytes theChip (recordedBy (kindOf (drop at trace))) trace (at + headerSize) (at + headerSize + lengthOf (drop at trace)) c
 
   module _ (at : ℕ) (c : Chip) (w : whole (drop at trace) ≡ true) where

@@ -17,10 +17,12 @@ use Rattle.trace.specs.OneByOne.{Placed, scriptFrom}
 use Rattle.trace.specs.ByCalls.{byCalls, runByCalls}
 use Rattle.trace.specs.Run.{ran, stopOf, ranOf, Accepted}
 use Rattle.trace.specs.Given.{EachTaken}
-use Rattle.trace.specs.RunLaws.{leftBy, metAfter, RunLaws}
+use Rattle.trace.specs.RunLaws.{leftBy, metAfter, RunLaws, ChipAsMachine}
 use Rattle.trace.specs.declared.run.Stop.{Stop}
 use Rattle.trace.proofs.OneByOne.{one-by-one}
-use Rattle.trace.proofs.RunOnLent.{run-found, run-empty, run-legal, run-joined, run-past, run-lengths}
+use Rattle.trace.proofs.RunOnLent.{run-found, run-empty, run-legal, run-joined, run-whole, run-past, run-lengths}
+use Rattle.trace.proofs.AnyMachine.{any-machine}
+use Rattle.trace.proofs.ChipRefusals.{the-chip-sound}
 use Rattle.trace.proofs.RunByCalls.{run-by-calls}
 
 -- the calls stop at the first event that meets a refusal
@@ -50,9 +52,13 @@ run-laws state memory =
           run-by-calls state memory _ (is-found state memory a) trace bytes ∙ ap (λ (events : List (Placed Recorded)). byCalls events end state memory) e ∙ stops-first before p rest end state memory h n;
       empty = λ a. run-empty state memory _ (is-found state memory a);
       joined = run-joined state memory;
+      whole = run-whole state memory;
       staysLegal = λ a trace bytes. accepted _ _ (run-legal state memory _ (is-found state memory a) trace bytes);
       statePast = λ trace. run-past state memory trace .0;
       memoryPast = λ trace. run-past state memory trace .1;
       stateLength = λ trace. run-lengths state memory trace .0;
       memoryLength = λ trace. run-lengths state memory trace .1;
     }
+
+pub chip-as-machine : ChipAsMachine
+chip-as-machine = record { sound = the-chip-sound; laws = any-machine theChip }

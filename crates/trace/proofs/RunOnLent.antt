@@ -14,12 +14,12 @@ use Rattle.bus.specs.Bytes.{Bytes}
 use Rattle.bus.proofs.Asking.{OneOrTwo, asked-refusal}
 use Rattle.bus.proofs.Kept.{asked-legal}
 use Rattle.bus.proofs.Stored.{Sized, sized, stored-long, stored-own, stored-again, stored-past, asked-stored}
-use Rattle.trace.specs.Records.{splitFrom, split}
+use Rattle.trace.specs.Records.{splitFrom, split, recordsIn}
 use Rattle.trace.specs.Play.{playFrom, play}
 use Rattle.trace.specs.Kinds.{chipOf, theChip}
 use Rattle.trace.specs.Run.{ran, stopOf, ranOf, runOn, run}
 use Rattle.trace.specs.RunLaws.{runFurther}
-use Rattle.trace.proofs.PlayedJoined.{taken-offset, joined}
+use Rattle.trace.proofs.PlayedJoined.{taken-offset, taken-count, joined}
 use Rattle.trace.proofs.PlayedKeeps.{split-carries, play-keeps, all-any}
 use Rattle.trace.proofs.ChipKeeps.{Held, Aside, Brings, Anything, brings, brings-any, replay-held, replay-aside}
 use Rattle.trace.proofs.ChipRefusals.{the-chip-sound}
@@ -63,11 +63,12 @@ module _ (state memory : List ℕ) (r : Registers) (found : asked state memory �
       let h = fits .image in
       rw (run-found trace, stored-long state h (play theChip (split trace) (chipOf r memory) .state .registers)) (rw (length-drop imageSize state) (omega arith), left-aside trace .size)
 
-  offset-found : (trace : List ℕ) → run state memory trace .stop .number ≡ taken → run state memory trace .stop .offset ≡ length trace
+  whole-found : (trace : List ℕ) → run state memory trace .stop .number ≡ taken → (run state memory trace .stop .offset ≡ length trace) × (run state memory trace .stop .count ≡ recordsIn (split trace))
   unfolding ranOf
-  offset-found trace h =
+  whole-found trace h =
       let e = run-found trace in
-      ap (λ outcome. outcome .stop .offset) e ∙ taken-offset theChip the-chip-sound trace [] (chipOf r memory) (ap (λ outcome. outcome .stop .number) (sym e) ∙ h)
+      let n = ap (λ outcome. outcome .stop .number) (sym e) ∙ h in
+      (ap (λ outcome. outcome .stop .offset) e ∙ taken-offset theChip the-chip-sound trace [] (chipOf r memory) n, ap (λ outcome. outcome .stop .count) e ∙ taken-count theChip the-chip-sound trace [] (chipOf r memory) n)
 
   joined-found : (a b : List ℕ) → Bytes a → run state memory a .stop .number ≡ taken → run state memory (a ++ b) ≡ runFurther (run state memory a .stop) (run (run state memory a .state) (run state memory a .memory) b)
   unfolding ranOf runOn run
@@ -103,9 +104,9 @@ module _ (state memory : List ℕ) where
   pub run-lengths : (trace : List ℕ) → (length (run state memory trace .state) ≡ length state) × (length (run state memory trace .memory) ≡ length memory)
   run-lengths trace = by-asking _ (λ r e. lengths-found state memory r e trace) (λ number e. rw (refused-run trace number e) (refl, refl))
 
-  -- where all is taken the offset is the trace's length
-  pub run-offset : (trace : List ℕ) → run state memory trace .stop .number ≡ taken → run state memory trace .stop .offset ≡ length trace
-  run-offset trace h = by-asking _ (λ r e. offset-found state memory r e trace h) (λ number e. absurd (refused-taken trace number e h))
+  -- where all is taken the offset is the trace's length, and the count is of all its records
+  pub run-whole : (trace : List ℕ) → run state memory trace .stop .number ≡ taken → (run state memory trace .stop .offset ≡ length trace) × (run state memory trace .stop .count ≡ recordsIn (split trace))
+  run-whole trace h = by-asking _ (λ r e. whole-found state memory r e trace h) (λ number e. absurd (refused-taken trace number e h))
 
   -- running `a ++ b` is running `a`, then `b` from what it left, with offset and count added, whenever `a` is taken whole
   pub run-joined : (a b : List ℕ) → Bytes a → run state memory a .stop .number ≡ taken → run state memory (a ++ b) ≡ runFurther (run state memory a .stop) (run (run state memory a .state) (run state memory a .memory) b)

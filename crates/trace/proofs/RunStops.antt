@@ -31,7 +31,7 @@ use Rattle.trace.proofs.ChipRefusals.{the-chip-sound}
 use Rattle.trace.proofs.RunOnLent.{run-found, by-asking, refused-run, refused-taken}
 
 module _ (trace : List ℕ) where
-  pub data RecordStop (at : ℕ) (c : Chip) (number offset : ℕ) (d : Chip) : Type 0 where
+  data RecordStop (at : ℕ) (c : Chip) (number offset : ℕ) (d : Chip) : Type 0 where
     atHeader : Unknown (kindOf (drop at trace)) (lengthOf (drop at trace)) → number ≡ kindUnknown → offset ≡ at → RecordStop at c number offset d
     atByte : 1 ≤ kindOf (drop at trace) → kindOf (drop at trace) ≤ 3 → StopsAt theChip (recordedBy (kindOf (drop at trace))) trace (at + headerSize) (at + headerSize + lengthOf (drop at trace)) c number offset d → RecordStop at c number offset d
 
@@ -40,7 +40,7 @@ module _ (trace : List ℕ) where
     byte-stop p q =
         atByte p q (stops-at theChip (recordedBy (kindOf (drop at trace))) trace (lengthOf (drop at trace)) (at + headerSize) _ c number offset d refl (within-trace trace at _ (front trace at c w)) (sym (its-bytes trace at c w p q) ∙ h))
 
-    pub record-stop : {result : Result (List Recorded)} → Kind (kindOf (drop at trace)) (payloadOf (drop at trace)) result → RecordStop at c number offset d
+    record-stop : {result : Result (List Recorded)} → Kind (kindOf (drop at trace)) (payloadOf (drop at trace)) result → RecordStop at c number offset d
     unfolding replay happened step resetPin
     record-stop (commands k) = byte-stop (omega arith) (omega arith)
     record-stop (writes k) = byte-stop (omega arith) (omega arith)

@@ -19,10 +19,10 @@ use Rattle.trace.specs.declared.records.Header.{Header}
 
 module _ (trace : List ℕ) (at : ℕ) where
   -- the header's two numbers, by their offsets
-  pub length-at : lengthOf (drop at trace) ≡ number trace at
+  length-at : lengthOf (drop at trace) ≡ number trace at
   length-at = rw (getD-drop at trace 0 0, getD-drop at trace 1 0, add-zero)
 
-  pub kind-at : kindOf (drop at trace) ≡ number trace (at + 2)
+  kind-at : kindOf (drop at trace) ≡ number trace (at + 2)
   kind-at =
       let e : at + 2 + 1 ≡ at + 3 = omega arith in
       rw (getD-drop at trace 2 0, getD-drop at trace 3 0, e)
@@ -106,7 +106,7 @@ module _ (trace : List ℕ) (at : ℕ) (header : Header) (h : frontOf (drop at t
   pub is-whole : whole (drop at trace) ≡ true
   is-whole = tells (drop at trace) h .0
 
-  pub its-kind : kindOf (drop at trace) ≡ header .kind
+  its-kind : kindOf (drop at trace) ≡ header .kind
   its-kind = tells (drop at trace) h .1
 
   pub its-length : lengthOf (drop at trace) ≡ header .length

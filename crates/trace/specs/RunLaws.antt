@@ -9,8 +9,9 @@ use Rattle.constants.specs.Sizes.{imageSize, memorySize}
 use Rattle.bus.specs.Registers.{registersOf}
 use Rattle.bus.specs.Calls.{call}
 use Rattle.bus.specs.Bytes.{Bytes}
-use Rattle.trace.specs.Records.{split}
+use Rattle.trace.specs.Records.{split, recordsIn}
 use Rattle.trace.specs.Kinds.{Recorded, chipOf, theChip}
+use Rattle.trace.specs.AnyMachine.{Sound, AnyMachine}
 use Rattle.trace.specs.OneByOne.{Placed, scriptFrom, oneByOne}
 use Rattle.trace.specs.ByCalls.{calledBy, meets, byCalls, runByCalls}
 use Rattle.trace.specs.Run.{Ran, ran, stopOf, ranOf, run, Accepted}
@@ -41,6 +42,8 @@ pub record RunLaws (state memory : List ℕ) : Type 0 where
   pub empty : Accepted state memory → run state memory [] ≡ ran (stopOf taken 0 0) state memory
   -- Whole records followed by more: where `a` is taken, `a ++ b` is `a`, then `b` from what it left, with offset and count added.
   pub joined : (a b : List ℕ) → Bytes a → run state memory a .stop .number ≡ taken → run state memory (a ++ b) ≡ runFurther (run state memory a .stop) (run (run state memory a .state) (run state memory a .memory) b)
+  -- Where all is taken, the offset is the trace's length and the count is of all its records.
+  pub whole : (trace : List ℕ) → run state memory trace .stop .number ≡ taken → (run state memory trace .stop .offset ≡ length trace) × (run state memory trace .stop .count ≡ recordsIn (split trace))
   -- A legal image stays legal.
   pub staysLegal : Accepted state memory → (trace : List ℕ) → Bytes trace → Accepted (run state memory trace .state) (run state memory trace .memory)
   -- Bytes past the needed lengths never change, and the lengths stay.
@@ -48,3 +51,8 @@ pub record RunLaws (state memory : List ℕ) : Type 0 where
   pub memoryPast : (trace : List ℕ) → drop memorySize (run state memory trace .memory) ≡ drop memorySize memory
   pub stateLength : (trace : List ℕ) → length (run state memory trace .state) ≡ length state
   pub memoryLength : (trace : List ℕ) → length (run state memory trace .memory) ≡ length memory
+
+-- The chip is a machine that refuses with no 0, so that all of AnyMachine.antt holds of it.
+pub record ChipAsMachine : Type 1 where
+  pub sound : Sound theChip
+  pub laws : AnyMachine theChip
