@@ -46,9 +46,11 @@ endif
 objects  = $(patsubst %.c,$(OUT)/%.o,$(wildcard $(1)))
 
 TOOL     := $(OUT)/ssd1815b
+NO_PNG   := $(OUT)/ssd1815b-without-png
 COMPARE  := $(OUT)/compare
 CALLS    := $(OUT)/calls
 SAMPLES  := $(OUT)/samples
+PARTS    := $(OUT)/parts
 HEADER   := $(OUT)/header
 BENCH    := $(OUT)/bench/bench
 
@@ -94,8 +96,12 @@ ifeq ($(MODEL),proved)
 	CC=$(CC) NM=$(CROSS)nm host/test/library.sh $(LIBRARY) $(RUN)
 endif
 
-check-tool: $(TOOL)
+check-tool: $(TOOL) $(NO_PNG) $(PARTS)
+	$(RUN) $(PARTS)
 	host/test/tool.sh $(RUN) $(TOOL)
+	host/test/refusals.sh $(RUN) $(TOOL)
+	host/test/pictures.sh '$(RUN) $(TOOL)' '$(RUN) $(NO_PNG)'
+	host/test/terminal.sh $(RUN) $(TOOL)
 	MAKE='$(MAKE)' host/test/makefile.sh
 
 check-traces: $(TOOL) oracle
@@ -156,10 +162,15 @@ $(COMPARE): $(call objects,host/compare/*.c) $(LINKED) \
             $(addprefix $(OUT)/host/tool/,listing.o played.o registers.o)
 $(CALLS): $(OUT)/host/test/calls.o $(OUT)/host/compare/room.o $(LINKED)
 $(SAMPLES): $(OUT)/host/test/samples.o $(LINKED)
+$(PARTS): $(OUT)/host/test/parts.o $(LINKED) \
+          $(addprefix $(OUT)/host/tool/,played.o progress.o replay.o)
+# The tool as it is where libstb-dev is missing.
+$(NO_PNG): $(filter-out %/png.o,$(call objects,host/tool/*.c)) \
+           $(OUT)/host/tool/no_png.o $(LINKED)
 $(BENCH): $(OUT)/bench/bench.o $(OUT)/bench/workloads.o $(OUT)/bench/plain.o \
           $(LINKED)
 
-$(TOOL) $(COMPARE) $(CALLS) $(SAMPLES) $(BENCH):
+$(TOOL) $(NO_PNG) $(COMPARE) $(CALLS) $(SAMPLES) $(PARTS) $(BENCH):
 	$(CC) $(CFLAGS) $^ -o $@
 
 # The header as C++ takes it.
@@ -171,6 +182,13 @@ $(HEADER): host/test/header.cpp host/ssd1815b.h $(LINKED) | cross
 $(OUT)/%.o: %.c | cross
 	@mkdir -p $(@D)
 	$(CC) $(CFLAGS) $(INCLUDE) -MMD -MP -c $< -o $@
+
+# The tool says which model it is linked with.
+$(OUT)/host/tool/help.o: CFLAGS += -DMODEL='"$(MODEL)"'
+
+$(OUT)/host/tool/no_png.o: host/tool/png.c | cross
+	@mkdir -p $(@D)
+	$(CC) $(CFLAGS) $(INCLUDE) -DWITHOUT_PNG -MMD -MP -c $< -o $@
 
 # What is measured is compiled as well as gcc can.
 $(OUT)/bench/plain.o $(OUT)/bench/plain_as_model.o: CFLAGS += -O3

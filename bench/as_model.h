@@ -8,5 +8,7 @@
 #define plain_read ssd1815b_read
 #define plain_reset ssd1815b_reset
 #define plain_run ssd1815b_run
+#define plain_record ssd1815b_record
+#define plain_power_state ssd1815b_power_state
 #define plain_draw ssd1815b_draw
 #define plain_list ssd1815b_list

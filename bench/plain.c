@@ -341,6 +341,28 @@ static size_t two_bytes(const uint8_t *bytes)
   return (size_t)bytes[0] | (size_t)bytes[1] << 8;
 }
 
+/* Whether a whole record stands where so many bytes are left. */
+static bool whole_record(const uint8_t *bytes, size_t left)
+{
+  return left >= HEADER_SIZE && left - HEADER_SIZE >= two_bytes(bytes);
+}
+
+uint8_t plain_record(const uint8_t *trace, size_t trace_len, size_t at,
+                     size_t *kind, size_t *next)
+{
+  *kind = 0;
+  *next = at;
+  if (at >= trace_len) {
+    return SSD1815B_TAKEN;
+  }
+  if (!whole_record(trace + at, trace_len - at)) {
+    return SSD1815B_HEADER_CUT;
+  }
+  *kind = two_bytes(trace + at + 2);
+  *next = at + HEADER_SIZE + two_bytes(trace + at);
+  return SSD1815B_TAKEN;
+}
+
 /* A record's payload.  *done counts its events taken. */
 static uint8_t obey(uint8_t *state, uint8_t *memory, size_t kind,
                     const uint8_t *payload, size_t length, size_t *done)
@@ -398,8 +420,7 @@ uint8_t plain_run(uint8_t *state, size_t state_len, uint8_t *memory,
   size_t at = 0;
   size_t records = 0;
   while (at < trace_len) {
-    size_t left = trace_len - at;
-    if (left < HEADER_SIZE || left - HEADER_SIZE < two_bytes(trace + at)) {
+    if (!whole_record(trace + at, trace_len - at)) {
       number = SSD1815B_HEADER_CUT;
       break;
     }
@@ -422,6 +443,20 @@ uint8_t plain_run(uint8_t *state, size_t state_len, uint8_t *memory,
   }
   *offset = at;
   *count = records;
+  return number;
+}
+
+/* ---- the power state ---- */
+
+uint8_t plain_power_state(const uint8_t *state, size_t state_len,
+                          uint8_t *power)
+{
+  *power = SSD1815B_AWAKE;
+  uint8_t number = asked(state, state_len, MEMORY_SIZE);
+  if (number == SSD1815B_TAKEN && state[DISPLAY_ON] == 0
+      && state[ENTIRE_ON] == 1) {
+    *power = state[INDICATOR_ON] == 0 ? SSD1815B_SLEEP : SSD1815B_STANDBY;
+  }
   return number;
 }
 

@@ -21,6 +21,10 @@ uint8_t plain_reset(uint8_t *state, size_t state_len, const uint8_t *memory,
 uint8_t plain_run(uint8_t *state, size_t state_len, uint8_t *memory,
                   size_t memory_len, const uint8_t *trace, size_t trace_len,
                   size_t *offset, size_t *count);
+uint8_t plain_record(const uint8_t *trace, size_t trace_len, size_t at,
+                     size_t *kind, size_t *next);
+uint8_t plain_power_state(const uint8_t *state, size_t state_len,
+                          uint8_t *power);
 uint8_t plain_draw(const uint8_t *state, size_t state_len,
                    const uint8_t *memory, size_t memory_len, uint8_t *frame,
                    size_t frame_len);

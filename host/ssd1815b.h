@@ -65,6 +65,15 @@ extern "C" {
 #endif
 
 /*
+** Version
+**
+** As text, and as the number 1000000 * major + 1000 * minor + patch, so that
+** a program can ask `#if SSD1815B_VERSION_NUMBER >= 4000000`.
+*/
+#define SSD1815B_VERSION         "4.0.0"
+#define SSD1815B_VERSION_NUMBER  4000000
+
+/*
 ** Sizes
 **
 ** The panel has SSD1815B_ROWS panel rows and, as one row more of the frame,
@@ -89,7 +98,8 @@ extern "C" {
 **
 ** SSD1815B_TAKEN, or why not.  The event calls answer 0 to 7 (a command byte
 ** 0 to 5, a data byte 0 to 2, 6 and 7, the reset pin 0 and 1), the run any
-** of them, drawing 0 to 2, starting and listing 0 and 1.
+** of them, drawing and the power state 0 to 2, starting and listing 0 and 1,
+** the record at an offset 0 and 8.
 **
 ** Where several reasons hold, the lower of 1 and 2 goes first; then 8 before
 ** 9; then 6 before 7 before 10.
@@ -113,9 +123,6 @@ extern "C" {
 **
 ** The place of each register in the 23 bytes, with its range and its value
 ** at power-on (0 unless given).  A flag is 0 or 1.
-**
-** Display off with entire on is power save: sleep with the indicator off,
-** standby with it on.
 */
 #define SSD1815B_PAGE               0  /* 0 to 8 */
 #define SSD1815B_COLUMN             1  /* 0 to 255; data access needs <= 131 */
@@ -262,6 +269,56 @@ uint8_t ssd1815b_run(
   const uint8_t *trace, size_t trace_len,
   size_t *offset,                         /* OUT: where the run stopped */
   size_t *count                           /* OUT: whole records done */
+);
+
+/*
+** The record at an offset
+**
+** Says which record stands at the offset `at` of a trace, by lengths alone:
+** no chip takes part, and the kind is not judged (9 is the run's).
+**
+** Answers 0 where a whole record stands there: *kind is its kind, *next the
+** offset after it, and its payload lies from at + 4 to *next.  Answers 0 with
+** *kind 0 and *next == at where no byte is left: `at` is trace_len or more.
+** Answers 8 where one to three bytes are left, or the payload is past the
+** end: *kind is 0 and *next == at.  *kind and *next are always written.
+**
+** This visits every whole record:
+**
+**     size_t at = 0, kind, next;
+**     while (ssd1815b_record(trace, trace_len, at, &kind, &next) == 0
+**            && next != at) {
+**       ...
+**       at = next;
+**     }
+**
+** and as a run of whole records followed by a run of the rest leaves what one
+** run of both does, a long trace can be run in parts.
+*/
+uint8_t ssd1815b_record(
+  const uint8_t *trace, size_t trace_len,
+  size_t at,
+  size_t *kind,                            /* OUT: its kind, or 0 */
+  size_t *next                             /* OUT: the offset after it */
+);
+
+/*
+** The power state
+**
+** Display off with entire on is power save: sleep with the indicator off,
+** standby with it on.
+**
+** Answers 0 with the power state in *power; or 1 if state is shorter than 23,
+** or 2 if the image is out of its ranges.  *power is always written, and is
+** SSD1815B_AWAKE on a refusal.  state is not changed.
+*/
+#define SSD1815B_AWAKE    0
+#define SSD1815B_SLEEP    1
+#define SSD1815B_STANDBY  2
+
+uint8_t ssd1815b_power_state(
+  const uint8_t *state, size_t state_len,
+  uint8_t *power                           /* OUT: one of the three above */
 );
 
 /*

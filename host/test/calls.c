@@ -1,6 +1,7 @@
 /*
-** The calls that the oracle's stream has no cases for: starting, and listing
-** a frame on lengths and contents of every kind.
+** The calls that the oracle's stream has no cases for: starting, the record at
+** an offset, the power state, and listing a frame on lengths and contents of
+** every kind.
 */
 #include <stdbool.h>
 #include <stdint.h>
@@ -20,6 +21,16 @@ _Static_assert(SSD1815B_FRAME_SIZE == SSD1815B_FRAME_ROWS * SSD1815B_COLUMNS,
                "132 places to a row");
 _Static_assert(SSD1815B_STATE_SIZE == SSD1815B_FRESH + 1,
                "fresh is the last of the image");
+
+/* The version as text and as a number. */
+static void version(void)
+{
+  char text[32];
+  snprintf(text, sizeof text, "%d.%d.%d", SSD1815B_VERSION_NUMBER / 1000000,
+           SSD1815B_VERSION_NUMBER / 1000 % 1000,
+           SSD1815B_VERSION_NUMBER % 1000);
+  CHECK(strcmp(text, SSD1815B_VERSION) == 0);
+}
 
 /* ---- starting ---- */
 
@@ -70,6 +81,193 @@ static void starting(void)
       start_with(state_lengths[i], memory_lengths[j]);
     }
   }
+}
+
+/* ---- the record at an offset ---- */
+
+static struct room trace_room, kind_room, next_room;
+
+/* What an out parameter holds before the call. */
+static const uint8_t junk[sizeof(size_t)] = { 9, 9, 9, 9, 9, 9, 9, 9 };
+
+/* Asks for the record at an offset of the lent trace. */
+static void record_is(size_t at, uint8_t number, size_t kind, size_t next)
+{
+  size_t *found_kind = (void *)room_lend(&kind_room, junk, sizeof(size_t));
+  size_t *found_next = (void *)room_lend(&next_room, junk, sizeof(size_t));
+  CHECK(ssd1815b_record(trace_room.lent, trace_room.length, at, found_kind,
+                        found_next) == number);
+  CHECK(*found_kind == kind);
+  CHECK(*found_next == next);
+  CHECK(room_intact(&kind_room));
+  CHECK(room_intact(&next_room));
+}
+
+/* Document 01, "The trace", by addition alone. */
+static void record_is_right(const uint8_t *trace, size_t length, size_t at)
+{
+  if (at >= length) {
+    record_is(at, 0, 0, at);
+  } else if (at + 4 > length) {
+    record_is(at, 8, 0, at);
+  } else {
+    size_t next = at + 4 + trace[at] + 256u * trace[at + 1];
+    if (next > length) {
+      record_is(at, 8, 0, at);
+    } else {
+      record_is(at, 0, trace[at + 2] + 256u * trace[at + 3], next);
+    }
+  }
+}
+
+/* Every offset of a trace, and some far past its end. */
+static void records_are_right(const uint8_t *trace, size_t length)
+{
+  room_lend(&trace_room, trace, length);
+  for (size_t at = 0; at < length + 6; at++) {
+    record_is_right(trace, length, at);
+  }
+  static const size_t far[] = { SIZE_MAX, SIZE_MAX - 3, SIZE_MAX / 2 + 1 };
+  for (size_t i = 0; i < 3; i++) {
+    record_is(far[i], 0, 0, far[i]);
+  }
+  CHECK(length == 0 || memcmp(trace_room.lent, trace, length) == 0);
+  CHECK(room_intact(&trace_room));
+}
+
+/* Whole and cut records of every kind, kinds that no run takes too. */
+static void records_by_hand(void)
+{
+  static const uint8_t trace[] = {
+    0x01, 0x00, 0x01, 0x00, 0xAF,             /* 0: a command */
+    0x00, 0x00, 0x04, 0x00,                   /* 5: the reset pin */
+    0x02, 0x00, 0x02, 0x00, 0x03, 0x01,       /* 9: data written */
+    0x00, 0x00, 0x34, 0x12,                   /* 15: kind 1234 (hex) */
+    0x00, 0x01, 0x03, 0x00, 0x00              /* 19: cut, 1 of 256 bytes */
+  };
+  room_lend(&trace_room, trace, sizeof trace);
+  record_is(0, 0, 1, 5);
+  record_is(5, 0, 4, 9);
+  record_is(9, 0, 2, 15);
+  record_is(15, 0, 0x1234, 19);
+  record_is(19, 8, 0, 19);
+  record_is(21, 8, 0, 21);
+  record_is(24, 0, 0, 24);
+  record_is(25, 0, 0, 25);
+  for (size_t length = 0; length <= sizeof trace; length++) {
+    records_are_right(trace, length);
+    records_are_right(trace, length);
+  }
+}
+
+/* The longest payload, whole and one byte short. */
+static void longest_record(void)
+{
+  static uint8_t trace[4 + 65535] = { 0xFF, 0xFF, 0x03, 0x00 };
+  room_lend(&trace_room, trace, sizeof trace);
+  record_is(0, 0, 3, 65539);
+  room_lend(&trace_room, trace, sizeof trace - 1);
+  record_is(0, 8, 0, 0);
+}
+
+/* A byte of no pattern; the same ones at each start of the program. */
+static uint8_t random_byte(void)
+{
+  static uint32_t seed = 1;
+  seed = seed * 1664525u + 1013904223u;
+  return (uint8_t)(seed >> 24);
+}
+
+static void random_records(void)
+{
+  static uint8_t trace[600];
+  for (int round = 0; round < 200; round++) {
+    size_t length = random_byte() * 2u;
+    for (size_t i = 0; i < length; i++) {
+      /* Many zeros, so that many lengths are short. */
+      trace[i] = random_byte() % 4 == 0 ? random_byte() : random_byte() % 3;
+    }
+    records_are_right(trace, length);
+  }
+}
+
+/* ---- the power state ---- */
+
+static struct room image_room, power_room;
+
+/* The power state of an image, lent twice: at the end and at the beginning. */
+static void power_is(const uint8_t *image, size_t length, uint8_t number,
+                     uint8_t power)
+{
+  for (int time = 0; time < 2; time++) {
+    uint8_t *lent = room_lend(&image_room, image, length);
+    uint8_t *found = room_lend(&power_room, junk, 1);
+    CHECK(ssd1815b_power_state(lent, length, found) == number);
+    CHECK(*found == power);
+    CHECK(memcmp(lent, image, length) == 0);
+    CHECK(room_intact(&image_room));
+    CHECK(room_intact(&power_room));
+  }
+}
+
+/* "Display off with entire on is power save: sleep with the indicator off,
+** standby with it on." */
+static void power_states(void)
+{
+  static const struct {
+    uint8_t display_on, entire_on, indicator_on, power;
+  } rows[] = {
+    { 0, 0, 0, 0 }, { 0, 0, 1, 0 }, { 0, 1, 0, 1 }, { 0, 1, 1, 2 },
+    { 1, 0, 0, 0 }, { 1, 0, 1, 0 }, { 1, 1, 0, 0 }, { 1, 1, 1, 0 },
+  };
+  static const size_t lengths[] = { 0, 1, 22, 23, 24, 40 };
+  for (size_t i = 0; i < 8; i++) {
+    uint8_t image[40];
+    memset(image, 0xEE, sizeof image);
+    memcpy(image, power_on, sizeof power_on);
+    image[SSD1815B_DISPLAY_ON] = rows[i].display_on;
+    image[SSD1815B_ENTIRE_ON] = rows[i].entire_on;
+    image[SSD1815B_INDICATOR_ON] = rows[i].indicator_on;
+    for (size_t j = 0; j < 6; j++) {
+      bool enough = lengths[j] >= 23;
+      power_is(image, lengths[j], enough ? 0 : 1, enough ? rows[i].power : 0);
+    }
+  }
+}
+
+/* Each register of a standby image at its largest, and above. */
+static void power_states_at_limits(void)
+{
+  /* Document 01, "Registers"; display on stays 0, as it ends power save. */
+  static const uint8_t largest[23] = {
+    8, 255, 63, 63, 63, 63, 7, 7, 1, 1, 255, 3, 1, 1, 1, 1, 0, 1, 3, 0xD4, 1,
+    255, 1
+  };
+  uint8_t standby[23];
+  memcpy(standby, power_on, sizeof standby);
+  standby[SSD1815B_ENTIRE_ON] = 1;
+  standby[SSD1815B_INDICATOR_ON] = 1;
+  standby[SSD1815B_READ_MODIFY_WRITE] = 1;
+  for (int place = 0; place < 23; place++) {
+    uint8_t image[23];
+    memcpy(image, standby, sizeof image);
+    image[place] = largest[place];
+    power_is(image, 23, 0, SSD1815B_STANDBY);
+    if (largest[place] < 255 && place != SSD1815B_DISPLAY_ON) {
+      image[place]++;
+      power_is(image, 23, 2, SSD1815B_AWAKE);
+    }
+  }
+  standby[SSD1815B_AWAITED_CODE] = 0x82;
+  power_is(standby, 23, 2, SSD1815B_AWAKE);
+  power_is(standby, 22, 1, SSD1815B_AWAKE);
+  standby[SSD1815B_AWAITED_CODE] = 0;
+  standby[SSD1815B_DISPLAY_ON] = 2;
+  power_is(standby, 23, 2, SSD1815B_AWAKE);
+  standby[SSD1815B_DISPLAY_ON] = 0;
+  standby[SSD1815B_READ_MODIFY_WRITE] = 0;
+  standby[SSD1815B_SAVED_COLUMN] = 1;
+  power_is(standby, 23, 2, SSD1815B_AWAKE);
 }
 
 /* ---- listing ---- */
@@ -186,7 +384,20 @@ static void longest_listing(void)
 
 int main(void)
 {
+  version();
   starting();
+
+  room_open(&trace_room, 4 + 65535);
+  room_open(&kind_room, sizeof(size_t));
+  room_open(&next_room, sizeof(size_t));
+  records_by_hand();
+  longest_record();
+  random_records();
+
+  room_open(&image_room, 40);
+  room_open(&power_room, 1);
+  power_states();
+  power_states_at_limits();
 
   room_open(&frame_room, SSD1815B_FRAME_SIZE + 20);
   room_open(&text_room, LONGEST_TEXT);

@@ -30,8 +30,16 @@ int main()
   ssd1815b_list(number, offset, frame.data(), frame.size(), text.data(),
                 text.size(), &length);
 
+  std::uint8_t power = SSD1815B_STANDBY;
+  ssd1815b_power_state(state.data(), state.size(), &power);
+  std::size_t kind = 0;
+  std::size_t next = 0;
+  ssd1815b_record(trace, sizeof trace, 5, &kind, &next);
+
   const bool right = number == SSD1815B_TAKEN && offset == sizeof trace
-                     && count == 2 && length == sizeof listing - 1
+                     && count == 2 && power == SSD1815B_AWAKE
+                     && kind == 2 && next == sizeof trace
+                     && length == sizeof listing - 1
                      && std::memcmp(text.data(), listing, length) == 0;
   std::printf("header: the listing from C++ is %s\n", right ? "right" : "wrong");
   return right ? 0 : 1;

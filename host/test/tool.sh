@@ -1,5 +1,6 @@
 #!/usr/bin/env bash
 # Tests of the command-line tool: what it prints, where, and its status.
+# (refusals.sh, pictures.sh and terminal.sh have the rest.)
 #
 #   tool.sh TOOL...      the command that runs the tool
 set -euo pipefail
@@ -37,57 +38,85 @@ head -c 65537 /dev/zero > "$here/too-long"
 run list "$here/too-long"
 check 'list: input too long' out_is 'input too long'
 check 'list: input too long, status 2' status_is 2
-for command in show picture state; do
+
+# ---- traces of any length ----
+
+# Data, 65,535 bytes to a record, and then B9.  80 * 65,535 places from column 0
+# on, 132 to a page, end at column 24.
+{ bytes FF FF 02 00; head -c 65535 /dev/zero; } > "$here/record"
+{ for _ in {1..80}; do cat "$here/record"; done; bytes 03 00 01 00 AF A5 B9; } > "$here/long.trace"
+run state "$here/long.trace"
+check 'long: refused, status 1' status_is 1
+check 'long: the run' out_has 'run                refused, number 4 at 5243126, whole records 80'
+check 'long: the column' out_has 'column             24'
+check 'long: the place' out_has 'refused 4 at 5243126 (0x5000F6): B9 to BF name no page'
+run state < "$here/long.trace"
+check 'long: the same on standard input' out_has 'run                refused, number 4 at 5243126, whole records 80'
+run show "$here/long.trace"
+check 'long: shown, all lit' line_is 2 "│$(printf '█%.0s' {1..132})│"
+run memory "$here/long.trace"
+check 'long: its memory' out_has 'refused 4 at 5243126 (0x5000F6): B9 to BF name no page'
+run picture --scale 1 "$here/long.trace"
+check 'long: its picture' [ "$(head -n 2 "$here/out")" = $'P4\n136 71' ]
+run list "$here/long.trace"
+check 'long: list alone is too long' out_is 'input too long'
+for command in show picture state memory; do
   run $command "$here/too-long"
-  check "$command: input too long, status 2" status_is 2
-  check "$command: input too long, on standard error" err_has 'input too long'
-  check "$command: input too long, nothing printed" nothing_on out
+  check "$command: 65,537 bytes are played" status_is 1
 done
 
-# ---- a refused run, in words ----
+# Junk is not read to its end, which it may not have.
+{ head -c 50000000 /dev/zero 2> /dev/null && : > "$here/read-whole"; } | ran "${tool[@]}" show || true
+check 'junk: no more is read than is needed' [ ! -e "$here/read-whole" ]
+{ head -c 50000000 /dev/zero 2> /dev/null && : > "$here/listed-whole"; } | ran "${tool[@]}" list || true
+check 'junk: list reads no more than is needed' [ ! -e "$here/listed-whole" ]
+{ bytes "${sample[@]}"; head -c 50000000 /dev/zero 2> /dev/null && : > "$here/cut-whole"; } |
+  ran "${tool[@]}" state --after 2 || true
+check 'after: what comes later is not read' [ ! -e "$here/cut-whole" ]
 
-# says WORDS BYTES...: what list says on standard error of a refused trace.
-says() {
-  local words=$1
-  shift
-  run list < <(bytes "$@")
-  check "refused: status 1 ($words)" status_is 1
-  check "refused: $words" err_has "$words"
-}
-says 'refused 3 at 4 (0x4): a command byte outside the table' 01 00 01 00 30
-says 'refused 4 at 5 (0x5): B9 to BF name no page' 02 00 01 00 AF B9
-says 'refused 5 at 5 (0x5): n of D3 or D4 not allowed' 02 00 01 00 D3 40
-says 'awaited is the n of D3' 02 00 01 00 D3 40
-says 'refused 6 at 9 (0x9): a data write or read while a code is awaited' 01 00 01 00 81 01 00 02 00 00
-says 'awaited is the n of 81' 01 00 01 00 81 01 00 02 00 00
-says 'refused 7 at 10 (0xA): a data write or read with column above 131' 02 00 01 00 0F 18 01 00 02 00 AA
-says 'the column is 143' 02 00 01 00 0F 18 01 00 02 00 AA
-says 'refused 8 at 0 (0x0): one to three bytes left' 01 00 01
-says 'left for a header of 4 bytes: 3' 01 00 01
-says 'the header says 513 bytes of payload; left: 1' 01 02 01 00 AF
-says 'the header says 1 byte of payload; left: 0' 01 00 01 00
-says 'refused 9 at 5 (0x5): kind not 1 to 4' 01 00 01 00 AF 00 00 05 00
-says 'the header says kind 257, 0 bytes of payload' 00 00 01 01
-says 'the header says kind 0, 1 byte of payload' 01 00 00 00 AF
-says 'refused 10 at 12 (0xC): a compared read differs' 03 00 02 00 11 22 33 02 00 03 00 00 07
-says 'recorded is 07, the model reads 00 (hex), at page 0, column 3' 03 00 02 00 11 22 33 02 00 03 00 00 07
-says 'record 1, data read, payload of 2 bytes from 11, its byte 1 is 07 (hex)' 03 00 02 00 11 22 33 02 00 03 00 00 07
-says 'record 0, command bytes, payload of 1 byte from 4, its byte 0 is 30 (hex)' 01 00 01 00 30
+# ---- after N records ----
 
-# shows WORDS BYTES...: the last line, whole.
-shows() {
-  says "$@"
-  check "refused: the line is no longer than '$1'" [ "$(tail -n 1 "$here/err")" = "  $1" ]
-}
-shows 'in hex, from byte 7 (0x7) on: 02 00 03 00 00 [07]' 03 00 02 00 11 22 33 02 00 03 00 00 07
-shows 'in hex, from byte 0 (0x0) on: 02 00 01 00 [30] AF' 02 00 01 00 30 AF 03 00 01 00
-shows 'in hex, from byte 5 (0x5) on: [00] 00 05 00' 01 00 01 00 AF 00 00 05 00 11 22
-shows 'in hex, from byte 0 (0x0) on: [01] 00 01' 01 00 01
-shows 'in hex, from byte 0 (0x0) on: [01] 02 01 00 AF' 01 02 01 00 AF
-mapfile -t stripes < <(printf 'AE\nAF\n%.0s' {1..13})
-says 'refused 3 at 30 (0x1E): a command byte outside the table' 34 00 01 00 "${stripes[@]}" 30 "${stripes[@]:1}"
-shows 'in hex, from byte 18 (0x12) on: AE AF AE AF AE AF AE AF AE AF AE AF [30] AF AE AF AE AF AE AF AE AF AE AF' \
-  34 00 01 00 "${stripes[@]}" 30 "${stripes[@]:1}"
+three=(01 00 01 00 AF 02 00 02 00 03 01 00 00 04 00)
+run list --after 2 < <(bytes "${three[@]}")
+check 'after: 2 of 3 records' out_is $'frame 132 65\n0 0-1\n1 0-0\nend'
+check 'after: 2 of 3, nothing said' nothing_on err
+run list --after=1 < <(bytes "${three[@]}")
+check 'after: 1 of 3 records' out_is $'frame 132 65\nend'
+run list --after 3 < <(bytes "${three[@]}")
+check 'after: 3 of 3, nothing said' nothing_on err
+run list --after 4 < <(bytes "${three[@]}")
+check 'after: more than there are, status 0' status_is 0
+check 'after: more than there are, said' err_is 'ssd1815b: --after 4: the trace has 3 records, and all of it is played'
+run state --after 2 < <(bytes "${three[@]}")
+check 'after: state' out_has 'run                taken, number 0 at 11, whole records 2'
+check 'after: state, before the reset pin' out_has 'display on         1'
+run state --after 9 < <(bytes "${sample[@]}")
+check 'after: state, more than there are' err_has 'the trace has 2 records'
+run show --after 2 < <(bytes "${three[@]}")
+check 'after: show' line_is 2 "│█▀$(printf '%130s' '')│"
+run picture --scale 1 --after 2 < <(bytes "${three[@]}")
+mv "$here/out" "$here/after.pbm"
+run picture --scale 1 "$here/sample.trace"
+check 'after: picture' cmp -s "$here/out" "$here/after.pbm"
+run memory --after 2 < <(bytes "${three[@]}")
+check 'after: memory' line_is 3 '    0  03 01 00 00 00 00 00 00 00 00 00 00 00 00 00 00'
+run state --after 0 < <(bytes "${three[@]}")
+check 'after: 0 is power-on' out_has 'run                taken, number 0 at 0, whole records 0'
+# What is refused later does not count; what is refused before does.
+run state --after 1 < <(bytes 01 00 01 00 AF 01 00 01 00 B9)
+check 'after: stops before a refusal' status_is 0
+run state --after 9 < <(bytes 01 00 01 00 AF 01 00 01 00 B9)
+check 'after: a refusal before it' out_has 'run                refused, number 4 at 9, whole records 1'
+check 'after: a refusal before it, and no more said' nothing_on err
+run list --after 9 < <(bytes 01 00 01 00 AF 07 00)
+check 'after: a cut record is refused' line_is 1 'refused 8 at 5'
+# The limit of list is that of the records that it lists.
+run list --after 2 < <(bytes "${sample[@]}"; cat "$here/long.trace")
+check 'after: the first records of a long trace are listed' out_is $'frame 132 65\n0 0-1\n1 0-0\nend'
+run list --after 3 < <(bytes "${sample[@]}"; cat "$here/long.trace")
+check 'after: three of its records are too long' out_is 'input too long'
+run state --after 80 "$here/long.trace"
+check 'after: in a long trace' out_has 'run                taken, number 0 at 5243120, whole records 80'
 
 # ---- show ----
 
@@ -101,22 +130,36 @@ check 'show: a refused run, status 1' status_is 1
 check 'show: the place in words' out_has 'refused 4 at 6 (0x6): B9 to BF name no page'
 check 'show: the icon line apart' line_is 35 "│$blocks│"
 
-# ---- picture ----
-
-run picture --scale 1 "$here/sample.trace"
-check 'picture: status 0' status_is 0
-check 'picture: its form and size' [ "$(head -n 2 "$here/out")" = $'P4\n132 67' ]
-check 'picture: 17 bytes to each of 67 lines' [ "$(wc -c < "$here/out")" -eq $((10 + 17 * 67)) ]
-check 'picture: rows 0 and 1' [ "$(tail -c +11 "$here/out" | head -c 18 | od -An -tx1 -v | tr -d ' \n')" = c00000000000000000000000000000000080 ]
-run picture --scale 3 "$here/sample.trace"
-check 'picture: each dot 3 by 3' [ "$(head -n 2 "$here/out")" = $'P4\n396 201' ]
-check 'picture: 50 bytes to each of 201 lines' [ "$(wc -c < "$here/out")" -eq $((11 + 50 * 201)) ]
-check 'picture: two lit places are six bits' [ "$(tail -c +12 "$here/out" | head -c 1 | od -An -tx1 | tr -d ' ')" = fc ]
-run picture < <(bytes 01 00 01 00 B9)
-check 'picture: refused, status 1' status_is 1
-check 'picture: refused, on standard error' err_has 'refused 4 at 4'
-run picture --scale 1 < <(bytes 02 00 01 00 A5 AF)
-check 'picture: icons after two blank lines' [ "$(tail -c 51 "$here/out" | od -An -tx1 -v | tr -d ' \n')" = "$(printf '%068d' 0)$(printf 'f%.0s' {1..33})0" ]
+# dark WORDS BYTES...: the one line below the picture.
+dark() {
+  local words=$1
+  shift
+  run show < <(bytes "$@")
+  check "dark: $words" line_is 37 "all dark: $words"
+}
+dark 'no event was taken: there was no record to play'
+dark 'no event was taken: no record holds any' 00 00 01 00 00 00 02 00
+dark 'no event was taken before the run stopped' 00 00 01 00 01 00 01 00 B9
+dark 'no event was taken before the run stopped' 01 00 01
+dark 'the display is off; AF turns it on' 00 00 04 00
+dark 'the display is off; AF turns it on' 02 00 01 00 E3 B9
+dark 'the display is off; AF turns it on' 01 00 02 00 FF
+dark 'sleep: display off, entire on, indicator off; A4 and AF show memory' 01 00 01 00 A5
+dark 'standby: display off, entire on, indicator on; A4 and AF show memory' 03 00 01 00 AD 00 A5
+dark 'the display is on, but all of memory is 0' 01 00 01 00 AF
+dark 'the display is on, but every bit that it shows is 0; other bits of memory are not' \
+  03 00 01 00 AF A8 00 01 00 02 00 FE
+run show --after 0 "$here/sample.trace"
+check 'dark: nothing played of a trace' line_is 37 'all dark: no event was taken: there was no record to play'
+# Every byte FF, under reverse.
+{ bytes 02 00 01 00 AF A7
+  for page in B0 B1 B2 B3 B4 B5 B6 B7 B8; do
+    bytes 01 00 01 00 $page 84 00 02 00; head -c 132 /dev/zero | tr '\0' '\377'
+  done; } > "$here/reversed.trace"
+run show "$here/reversed.trace"
+check 'dark: reversed' line_is 37 'all dark: the display is on and reversed, and every bit that it shows is 1'
+run show < <(bytes 02 00 01 00 AF A5)
+check 'dark: nothing is said of a screen that is lit' [ "$(wc -l < "$here/out")" -eq 36 ]
 
 # ---- state ----
 
@@ -135,6 +178,56 @@ check 'state: refused, status 1' status_is 1
 check 'state: refused run' out_has 'run                refused, number 4 at 6, whole records 0'
 check 'state: refused, in words' out_has 'refused 4 at 6 (0x6): B9 to BF name no page'
 
+# ---- memory ----
+
+run memory < <(bytes 04 00 01 00 B2 14 03 AF 02 00 02 00 A5 5A 01 00 01 00 B8 01 00 02 00 FF)
+check 'memory: status 0' status_is 0
+check 'memory: a heading, 9 pages of 9 lines with one each, the reads' [ "$(wc -l < "$here/out")" -eq $((1 + 9 * 10 + 2)) ]
+check 'memory: page 2' line_is 22 'page 2'
+check 'memory: columns 64 on' line_is 27 '   64  00 00 00 A5 5A 00 00 00 00 00 00 00 00 00 00 00'
+check 'memory: columns 128 to 131' line_is 31 '  128  00 00 00 00'
+check 'memory: page 8 keeps bit 0, at column 69' line_is 87 '   64  00 00 00 00 00 01 00 00 00 00 00 00 00 00 00 00'
+check 'memory: no reads' line_is 93 '      none'
+reads=(03 00 02 00 11 22 33 02 00 01 00 01 10 03 00 03 00 EE 22 33)
+run memory < <(bytes "${reads[@]}")
+check 'memory: reads, status 0' status_is 0
+check 'memory: reads, their heading' line_is 93 '    offset     record  page  column  model  recorded'
+check 'memory: the dummy read' line_is 94 '        17          2     0       1  dummy  EE'
+check 'memory: a read' line_is 95 '        18          2     0       1  22     22'
+check 'memory: the next read' line_is 96 '        19          2     0       2  33     33'
+# In read-modify-write the column stays; the icons are read by bit 0.
+run memory < <(bytes 02 00 01 00 E0 B8 01 00 02 00 FF 02 00 01 00 EE E0 03 00 03 00 00 01 01)
+check 'memory: a read of the icons in read-modify-write' line_is 96 '        23          3     8       0  01     01'
+run memory < <(bytes "${reads[@]:0:18}" 22 44)
+check 'memory: a read that differs, status 1' status_is 1
+check 'memory: a read that differs' line_is 96 '        19          2     0       2  33     44 differs, and has not happened'
+check 'memory: a read that differs, in words' out_has 'refused 10 at 19 (0x13): a compared read differs; that read has not happened'
+
+# ---- check ----
+
+bytes 01 00 01 00 B9 > "$here/refused.trace"
+: > "$here/empty.trace"
+bytes 00 00 04 00 > "$here/one.trace"
+run check "$here/sample.trace" "$here/one.trace" "$here/empty.trace"
+check 'check: all taken, status 0' status_is 0
+check 'check: a line each' out_is "$here/sample.trace: taken, 2 records
+$here/one.trace: taken, 1 record
+$here/empty.trace: taken, 0 records"
+run check "$here/refused.trace" "$here/sample.trace" "$here/long.trace"
+check 'check: one refused, status 1' status_is 1
+check 'check: the number, the place and the words' line_is 1 "$here/refused.trace: refused 4 at 4: B9 to BF name no page"
+check 'check: then the next' line_is 2 "$here/sample.trace: taken, 2 records"
+check 'check: then a long one' line_is 3 "$here/long.trace: refused 4 at 5243126: B9 to BF name no page"
+run check "$here/refused.trace" "$here/none" "$here" "$here/sample.trace"
+check 'check: one cannot be read, status 2' status_is 2
+check 'check: one cannot be opened' line_is 2 "$here/none: cannot be read"
+check 'check: one cannot be opened, why' err_has "cannot open $here/none: No such file"
+check 'check: one cannot be read' line_is 3 "$here: cannot be read"
+check 'check: one cannot be read, why' err_has "cannot read $here: Is a directory"
+check 'check: the others are played' line_is 4 "$here/sample.trace: taken, 2 records"
+run check < "$here/sample.trace"
+check 'check: standard input' out_is '-: taken, 2 records'
+
 # ---- command line and errors ----
 
 # helps ARGUMENTS...: the help, and nothing else.
@@ -148,9 +241,25 @@ helps --help
 helps -h
 helps help
 helps --help x
-helps show --help
-helps list -h
 helps picture --scale --help
+for command in list show picture state memory check; do
+  check "help: names $command" grep -q "^  $command " <("${tool[@]}" --help)
+  helps $command --help
+  check "help: of $command" grep -q "^usage: ssd1815b $command " "$here/out"
+  cp "$here/out" "$here/help"
+  helps help $command
+  check "help: the same of help $command" cmp -s "$here/out" "$here/help"
+  helps $command -h "$here/sample.trace"
+  check "help: the same of $command -h" cmp -s "$here/out" "$here/help"
+done
+for option in --after --scale --png --output --; do
+  check "help: names $option" grep -q -- "^  .*$option" <("${tool[@]}" --help)
+done
+run --version < /dev/null
+check 'version: status 0' status_is 0
+version=$(sed -n 's/^#define SSD1815B_VERSION  *"\(.*\)"$/\1/p' "$(dirname "$0")/../ssd1815b.h")
+check 'version: there is one' [ -n "$version" ]
+check 'version: that of the header' line_is 1 "ssd1815b $version"
 run list help < /dev/null
 check 'help: elsewhere it is a trace' err_has 'cannot open help'
 wrong() {
@@ -164,14 +273,39 @@ wrong() {
 wrong 'no command'
 wrong 'no such command: print' print
 wrong 'no such option: --scales' picture --scales 2
+wrong 'no such option: --scales=2' picture --scales=2
+wrong 'no such option: -x' list -x
+wrong 'no such option: --version' list --version
 wrong '--scale is for picture alone' list --scale 2
+wrong '--scale is for picture alone' list --scale=2
+wrong '--png is for picture alone' show --png
+wrong '-o is for picture alone' show -o x.png
+wrong '--after is not for check' check --after 2
+wrong '--after needs a number' list --after
+wrong '--after takes a number of records, not -1' list --after -1
+wrong '--after takes a number of records, not ' list --after=
+wrong '--after takes a number of records, not 18446744073709551615' list --after 18446744073709551615
+wrong '--after takes a number of records, not 99999999999999999999999' list --after 99999999999999999999999
+wrong '-o needs a file' picture -o
+wrong 'no value is taken by --png' picture --png=yes
 wrong '--scale needs a number' picture --scale
 wrong 'a scale is a number from 1 to 64, not 0' picture --scale 0
 wrong 'a scale is a number from 1 to 64, not 65' picture --scale 65
 wrong 'a scale is a number from 1 to 64, not 2x' picture --scale 2x
-wrong 'more than one trace: b' list a b
+wrong 'more than one trace, which check alone takes: b' list a b
 wrong "cannot open $here/none: No such file" list "$here/none"
 wrong "cannot read $here: Is a directory" list "$here"
+# In a folder with a trace named -o.
+bytes "${sample[@]}" > "$here/-o"
+run_there() { ran env -C "$here" "${tool[@]:0:${#tool[@]}-1}" "$(realpath "${tool[-1]}")" "$@"; }
+run_there list -- -o
+check 'command line: -- ends the options' out_is $'frame 132 65\n0 0-1\n1 0-0\nend'
+run_there list -- --help
+check 'command line: after -- there is no help' err_has 'cannot open --help'
+run_there check -- -o sample.trace
+check 'command line: -- for several' out_is $'-o: taken, 2 records\nsample.trace: taken, 2 records'
+run list "$here/sample.trace" --after 1
+check 'command line: options after the trace' out_is $'frame 132 65\nend'
 if [ -e /dev/full ]; then
   status=0
   "${tool[@]}" list < /dev/null > /dev/full 2> "$here/err" || status=$?

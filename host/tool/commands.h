@@ -1,20 +1,44 @@
 /*
-** The tool's commands, each on a played trace.
+** The tool's commands.
 */
 #ifndef COMMANDS_H
 #define COMMANDS_H
 
 #include <stdio.h>
 
+#include "input.h"
+#include "options.h"
 #include "played.h"
 
-/* The picture in a terminal, and where the run stopped. */
+/* The tool's status. */
+enum status { ALL_TAKEN = 0, REFUSED = 1, FAILED = 2 };
+
+/* The status that a run asks for. */
+enum status status_of(const struct played *played);
+
+/* The listing of a trace, as document 01's program prints it. */
+enum status list(FILE *out, const struct options *options,
+                 struct input *input);
+
+/* The picture in a terminal, why it is dark if it is, and where the run
+** stopped. */
 void show(FILE *out, const struct played *played);
 
-/* The picture as a PBM file, each dot scale by scale. */
-void picture(FILE *out, const struct played *played, unsigned scale);
+/* The picture as a PBM or PNG file, or says why it cannot be written. */
+enum status picture(const struct options *options,
+                    const struct played *played);
+
+/* Whether a picture has a place to go to, which a terminal is not; says so if
+** it has none. */
+bool picture_has_place(const struct options *options);
 
 /* The registers by name, and where the run stopped. */
 void state(FILE *out, const struct played *played);
+
+/* The display memory by page, the bytes read, and where the run stopped. */
+void memory(FILE *out, const struct played *played);
+
+/* A line for each of several traces. */
+enum status check(FILE *out, const struct options *options);
 
 #endif

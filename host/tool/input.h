@@ -1,5 +1,5 @@
 /*
-** A trace from a file or from standard input.
+** A trace from a file or from standard input, of any length, part by part.
 */
 #ifndef INPUT_H
 #define INPUT_H
@@ -7,16 +7,27 @@
 #include <stdbool.h>
 #include <stddef.h>
 #include <stdint.h>
-
-#include "listing.h"
+#include <stdio.h>
 
 struct input {
-  uint8_t bytes[LISTING_LONGEST_TRACE + 1]; /* one more tells a longer one */
+  const char *name;
+  FILE *file;
+  size_t size;      /* of the file; 0 where nobody knows */
+  uint8_t *bytes;   /* all that has been read; it moves as more is read */
   size_t length;
+  size_t room;
+  bool ended;       /* there is no more */
 };
 
-/* Reads a file; null or "-" is standard input.  Says on standard error why it
-** cannot, and answers whether it could.  No more is kept than bytes holds. */
-bool input_read(struct input *input, const char *name);
+/* Opens a file; "-" is standard input.  Says on standard error why it cannot,
+** and answers whether it could. */
+bool input_open(struct input *input, const char *name);
+
+/* Reads on, so many bytes at most.  Says why it cannot, and answers whether it
+** could. */
+bool input_more(struct input *input, size_t most);
+
+/* Gives back what the input took, and closes the file. */
+void input_close(struct input *input);
 
 #endif

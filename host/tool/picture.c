@@ -1,45 +1,86 @@
+#define _POSIX_C_SOURCE 200809L /* isatty */
+#include "picture.h"
+
+#include <errno.h>
+#include <stdlib.h>
+#include <string.h>
+#include <unistd.h>
+
 #include "commands.h"
+#include "stop.h"
 
-#include <stdbool.h>
-
-/* Rows of blank dots between the panel and the icon line. */
-enum { GAP = 2 };
-
-/* One line of dots, eight to a byte, the leftmost in the highest bit. */
-static void put_line(FILE *out, const uint8_t *row, unsigned scale)
+bool picture_lit(const uint8_t *frame, unsigned x, unsigned y)
 {
-  unsigned width = SSD1815B_COLUMNS * scale;
-  unsigned byte = 0;
-  for (unsigned x = 0; x < width; x++) {
-    bool lit = row != NULL && row[x / scale] == 1;
-    byte = byte << 1 | lit;
-    if (x % 8 == 7) {
-      putc((int)byte, out);
-      byte = 0;
-    }
-  }
-  if (width % 8 != 0) {
-    putc((int)(byte << (8 - width % 8)), out);
-  }
+  enum { ICONS = PICTURE_MARGIN + SSD1815B_ROWS + PICTURE_GAP };
+  unsigned column = x - PICTURE_MARGIN;
+  unsigned row = y == ICONS ? SSD1815B_ICON_ROW : y - PICTURE_MARGIN;
+  /* A place of the margin is a large number here. */
+  return column < SSD1815B_COLUMNS && (row < SSD1815B_ROWS || y == ICONS)
+         && frame[row * SSD1815B_COLUMNS + column] == 1;
 }
 
-static void put_row(FILE *out, const uint8_t *row, unsigned scale)
+bool picture_has_place(const struct options *options)
 {
-  for (unsigned line = 0; line < scale; line++) {
-    put_line(out, row, scale);
+  if (options->output == NULL && isatty(STDOUT_FILENO)) {
+    fputs("ssd1815b: a picture is no text for a terminal: -o FILE.png or"
+          " > FILE.pbm\n", stderr);
+    return false;
   }
+  return true;
 }
 
-void picture(FILE *out, const struct played *played, unsigned scale)
+/* The file that a picture goes to, by its name; without PNG in the tool it is
+** a PBM beside the file that was asked for. */
+static FILE *open_output(const struct options *options)
 {
-  fprintf(out, "P4\n%u %u\n", SSD1815B_COLUMNS * scale,
-          (SSD1815B_FRAME_ROWS + GAP) * scale);
-  for (size_t row = 0; row < SSD1815B_ROWS; row++) {
-    put_row(out, played->frame + row * SSD1815B_COLUMNS, scale);
+  if (options->output == NULL) {
+    return stdout;
   }
-  for (int row = 0; row < GAP; row++) {
-    put_row(out, NULL, scale);
+  const char *ending = options->png && !png_built() ? ".pbm" : "";
+  size_t size = strlen(options->output) + strlen(ending) + 1;
+  char *name = malloc(size);
+  if (name == NULL) {
+    return NULL;
   }
-  put_row(out, played->frame + (size_t)SSD1815B_ICON_ROW * SSD1815B_COLUMNS,
-          scale);
+  snprintf(name, size, "%s%s", options->output, ending);
+  FILE *out = fopen(name, "wb");
+  free(name);
+  return out;
+}
+
+/* Says that there is no PNG in this tool. */
+static void tell_without_png(const struct options *options)
+{
+  fputs("ssd1815b: built without PNG (Debian's libstb-dev was missing): a PBM"
+        " is written", stderr);
+  if (options->output != NULL) {
+    fprintf(stderr, " to %s.pbm", options->output);
+  }
+  fputs("\n", stderr);
+}
+
+enum status picture(const struct options *options, const struct played *played)
+{
+  const char *name = options->output == NULL ? "standard output"
+                                             : options->output;
+  bool png = options->png && png_built();
+  if (options->png && !png) {
+    tell_without_png(options);
+  }
+  FILE *out = open_output(options);
+  bool done = out != NULL;
+  if (done && png) {
+    done = png_write(out, played->frame, options->scale);
+  } else if (done) {
+    pbm_write(out, played->frame, options->scale);
+  }
+  done = done && fflush(out) == 0 && !ferror(out);
+  if (out != NULL && out != stdout) {
+    done = fclose(out) == 0 && done;
+  }
+  if (!done) {
+    fprintf(stderr, "ssd1815b: cannot write %s: %s\n", name, strerror(errno));
+  }
+  stop_print(stderr, played);
+  return done ? status_of(played) : FAILED;
 }

@@ -4,12 +4,14 @@
 #ifndef PLAYED_H
 #define PLAYED_H
 
+#include <stdbool.h>
+
 #include "ssd1815b.h"
 
 struct played {
   const uint8_t *trace;
-  size_t trace_len;
-  uint8_t number;   /* what the run answered */
+  size_t trace_len;  /* what there was of it, or was to be played */
+  uint8_t number;    /* what the run answered */
   size_t offset;
   size_t count;
   uint8_t state[SSD1815B_STATE_SIZE];
@@ -17,6 +19,26 @@ struct played {
   uint8_t frame[SSD1815B_FRAME_SIZE];
 };
 
+/* As many records as there are. */
+#define ALL_RECORDS SIZE_MAX
+
+/* Plays a whole trace. */
 void play(struct played *played, const uint8_t *trace, size_t trace_len);
+
+/* The same for a trace that is read part by part: power-on, then what has been
+** read so far, after each part, until the run is refused, so many records are
+** done or the trace has ended; then the frame. */
+void play_begin(struct played *played);
+void play_on(struct played *played, const uint8_t *trace, size_t trace_len,
+             bool ended, size_t records);
+void play_end(struct played *played);
+
+/* The offset after so many whole records from the beginning on, or after all
+** of them where there are fewer; *found counts them. */
+size_t records_end(const uint8_t *trace, size_t trace_len, size_t records,
+                   size_t *found);
+
+/* What a read answers where the run stopped; nothing is changed by it. */
+uint8_t model_reads(const struct played *played);
 
 #endif

@@ -2,6 +2,7 @@
 
 #include <stdbool.h>
 
+#include "dark.h"
 #include "stop.h"
 
 static bool lit(const struct played *played, size_t row, size_t x)
@@ -41,5 +42,6 @@ void show(FILE *out, const struct played *played)
   print_edge(out, "├", "┤");
   print_rows(out, played, SSD1815B_ICON_ROW, false);
   print_edge(out, "└", "┘");
+  dark_print(out, played);
   stop_print(out, played);
 }

@@ -35,10 +35,15 @@ static void print_register(FILE *out, int place, uint8_t value)
 
 static const char *power_save(const uint8_t *image)
 {
-  if (image[SSD1815B_DISPLAY_ON] == 1 || image[SSD1815B_ENTIRE_ON] == 0) {
-    return "no";
-  }
-  return image[SSD1815B_INDICATOR_ON] == 0 ? "sleep" : "standby";
+  static const char *const names[] = {
+    [SSD1815B_AWAKE] = "no",
+    [SSD1815B_SLEEP] = "sleep",
+    [SSD1815B_STANDBY] = "standby",
+  };
+  uint8_t power;
+  /* A run leaves a legal image, so this does not refuse. */
+  ssd1815b_power_state(image, SSD1815B_STATE_SIZE, &power);
+  return names[power];
 }
 
 void state(FILE *out, const struct played *played)

@@ -33,6 +33,10 @@ legal image =
 unfoldable pub short : List ℕ → List ℕ → Bool
 short state memory = ltb (length state) imageSize || ltb (length memory) memorySize
 
+-- What a lent state alone is asked: its length, then the ranges.
+unfoldable pub askedState : List ℕ → Asked
+askedState state = cond (ltb (length state) imageSize) (Asked.Refused tooShort) (cond (legal state) (Asked.Found (registersOf state)) (Asked.Refused outOfRange))
+
 -- What a lent state and memory are asked first: their lengths, then the ranges.
 unfoldable pub asked : List ℕ → List ℕ → Asked
 asked state memory = cond (short state memory) (Asked.Refused tooShort) (cond (legal state) (Asked.Found (registersOf state)) (Asked.Refused outOfRange))

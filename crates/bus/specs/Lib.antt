@@ -10,6 +10,8 @@ pub mod Events
 pub mod Chip
 -- when a lent image is legal; refusals 1 and 2
 pub mod Image
+-- the state and memory that a chip starts with
+pub mod Start
 -- the whole outcome of a call
 pub mod Calls
 -- why some laws take bytes below 256

@@ -4,10 +4,11 @@ ghost use Prim.Native.Nat.{_≤_};
 ghost use lib.ListN.{length};
 ghost use Rattle.codes.specs.OneOf.{oneOf};
 ghost use Rattle.bus.specs.Registers.{imageOf, registersOf, largestValues};
-ghost use Rattle.bus.specs.Image.{within, awaitedCodes, legal, short, asked, stored};
+ghost use Rattle.bus.specs.Image.{within, awaitedCodes, legal, short, askedState, asked, stored};
 use crate::registers::Registers;
 use constants::refusal::OUT_OF_RANGE;
 use constants::refusal::TOO_SHORT;
+use constants::sizes::IMAGE_SIZE;
 
 // What a lent state and memory are found to be: taken up, with the registers, or refused 1 or 2.
 pub enum Asked {
@@ -47,6 +48,16 @@ pub fn ask(state: &[u8], memory: &[u8]) -> Asked
     ensures { λ r. ⌜ r ≡ asked (now (state .entry)) (now (memory .entry)) ⌝ }
 {
     if short(state, memory) {
+        return Asked::Refused(TOO_SHORT);
+    }
+    ask_state(state)
+}
+
+// Asks a lent state alone, first for its length and then for its ranges.
+pub fn ask_state(state: &[u8]) -> Asked
+    ensures { λ r. ⌜ r ≡ askedState (now (state .entry)) ⌝ }
+{
+    if state.len() < IMAGE_SIZE {
         return Asked::Refused(TOO_SHORT);
     }
     if legal(state) {

@@ -5,3 +5,4 @@ pub mod command;
 pub mod data;
 pub mod image;
 pub mod registers;
+pub mod start;

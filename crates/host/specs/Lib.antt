@@ -1,3 +1,4 @@
-pub mod Start
 pub mod Events
+pub mod PowerState
+pub mod Record
 pub mod List

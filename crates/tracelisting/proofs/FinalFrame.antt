@@ -14,16 +14,16 @@ use Rattle.trace.proofs.Kept.{Bytes}
 use Rattle.trace.proofs.Runs.{run-legal}
 use Rattle.picture.specs.Frame.{frame}
 use Rattle.picture.specs.Draw.{drawOn, draw}
-use Rattle.tracelisting.specs.Job.{ranFromPowerOn, frameAfter}
+use Rattle.tracelisting.specs.TraceListing.{ranFromStart, frameAfter}
 use Rattle.bus.specs.declared.image.Asked.{Asked}
 
 found : asked (imageOf powerOn) (replicate memorySize 0) ≡ Asked.Found powerOn
 unfolding powerOn largestValues within awaitedCodes legal short asked
 found = refl
 
-pub final-frame : (trace : List ℕ) → Bytes trace → frameAfter (ranFromPowerOn trace) ≡ frame (play theChip (split trace) (chipOf powerOn (replicate memorySize 0)) .state .registers) (ranFromPowerOn trace .memory)
-unfolding frameAfter ranFromPowerOn draw drawOn
+pub final-frame : (trace : List ℕ) → Bytes trace → frameAfter (ranFromStart trace) ≡ frame (play theChip (split trace) (chipOf powerOn (replicate memorySize 0)) .state .registers) (ranFromStart trace .memory)
+unfolding frameAfter ranFromStart draw drawOn
 final-frame trace bytes =
-    ap (λ asking. drawOn asking (ranFromPowerOn trace .memory) (replicate frameSize 0) .frame)
+    ap (λ asking. drawOn asking (ranFromStart trace .memory) (replicate frameSize 0) .frame)
     (run-legal (imageOf powerOn) (replicate memorySize 0) powerOn found trace bytes) ∙
     append-nil _

@@ -1,5 +1,10 @@
-pub mod Listings
-pub mod Sample
-pub mod Seen
-pub mod Spread
+-- What start, run, draw and list leave one after the other is the listing of the trace.
+pub mod ListedByCalls
+-- The frame that is listed is the one of the registers and memory that the run leaves.
 pub mod FinalFrame
+-- Document 01's own trace prints what it says.
+pub mod Sample
+-- A column of a frame by what each of its places shows, for the table that follows.
+pub mod FrameColumns
+-- The definitions beside the second program, on a spread of cases.
+pub mod Spread

@@ -23,7 +23,7 @@ use Rattle.framelisting.specs.Ascii.{ascii}
 use Rattle.framelisting.specs.Decimal.{digits, decimal}
 use Rattle.framelisting.specs.Runs.{lit, anyLit, leading, runsFrom, runs}
 use Rattle.framelisting.specs.Text.{runText, runsText, line, rowOf, lines, frameText, refusedText, listingOf}
-use Rattle.tracelisting.specs.Job.{ranFromPowerOn, frameAfter, listingOfTrace, textFor}
+use Rattle.tracelisting.specs.TraceListing.{ranFromStart, frameAfter, listingOfTrace, textFor}
 use Rattle.tracelisting.specs.Sample.{ownTrace, ownText, OwnSample}
 
 abbrev ownRan : Ran
@@ -32,8 +32,8 @@ ownRan = ran (stopOf 0 11 2) (imageOf (powerOn with on ≔ 1 with column ≔ 2))
 abbrev ownFrame : List ℕ
 ownFrame = set (set (set (replicate frameSize 0) 0 1) 1 1) width 1
 
-runs-so : ranFromPowerOn ownTrace ≡ ownRan
-unfolding powerOn largestValues run runOn ranOf asked short legal within awaitedCodes stored split splitFrom playFrom playRecord playEvents eventsOf replay happened step command obeyed write written access kept onward commandOf commandBy meaningOf table ranFromPowerOn
+runs-so : ranFromStart ownTrace ≡ ownRan
+unfolding powerOn largestValues run runOn ranOf asked short legal within awaitedCodes stored split splitFrom playFrom playRecord playEvents eventsOf replay happened step command obeyed write written access kept onward commandOf commandBy meaningOf table ranFromStart
 runs-so = refl
 
 draws-so : frameAfter ownRan ≡ ownFrame

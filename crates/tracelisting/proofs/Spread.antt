@@ -28,7 +28,7 @@ use Rattle.framelisting.specs.Decimal.{digits, decimal}
 use Rattle.framelisting.specs.Runs.{lit, anyLit, leading, runsFrom, runs as Runs·runs}
 use Rattle.framelisting.specs.Text.{runText, runsText, line, rowOf, lines, frameText, refusedText, listingOf}
 use Rattle.picture.proofs.Places.{frame-row}
-use Rattle.tracelisting.proofs.Seen.{down, rowShown, downShown, map-same, down-shown}
+use Rattle.tracelisting.proofs.FrameColumns.{down, rowShown, downShown, map-same, down-shown}
 
 -- The last digits of a number in a base, so many, before others.
 abbrev digitsBefore : ℕ → ℕ → ℕ → List ℕ → List ℕ

@@ -1,2 +1,2 @@
-pub mod Job
+pub mod TraceListing
 pub mod Sample

@@ -3,7 +3,7 @@ use Prim.Native.Nat.{ℕ}
 use mathlib.Core.Path.{_≡_}
 use mathlib.Core.List.{List, [], _∷_}
 use Rattle.framelisting.specs.Ascii.{ascii}
-use Rattle.tracelisting.specs.Job.{textFor}
+use Rattle.tracelisting.specs.TraceListing.{textFor}
 
 abbrev pub ownTrace : List ℕ
 ownTrace = 0x01 ∷ 0x00 ∷ 0x01 ∷ 0x00 ∷ 0xAF ∷ 0x02 ∷ 0x00 ∷ 0x02 ∷ 0x00 ∷ 0x03 ∷ 0x01 ∷ []

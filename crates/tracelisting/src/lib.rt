@@ -1,11 +1,11 @@
-// The listing programs' job: from a trace's bytes to the text that is printed for it.
+// From a trace's bytes to the text that the listing program prints for it.
 ghost use mathlib.Core.Path.{_≡_};
 ghost use Prim.Native.Nat.{_≤_};
 ghost use lib.ListN.{length};
 ghost use Rattle.constants.specs.Sizes.{longestListing};
-ghost use Rattle.tracelisting.specs.Job.{listingOfTrace, textFor, printed, printedOf};
-use bus::registers::Registers;
+ghost use Rattle.tracelisting.specs.TraceListing.{listingOfTrace, textFor, printed, printedOf};
 use constants::sizes::FRAME_SIZE;
+use constants::sizes::IMAGE_SIZE;
 use constants::sizes::LONGEST_LISTING;
 use constants::sizes::LONGEST_TRACE;
 use constants::sizes::MEMORY_SIZE;
@@ -21,16 +21,17 @@ pub fn list_input(input: &[u8], text: &mut [u8]) -> usize
     list_trace(input, text)
 }
 
-// Lists what a trace of any length leaves on the glass, from power-on with zero memory; answers the text's length, 0 where the buffer is too short for some listing.
+// Lists what a trace of any length leaves on the glass, from the start; answers the text's length, 0 where the buffer is too short for some listing.
 fn list_trace(trace: &[u8], text: &mut [u8]) -> usize
     ensures { λ r. ⌜ printed r (now (text .exit)) ≡ printedOf (listingOfTrace (now (trace .entry))) (now (text .entry)) ⌝ }
 {
     if text.len() < LONGEST_LISTING {
         return 0;
     }
-    let mut state = Registers::power_on().image();
+    let mut state = [0u8; IMAGE_SIZE];
     let mut memory = [0u8; MEMORY_SIZE];
     let mut frame = [0u8; FRAME_SIZE];
+    bus::start::start(&mut state, &mut memory);
     let stop = trace::run::run(&mut state, &mut memory, trace);
     picture::draw::draw(&state, &memory, &mut frame);
     match framelisting::list(stop.number, stop.offset, &frame, text) {

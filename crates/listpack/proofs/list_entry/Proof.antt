@@ -3,7 +3,7 @@
 use borrow.Author.Needs.{needs}
 use mathlib.Core.Path.{sym}
 use lib.Seq.{length-take-le}
-use Rattle.tracelisting.proofs.Listings.{within-text}
+use Rattle.tracelisting.proofs.ListedByCalls.{within-text}
 use Rattle.listpack.proofs.list_entry.Statement.{statement}
 use Rattle.listpack.proofs.list_entry.Tie as tie
 

@@ -3,7 +3,7 @@
 use mathlib.Core.Path.{sym}
 use lib.Seq.{length-take-le}
 use Rattle.standardinput.proofs.Reading.{read-counts}
-use Rattle.tracelisting.proofs.Listings.{within-text}
+use Rattle.tracelisting.proofs.ListedByCalls.{within-text}
 use borrow.Author.Needs.{needs}
 use Rattle.listtrace.proofs.main.Statement.{statement}
 use Rattle.listtrace.proofs.main.Tie as tie

@@ -1,12 +1,13 @@
--- `job::list_input` meets its contract: the test of the length chooses the text.
+-- `tracelisting::list_input` meets its contract: the test of the length chooses the text.
 -- Assumes nothing.
 use borrow.Author.Needs.{needs}
 use native.Mathlib.Omega.{arith}
 use denote.Ref.{now}
 use lib.ListN.{length}
 use borrow.Author.Tests.{lt-ltb, le-ltb}
+use Rattle.constants.specs.Sizes.{longestTrace}
 use Rattle.framelisting.specs.Ascii.{ascii}
-use Rattle.tracelisting.specs.Job.{longestTrace, textFor}
+use Rattle.tracelisting.specs.TraceListing.{textFor}
 use Rattle.tracelisting.proofs.list_input.Statement.{statement}
 use Rattle.tracelisting.proofs.list_input.Tie as tie
 

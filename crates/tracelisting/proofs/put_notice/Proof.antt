@@ -1,4 +1,4 @@
--- `job::put_notice` meets its contract: the first i bytes are the line's, and the rest is as it was.
+-- `tracelisting::put_notice` meets its contract: the first i bytes are the line's, and the rest is as it was.
 -- Assumes nothing.
 use Prim.Native.Nat.{ℕ, _+_, _-_, _≤_, _<_}
 use mathlib.Core.Path.{_≡_, refl, _∙_, ap}
@@ -10,7 +10,7 @@ use denote.Ref.{now}
 use lib.ListN.{length, take, drop, set, getD, length-append, length-drop}
 use lib.Seq.{length-take-le, take-length, take-suc, drop-cons, set-at}
 use Rattle.constants.specs.Sizes.{longestListing}
-use Rattle.tracelisting.specs.Job.{printedOf}
+use Rattle.tracelisting.specs.TraceListing.{printedOf}
 use Rattle.tracelisting.proofs.put_notice.Statement.{statement}
 use Rattle.tracelisting.proofs.put_notice.Tie as tie
 

@@ -1,10 +1,11 @@
--- `bus::image::ask` meets its contract: the lengths first, then the ranges.
+-- `bus::image::ask` meets its contract: both lengths first, then the state alone, whose length is enough then.
 -- Assumes nothing.
 use borrow.Author.Needs.{needs}
 use Rattle.bus.proofs.image.ask.Statement.{statement}
 use Rattle.bus.proofs.image.ask.Tie as tie
 use mathlib.Core.Path.{sym, _∙_}
-use Rattle.bus.specs.Image.{asked}
+use borrow.Author.Tests.{le-ltb}
+use Rattle.bus.specs.Image.{askedState, asked}
 use Rattle.bus.proofs.Legal.{long}
 
 short-requires : tie.Need-short-requires
@@ -14,20 +15,14 @@ returns : tie.Need-returns
 unfolding asked
 returns c = rw (← (c .before .short .ensures), c .if1 .taken)
 
-legal-requires : tie.Need-legal-requires
-legal-requires c κs = search needs
-
-load-requires : tie.Need-load-requires
-load-requires c κs = long _ _ (sym (c .before .before .before .short .ensures) ∙ c .before .before .if1 .left) .0
+ask-state-requires : tie.Need-ask-state-requires
+ask-state-requires c κs = search needs
 
 returns-2 : tie.Need-returns-2
-unfolding asked
-returns-2 c = rw (← (c .before .before .before .before .short .ensures), c .before .before .before .if1 .left, ← (c .before .before .legal .ensures), c .before .if2 .taken, c .load .ensures)
-
-returns-3 : tie.Need-returns-3
-unfolding asked
-returns-3 c = rw (← (c .before .before .before .short .ensures), c .before .before .if1 .left, ← (c .before .legal .ensures), c .if2 .left)
+unfolding askedState asked
+returns-2 c =
+    let enough = sym (c .before .before .short .ensures) ∙ c .before .if1 .left in
+    rw (← (c .before .before .short .ensures), c .before .if1 .left, c .ask-state .ensures, le-ltb _ _ (long _ _ enough .0))
 
 pub ask-spec : {M : Type 1} → statement M
-ask-spec =
-    tie.close (tie.spec short-requires returns legal-requires load-requires returns-2 returns-3)
+ask-spec = tie.close (tie.spec short-requires returns ask-state-requires returns-2)

@@ -1,38 +1,34 @@
--- The listing program's job: from a trace to the text that is printed for it.
+-- Document 01, the listing program: from a trace to the text that is printed for it.
 use Prim.Native.Nat.{ℕ}
 use mathlib.Core.Bool.{cond}
 use mathlib.Core.List.{List, _++_}
 use lib.Dec.{ltb}
 use lib.ListN.{length, drop, replicate}
-use Rattle.constants.specs.Sizes.{memorySize, frameSize}
-use Rattle.bus.specs.Registers.{powerOn, imageOf}
+use Rattle.constants.specs.Sizes.{frameSize, longestTrace, longestListing}
+use Rattle.bus.specs.Registers.{imageOf}
+use Rattle.bus.specs.Start.{registersAtStart, memoryAtStart}
 use Rattle.trace.specs.Run.{Ran, run}
 use Rattle.picture.specs.Draw.{draw}
-use Rattle.constants.specs.Sizes.{longestListing}
 use Rattle.framelisting.specs.Ascii.{ascii}
 use Rattle.framelisting.specs.Text.{listingOf}
 
--- The trace run from power-on with zero memory.
-unfoldable pub ranFromPowerOn : List ℕ → Ran
-ranFromPowerOn trace = run (imageOf powerOn) (replicate memorySize 0) trace
+-- The trace run from the start.
+unfoldable pub ranFromStart : List ℕ → Ran
+ranFromStart trace = run (imageOf registersAtStart) memoryAtStart trace
 
 -- The frame after a run, drawn over a dark one.
 unfoldable pub frameAfter : Ran → List ℕ
 frameAfter ran = draw (ran .state) (ran .memory) (replicate frameSize 0) .frame
 
--- The listing of a trace.
+-- The listing of a trace: the frame that its run leaves, after the number and the offset of a run that stopped.
 unfoldable pub listingOfTrace : List ℕ → List ℕ
-listingOfTrace trace = let ran = ranFromPowerOn trace in listingOf (ran .stop .number) (ran .stop .offset) (frameAfter ran)
+listingOfTrace trace = let ran = ranFromStart trace in listingOf (ran .stop .number) (ran .stop .offset) (frameAfter ran)
 
--- bytes of the longest trace that is listed
-abbrev pub longestTrace : ℕ
-longestTrace = 65536
-
--- What is printed for an input: its listing; for a longer input than that only one line.
+-- What is printed for an input: its listing; for a longer input than 65,536 bytes only one line.
 unfoldable pub textFor : List ℕ → List ℕ
 textFor input = cond (ltb longestTrace (length input)) (ascii "input too long\n") (listingOfTrace input)
 
--- The length that the job answers, and the buffer that it leaves.
+-- The text's length that the call answers, and the buffer that it leaves.
 pub record Printed : Type 0 where
   pub size : ℕ
   pub text : List ℕ

@@ -1,12 +1,11 @@
--- `host::start::ssd1815b_start` meets its contract by what its calls leave.
+-- `bus::start::start` meets its contract by what its calls leave.
 -- Assumes nothing.
 use borrow.Author.Needs.{needs}
-use Rattle.host.proofs.start.ssd1815b_start.Statement.{statement}
-use Rattle.host.proofs.start.ssd1815b_start.Tie as tie
+use Rattle.bus.proofs.start.start.Statement.{statement}
+use Rattle.bus.proofs.start.start.Tie as tie
 use mathlib.Core.Path.{sym, _∙_}
-use Rattle.bus.specs.Image.{stored}
 use Rattle.bus.proofs.Legal.{long}
-use Rattle.host.specs.Start.{startOf}
+use Rattle.bus.specs.Start.{startOf}
 
 short-requires : tie.Need-short-requires
 short-requires c κs = search needs
@@ -40,8 +39,8 @@ returns-2 : tie.Need-returns-2
 unfolding startOf
 returns-2 c = rw (← (c .before .before .before .before .before .before .before .before .before .before .short .ensures), c .before .before .before .before .before .before .before .before .before .if1 .left, c .before .before .clear .ensures, c .before .before .before .before .before .before .store .ensures, c .before .before .before .before .before .before .before .before .power-on .ensures)
 
-pub ssd1815b-start-spec : {M : Type 1} → statement M
-ssd1815b-start-spec =
+pub start-spec : {M : Type 1} → statement M
+start-spec =
     tie.close
     (tie.spec
     short-requires

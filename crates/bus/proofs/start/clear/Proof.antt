@@ -1,4 +1,4 @@
--- `host::clear::clear` meets its contract: the first i bytes are 0, and the rest is as it was.
+-- `bus::start::clear` meets its contract: the first i bytes are 0, and the rest is as it was.
 -- Assumes nothing.
 use mathlib.Core.Path.{_≡_, _∙_, ap}
 use mathlib.Core.List.{List, _++_}
@@ -7,17 +7,18 @@ use native.Mathlib.Omega.{arith}
 use borrow.Author.Fill.{fill-none, fill-more}
 use denote.Ref.{now}
 use lib.ListN.{length, drop, set, replicate, length-append, length-replicate, length-drop}
-use Rattle.host.proofs.clear.clear.Statement.{statement}
-use Rattle.host.proofs.clear.clear.Tie as tie
+use Rattle.constants.specs.Sizes.{memorySize}
+use Rattle.bus.proofs.start.clear.Statement.{statement}
+use Rattle.bus.proofs.start.clear.Tie as tie
 
 filled-length : (i : ℕ) (memory : List ℕ) → i ≤ length memory → length (replicate i 0 ++ drop i memory) ≡ length memory
 filled-length i memory h = simp (length-append, length-replicate, length-drop) (omega arith)
 
 abbrev Inv-loop : tie.InvT-loop
-Inv-loop memory₀ i₀ memory i = (i ≤ 1188) × (memory ≡ replicate i 0 ++ drop i memory₀)
+Inv-loop memory₀ i₀ memory i = (i ≤ memorySize) × (memory ≡ replicate i 0 ++ drop i memory₀)
 
 abbrev μ-loop : tie.MeasureT-loop
-μ-loop memory₀ i₀ memory i = 1188 - i
+μ-loop memory₀ i₀ memory i = memorySize - i
 
 loop-holds : tie.Need-loop-holds Inv-loop μ-loop
 loop-holds c = (omega arith, fill-none (now (c .args .memory)) 0)
@@ -41,7 +42,7 @@ same-length c = ap length (c .before .loop .inv .1) ∙ filled-length (c .before
 
 returns : tie.Need-returns Inv-loop μ-loop
 returns c =
-    let e : c .before .loop .i ≡ 1188 = omega arith in
+    let e : c .before .loop .i ≡ memorySize = omega arith in
     c .before .loop .inv .1 ∙ rw e
 
 pub clear-spec : {M : Type 1} → statement M

@@ -1,6 +1,6 @@
--- The steps of the job put together: what the calls leave is the listing of the trace, and a buffer that holds any listing holds it.
+-- What start, run, draw and list leave one after the other is the listing of the trace, and a buffer that holds any listing holds it.
 -- Assumes nothing.
-use mathlib.Core.Path.{_≡_, sym, _∙_, ap}
+use mathlib.Core.Path.{_≡_, refl, sym, _∙_, ap}
 use mathlib.Core.List.{List, _++_}
 use Prim.Native.Nat.{ℕ, _^_, _≤_, _<_}
 use native.Mathlib.Omega.{arith}
@@ -8,26 +8,34 @@ use mathlib.Core.Bool.{Bool, true, false, cond}
 use lib.Dec.{ltb}
 use borrow.Author.Tests.{le-ltb}
 use lib.ListN.{length, drop, replicate, length-append}
-use Rattle.constants.specs.Sizes.{memorySize, frameSize}
+use Rattle.constants.specs.Numbers.{taken}
+use Rattle.constants.specs.Sizes.{imageSize, memorySize, frameSize, longestListing}
 use Rattle.bus.specs.Registers.{powerOn, imageOf}
+use Rattle.bus.specs.Image.{short, stored}
+use Rattle.bus.specs.Start.{registersAtStart, memoryAtStart, started, startOf}
 use Rattle.trace.specs.Run.{Ran, ran, run}
 use Rattle.trace.specs.declared.run.Stop.{Stop}
 use Rattle.picture.specs.Draw.{drawn, draw}
-use Rattle.constants.specs.Sizes.{longestListing}
 use Rattle.framelisting.specs.Text.{listingOf}
 use Rattle.framelisting.specs.Listing.{Outcome, outcome, written, listed}
 use Rattle.framelisting.specs.declared.Listed.{Listed}
 use Rattle.framelisting.proofs.Outcomes.{always-enough}
-use Rattle.tracelisting.specs.Job.{ranFromPowerOn, frameAfter, listingOfTrace, printed, printedOf}
+use Rattle.tracelisting.specs.TraceListing.{ranFromStart, frameAfter, listingOfTrace, printed, printedOf}
 
-pub whole : (trace text state : List ℕ) (stop : Stop) (later left frame text′ : List ℕ) (number : ℕ) (answer : Listed) → state ≡ imageOf powerOn → ran stop later left ≡ run state (replicate memorySize 0) trace → drawn number frame ≡ draw later left (replicate frameSize 0) → outcome answer text′ ≡ listed (stop .number) (stop .offset) frame text → stop .number < 256 → stop .offset < 2 ^ 64 → frameSize ≤ length frame → longestListing ≤ length text → outcome answer text′ ≡ written (listingOfTrace trace) text
-unfolding ranFromPowerOn frameAfter listingOfTrace
-whole trace text state stop later left frame text′ number answer s p d l n o f t =
+-- the start in arrays of the listing's own
+start-there : startOf (replicate imageSize 0) (replicate memorySize 0) ≡ started taken (imageOf registersAtStart) memoryAtStart
+unfolding powerOn stored short startOf
+start-there = refl
+
+pub whole : (trace text state memory : List ℕ) (begun : ℕ) (stop : Stop) (later left frame text′ : List ℕ) (number : ℕ) (answer : Listed) → started begun state memory ≡ startOf (replicate imageSize 0) (replicate memorySize 0) → ran stop later left ≡ run state memory trace → drawn number frame ≡ draw later left (replicate frameSize 0) → outcome answer text′ ≡ listed (stop .number) (stop .offset) frame text → stop .number < 256 → stop .offset < 2 ^ 64 → frameSize ≤ length frame → longestListing ≤ length text → outcome answer text′ ≡ written (listingOfTrace trace) text
+unfolding ranFromStart frameAfter listingOfTrace
+whole trace text state memory begun stop later left frame text′ number answer s p d l n o f t =
     l ∙
     always-enough (stop .number) (stop .offset) frame text n o f t ∙
     ap (λ listing. written listing text)
     (ap (λ drawing. listingOf (stop .number) (stop .offset) (drawing .frame)) d ∙
-    ap (λ r. listingOf (r .stop .number) (r .stop .offset) (draw (r .state) (r .memory) (replicate frameSize 0) .frame)) (rw s at p))
+    ap (λ r. listingOf (r .stop .number) (r .stop .offset) (draw (r .state) (r .memory) (replicate frameSize 0) .frame))
+    (p ∙ ap (λ begin. run (begin .state) (begin .memory) trace) (s ∙ start-there)))
 
 -- the text stands at the start of the buffer, with its length
 pub finished : (trace text text′ : List ℕ) (answer : Listed) (size : ℕ) → longestListing ≤ length text → outcome answer text′ ≡ written (listingOfTrace trace) text → answer ≡ Listed.Written size → printed size text′ ≡ printedOf (listingOfTrace trace) text

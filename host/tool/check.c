@@ -1,0 +1,47 @@
+#include "commands.h"
+
+#include "numbers.h"
+#include "player.h"
+
+/* The verdict on a trace, in a line. */
+static void print_verdict(FILE *out, const char *name,
+                          const struct played *played)
+{
+  if (played->number == SSD1815B_TAKEN) {
+    fprintf(out, "%s: taken, %zu record%s\n", name, played->count,
+            played->count == 1 ? "" : "s");
+  } else {
+    fprintf(out, "%s: refused %u at %zu: %s\n", name, played->number,
+            played->offset, number_meaning(played->number));
+  }
+}
+
+static enum status check_one(FILE *out, const char *name)
+{
+  static struct played played;
+  struct input input;
+  enum status status = FAILED;
+  if (input_open(&input, name)) {
+    if (play_input(&played, &input, ALL_RECORDS)) {
+      status = status_of(&played);
+      print_verdict(out, name, &played);
+    }
+    input_close(&input);
+  }
+  if (status == FAILED) {
+    fprintf(out, "%s: cannot be read\n", name);
+  }
+  return status;
+}
+
+enum status check(FILE *out, const struct options *options)
+{
+  enum status worst = ALL_TAKEN;
+  for (int i = 0; i < options->trace_count; i++) {
+    enum status status = check_one(out, options->traces[i]);
+    if (status > worst) {
+      worst = status;
+    }
+  }
+  return worst;
+}

@@ -1,0 +1,14 @@
+/*
+** Why a screen is dark.
+*/
+#ifndef DARK_H
+#define DARK_H
+
+#include <stdio.h>
+
+#include "played.h"
+
+/* A line if no place of the frame is lit, and nothing if one is. */
+void dark_print(FILE *out, const struct played *played);
+
+#endif

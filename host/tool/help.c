@@ -1,0 +1,116 @@
+#include "help.h"
+
+#include "picture.h"
+#include "ssd1815b.h"
+
+#ifndef MODEL
+#define MODEL "unknown"
+#endif
+
+static const char all[] =
+  "usage: ssd1815b COMMAND [OPTION...] [--] [TRACE]\n"
+  "       ssd1815b check [--] [TRACE...]\n"
+  "       ssd1815b COMMAND --help | --help | --version\n"
+  "\n"
+  "Plays a trace of recorded bus traffic on a model of the SSD1815B, from\n"
+  "power-on with zero memory.  TRACE is a file of any length; without one, or\n"
+  "with -, it is standard input.\n"
+  "\n"
+  "  list      the lit places of the final frame, a line for each row; takes\n"
+  "            at most 65,536 bytes\n"
+  "  show      the final frame drawn, and why it is dark if it is\n"
+  "  picture   the final frame as a PBM or PNG file\n"
+  "  state     the registers by name\n"
+  "  memory    the display memory in hex, and the bytes read\n"
+  "  check     a line for each trace: taken, or refused and where\n"
+  "\n"
+  "  --after N          stop after N whole records (not for check)\n"
+  "  --scale N          picture: each dot N by N, 1 to 64, else 4\n"
+  "  --png              picture: PNG, not PBM\n"
+  "  -o, --output FILE  picture: to FILE.png or FILE.pbm\n"
+  "  --                 ends the options\n"
+  "\n"
+  "An option's value may follow = too: --scale=4.\n"
+  "\n"
+  "A run that is refused is shown as it stands at that place.  The number and\n"
+  "the place, what the number means and what would have been taken are said\n"
+  "in words; by list and picture on standard error.\n"
+  "\n"
+  "Status 0: all taken.  1: refused.  2: a wrong command line, or input or\n"
+  "output that fails.\n";
+
+static const char after[] =
+  "\n"
+  "  --after N   stop after N whole records; where there are fewer, all is\n"
+  "              played, and standard error says so\n";
+
+static const char *const usage[COMMANDS] = {
+  [LIST] =
+    "usage: ssd1815b list [--after N] [TRACE]\n"
+    "\n"
+    "Prints what document 01's listing program does: `refused R at O` if the\n"
+    "run was stopped, `frame 132 65`, a line for each row with lit places (64\n"
+    "is the icon line), `end`.  More than 65,536 bytes are `input too long`,\n"
+    "status 2; with --after the bytes of those records count.  Why a run was\n"
+    "stopped is said on standard error.\n",
+  [SHOW] =
+    "usage: ssd1815b show [--after N] [TRACE]\n"
+    "\n"
+    "Draws the final frame, two panel rows to a line, the icon line apart, on\n"
+    "a UTF-8 terminal 134 wide.  Below it: why all is dark, if it is, and why\n"
+    "the run was stopped, if it was.\n",
+  [PICTURE] =
+    "usage: ssd1815b picture [--scale N] [--after N] [TRACE] > FILE.pbm\n"
+    "       ssd1815b picture [--scale N] [--after N] -o FILE.png [TRACE]\n"
+    "\n"
+    "Writes the final frame as a file: lit dots black, the icon line apart, a\n"
+    "margin round it.  Nothing is sent to a terminal.\n"
+    "\n"
+    "  --scale N          each dot N by N, 1 to 64, else 4\n"
+    "  --png              PNG, not PBM, on standard output\n"
+    "  -o, --output FILE  to this file, PNG or PBM by its ending, .png or\n"
+    "                     .pbm; one that is there is written over\n"
+    "\n"
+    "A tool that was built without PNG says so and writes PBM, to\n"
+    "FILE.png.pbm where FILE.png is asked for.\n",
+  [STATE] =
+    "usage: ssd1815b state [--after N] [TRACE]\n"
+    "\n"
+    "Prints the registers by name, whether they are power save, the image in\n"
+    "hex, and what the run answered.\n",
+  [MEMORY] =
+    "usage: ssd1815b memory [--after N] [TRACE]\n"
+    "\n"
+    "Prints the display memory in hex, page by page, 16 columns to a line; of\n"
+    "page 8 bit 0 is the icon line.  Then a line for each byte that the trace\n"
+    "read: its offset and record, page and column, what the model reads\n"
+    "(dummy for the dummy read) and what was recorded.\n",
+  [CHECK] =
+    "usage: ssd1815b check [TRACE...]\n"
+    "\n"
+    "Plays each trace by itself and prints a line for each:\n"
+    "\n"
+    "  FILE: taken, N records\n"
+    "  FILE: refused R at O: what R means\n"
+    "  FILE: cannot be read\n"
+    "\n"
+    "Status 0: all taken.  1: one is refused.  2: one cannot be read.\n",
+};
+
+void help_print(FILE *out, enum command command)
+{
+  if (command == COMMANDS) {
+    fputs(all, out);
+    return;
+  }
+  fputs(usage[command], out);
+  if (command != CHECK) {
+    fputs(after, out);
+  }
+}
+
+void version_print(FILE *out)
+{
+  fprintf(out, "ssd1815b %s\nmodel: %s\npictures: PBM%s\n", SSD1815B_VERSION,
+          MODEL, png_built() ? " and PNG" : ", no PNG");
+}

@@ -1,0 +1,27 @@
+#include "numbers.h"
+
+#include "ssd1815b.h"
+
+static const char *const meanings[] = {
+  [SSD1815B_TAKEN] = "taken",
+  [SSD1815B_TOO_SHORT] = "a lent state, memory or frame is too short",
+  [SSD1815B_OUT_OF_RANGE] = "the state image is out of its ranges",
+  [SSD1815B_OUTSIDE_TABLE] =
+    "a command byte outside the table, with no code awaited",
+  [SSD1815B_NO_PAGE] = "B9 to BF name no page",
+  [SSD1815B_NOT_ALLOWED] = "n of D3 or D4 not allowed; the code stays awaited",
+  [SSD1815B_CODE_AWAITED] = "a data write or read while a code is awaited",
+  [SSD1815B_COLUMN_ABOVE] = "a data write or read with column above 131",
+  [SSD1815B_HEADER_CUT] =
+    "one to three bytes left where a header should stand, or payload past the"
+    " end",
+  [SSD1815B_KIND_UNKNOWN] = "kind not 1 to 4, or kind 4 with a payload",
+  [SSD1815B_READ_DIFFERS] =
+    "a compared read differs; that read has not happened",
+};
+
+const char *number_meaning(uint8_t number)
+{
+  return number < sizeof meanings / sizeof *meanings
+           ? meanings[number] : "not a number of document 01";
+}

@@ -1,0 +1,239 @@
+#define _POSIX_C_SOURCE 200809L /* strcasecmp */
+#include "options.h"
+
+#include <errno.h>
+#include <inttypes.h>
+#include <stdio.h>
+#include <stdlib.h>
+#include <string.h>
+#include <strings.h>
+
+#include "played.h"
+
+enum { LARGEST_SCALE = 64, USUAL_SCALE = 4 };
+
+static const char *const command_names[COMMANDS] = {
+  [LIST] = "list",   [SHOW] = "show",     [PICTURE] = "picture",
+  [STATE] = "state", [MEMORY] = "memory", [CHECK] = "check"
+};
+
+void options_wrong(const char *why, const char *what)
+{
+  fprintf(stderr, "ssd1815b: %s%s\nssd1815b --help says more\n", why, what);
+}
+
+/* ---- options and their values ---- */
+
+/* A number in decimal digits and nothing else. */
+static bool number_of(const char *text, uintmax_t *number)
+{
+  char *end;
+  errno = 0;
+  *number = strtoumax(text, &end, 10);
+  return *text >= '0' && *text <= '9' && *end == '\0' && errno == 0;
+}
+
+static bool take_scale(struct options *options, const char *text)
+{
+  uintmax_t number;
+  if (!number_of(text, &number) || number < 1 || number > LARGEST_SCALE) {
+    options_wrong("a scale is a number from 1 to 64, not ", text);
+    return false;
+  }
+  options->scale = (unsigned)number;
+  return true;
+}
+
+static bool take_after(struct options *options, const char *text)
+{
+  uintmax_t number;
+  if (!number_of(text, &number) || number >= ALL_RECORDS) {
+    options_wrong("--after takes a number of records, not ", text);
+    return false;
+  }
+  options->records = (size_t)number;
+  return true;
+}
+
+static bool take_png(struct options *options, const char *text)
+{
+  (void)text;
+  options->png = true;
+  return true;
+}
+
+/* A picture's file.  Its ending is asked, so that a trace that is named here
+** by mistake is not written over. */
+static bool take_output(struct options *options, const char *text)
+{
+  const char *ending = strrchr(text, '.');
+  bool png = ending != NULL && strcasecmp(ending, ".png") == 0;
+  if (!png && (ending == NULL || strcasecmp(ending, ".pbm") != 0)) {
+    options_wrong("a picture's file is named FILE.png or FILE.pbm, not ", text);
+    return false;
+  }
+  options->output = text;
+  return true;
+}
+
+struct option {
+  const char *name;
+  const char *value;   /* what it needs, or null */
+  unsigned commands;   /* that take it, a bit each */
+  const char *whose;   /* what is said to the others */
+  bool (*take)(struct options *options, const char *text);
+};
+
+enum { FOR_PICTURE = 1 << PICTURE, NOT_FOR_CHECK = (1 << CHECK) - 1 };
+
+static const struct option table[] = {
+  { "--after", "a number", NOT_FOR_CHECK, "is not for check", take_after },
+  { "--scale", "a number", FOR_PICTURE, "is for picture alone", take_scale },
+  { "--png", NULL, FOR_PICTURE, "is for picture alone", take_png },
+  { "--output", "a file", FOR_PICTURE, "is for picture alone", take_output },
+  { "-o", "a file", FOR_PICTURE, "is for picture alone", take_output },
+};
+
+/* The option of which this is the name, or the name, = and a value. */
+static const struct option *option_of(const char *text)
+{
+  size_t length = strcspn(text, "=");
+  for (size_t i = 0; i < sizeof table / sizeof *table; i++) {
+    if (strlen(table[i].name) == length
+        && strncmp(table[i].name, text, length) == 0) {
+      return &table[i];
+    }
+  }
+  return NULL;
+}
+
+/* Takes the option at place *i of the command line, and moves *i on to its
+** value where that stands apart. */
+static bool take_option(int argc, char **argv, int *i, struct options *options)
+{
+  const char *text = argv[*i];
+  const struct option *option = option_of(text);
+  if (option == NULL) {
+    options_wrong("no such option: ", text);
+    return false;
+  }
+  if ((option->commands >> options->command & 1) == 0) {
+    fprintf(stderr, "ssd1815b: %s %s\n", option->name, option->whose);
+    return false;
+  }
+  const char *value = strchr(text, '=');
+  if (option->value == NULL) {
+    if (value != NULL) {
+      options_wrong("no value is taken by ", option->name);
+      return false;
+    }
+    return option->take(options, NULL);
+  }
+  if (value != NULL) {
+    return option->take(options, value + 1);
+  }
+  if (++*i == argc) {
+    fprintf(stderr, "ssd1815b: %s needs %s\n", option->name, option->value);
+    return false;
+  }
+  return option->take(options, argv[*i]);
+}
+
+/* ---- the command line ---- */
+
+/* The command of that name; COMMANDS if there is none. */
+static enum command command_of(const char *text)
+{
+  int i = 0;
+  while (i < COMMANDS && strcmp(text, command_names[i]) != 0) {
+    i++;
+  }
+  return (enum command)i;
+}
+
+/* Help is asked for: as the command, or by its options before any `--`. */
+static bool help_wanted(int argc, char **argv)
+{
+  bool wanted = argc > 1 && strcmp(argv[1], "help") == 0;
+  for (int i = 1; i < argc && strcmp(argv[i], "--") != 0; i++) {
+    wanted = wanted || strcmp(argv[i], "--help") == 0
+             || strcmp(argv[i], "-h") == 0;
+  }
+  return wanted;
+}
+
+/* The command that help is asked for: the first word, or the one after
+** `help`. */
+static enum command command_to_explain(int argc, char **argv)
+{
+  int i = strcmp(argv[1], "help") == 0 ? 2 : 1;
+  return i < argc ? command_of(argv[i]) : COMMANDS;
+}
+
+/* Options and traces; the names of the traces are moved to the front. */
+static bool take_words(int argc, char **argv, struct options *options)
+{
+  bool options_end = false;
+  for (int i = 2; i < argc; i++) {
+    if (options_end || argv[i][0] != '-' || argv[i][1] == '\0') {
+      options->traces[options->trace_count++] = argv[i];
+    } else if (strcmp(argv[i], "--") == 0) {
+      options_end = true;
+    } else if (!take_option(argc, argv, &i, options)) {
+      return false;
+    }
+  }
+  return true;
+}
+
+/* What no option shows by itself. */
+static bool fit_together(struct options *options)
+{
+  if (options->trace_count > 1 && options->command != CHECK) {
+    options_wrong("more than one trace, which check alone takes: ",
+                  options->traces[1]);
+    return false;
+  }
+  if (options->output != NULL) {
+    bool png = strcasecmp(strrchr(options->output, '.'), ".png") == 0;
+    if (options->png && !png) {
+      options_wrong("--png, but the file is ", options->output);
+      return false;
+    }
+    options->png = png;
+  }
+  return true;
+}
+
+enum wish options_of(int argc, char **argv, struct options *options)
+{
+  static char dash[] = "-";
+  static char *standard_input[] = { dash };
+  *options = (struct options){ .command = COMMANDS, .records = ALL_RECORDS,
+                               .scale = USUAL_SCALE };
+  if (argc < 2) {
+    options_wrong("no command", "");
+    return WISH_NONE;
+  }
+  if (help_wanted(argc, argv)) {
+    options->command = command_to_explain(argc, argv);
+    return WISH_HELP;
+  }
+  if (strcmp(argv[1], "--version") == 0) {
+    return WISH_VERSION;
+  }
+  options->command = command_of(argv[1]);
+  if (options->command == COMMANDS) {
+    options_wrong("no such command: ", argv[1]);
+    return WISH_NONE;
+  }
+  options->traces = argv + 2;
+  if (!take_words(argc, argv, options) || !fit_together(options)) {
+    return WISH_NONE;
+  }
+  if (options->trace_count == 0) {
+    options->traces = standard_input;
+    options->trace_count = 1;
+  }
+  return WISH_COMMAND;
+}

@@ -1,0 +1,32 @@
+#include "player.h"
+
+#include "progress.h"
+
+enum { PART = 1 << 20 };
+
+bool play_input(struct played *played, struct input *input, size_t records)
+{
+  bool done;
+  play_begin(played);
+  do {
+    done = input_more(input, PART);
+    if (done) {
+      play_on(played, input->bytes, input->length, input->ended, records);
+      progress("played", played->offset, input->size);
+    }
+  } while (done && played->number == SSD1815B_TAKEN && !input->ended
+           && played->count < records);
+  progress_end();
+  play_end(played);
+  return done;
+}
+
+void tell_fewer(const struct played *played, size_t records)
+{
+  if (records != ALL_RECORDS && played->number == SSD1815B_TAKEN
+      && played->count < records) {
+    fprintf(stderr, "ssd1815b: --after %zu: the trace has %zu record%s, and all"
+            " of it is played\n", records, played->count,
+            played->count == 1 ? "" : "s");
+  }
+}
