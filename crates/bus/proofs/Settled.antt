@@ -6,6 +6,7 @@ use Prim.Native.Nat.{ℕ}
 use Rattle.codes.specs.Settled.{Settles}
 use Rattle.codes.proofs.Settled.{equation}
 use Rattle.bus.specs.Calls.{Called, called}
+use Rattle.bus.specs.Start.{Started}
 use Rattle.bus.specs.Settled.{Settled}
 use Rattle.bus.specs.declared.calls.Reply.{Reply}
 
@@ -39,6 +40,8 @@ settled = record {
   «Registers::with_column» = λ self value. equation _;
   «Registers::with_fresh» = λ self value. equation _;
   «image::ask» = λ state memory. equation _;
+  «image::ask_state» = λ state. equation _;
   «image::short» = λ state memory. equation _;
   «image::legal» = λ image. equation _;
+  «start::start» = λ state memory first second p q. ap (λ (s : Started). (s .number, s .state, s .memory)) (p ∙ sym q);
 }

@@ -9,7 +9,8 @@ use Rattle.bus.specs.Places.{column, fresh}
 use Rattle.bus.specs.Registers.{imageOf, _with_≔_, powerOn, powerState}
 use Rattle.bus.specs.Events.{command, write, written, read, resetPin}
 use Rattle.bus.specs.Chip.{dataWritten, dataRead, resetPulse}
-use Rattle.bus.specs.Image.{short, legal, asked, stored}
+use Rattle.bus.specs.Image.{short, legal, askedState, asked, stored}
+use Rattle.bus.specs.Start.{started, startOf}
 use Rattle.bus.specs.Calls.{called, replyOf, stateAfter, call}
 use Rattle.bus.specs.declared.registers.Registers.{Registers}
 use Rattle.bus.specs.declared.registers.PowerState.{PowerState}
@@ -34,5 +35,7 @@ pub record Settled : Type 0 where
   pub «Registers::with_column» : (self : Registers) (value : ℕ) → Settles (λ (r : Registers). r ≡ (self with column ≔ value))
   pub «Registers::with_fresh» : (self : Registers) (value : ℕ) → Settles (λ (r : Registers). r ≡ (self with fresh ≔ value))
   pub «image::ask» : (state memory : List ℕ) → Settles (λ (r : Asked). r ≡ asked state memory)
+  pub «image::ask_state» : (state : List ℕ) → Settles (λ (r : Asked). r ≡ askedState state)
   pub «image::short» : (state memory : List ℕ) → Settles (λ (r : Bool). r ≡ short state memory)
   pub «image::legal» : (image : List ℕ) → Settles (λ (r : Bool). r ≡ legal image)
+  pub «start::start» : (state memory : List ℕ) → Settles (λ (o : ℕ × List ℕ × List ℕ). started (o .0) (o .1) (o .2) ≡ startOf state memory)
