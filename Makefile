@@ -3,6 +3,8 @@
 # MODEL=proved  links the proved library, made by `rt staticlib host`
 # MODEL=plain   links plain C in its place (bench/plain.c)
 #
+# V=1           shows the compiler's command lines, and all that the prover says
+#
 # The library is x86-64.  On another machine (`uname -m`) all is compiled for
 # x86-64 by a cross compiler and run by an emulator; host/cross.sh sees that
 # they are there.
@@ -13,6 +15,10 @@ MODEL  ?= proved
 SEED   ?= 1
 TIMES  ?= 1
 TRACE  ?= traces/screens/weighing.trace
+PREFIX ?= /usr/local
+# make itself, for the scripts that test it (a line with MAKE runs under -n too)
+MAKING := $(MAKE)
+Q      := $(if $(filter-out 0,$(V)),,@)
 
 ifeq ($(shell uname -m),x86_64)
   NATIVE := yes
@@ -53,27 +59,43 @@ SAMPLES  := $(OUT)/samples
 PARTS    := $(OUT)/parts
 HEADER   := $(OUT)/header
 BENCH    := $(OUT)/bench/bench
+ARCHIVE  := $(OUT)/libssd1815b.a
+SHARED   := $(OUT)/libssd1815b.so
 
-.PHONY: tool show test compare calls check-tool check-traces sanitize mutants \
-        bench instructions traces spread oracle cross clean help
+.PHONY: tool show shared install uninstall test compare calls check-tool \
+        check-traces check-install check-python check-papers sanitize mutants bench \
+        instructions traces spread oracle cross clean help
 .DELETE_ON_ERROR:
 
 tool: $(TOOL)
+	@echo '$(TOOL)'
 
-# A refused trace (status 1) is shown too; what cannot be shown (2) fails.
+# A refused trace (status 1) is shown too; what cannot be shown (2) fails.  A
+# typed source (.txt) is made into a trace and told by its lines.
 show: export TRACE := $(TRACE)
+show: export SSD1815B_TOOL := $(RUN) $(TOOL)
 show: $(TOOL)
-	@$(RUN) $(TOOL) show "$$TRACE" || [ $$? -eq 1 ]
+	@case "$$TRACE" in \
+	  *.txt) traces/typed.py show "$$TRACE" ;; \
+	  *) $(RUN) $(TOOL) show "$$TRACE" ;; \
+	esac || [ $$? -eq 1 ]
 
 help:
 	@echo 'make               the tool: $(TOOL)'
-	@echo 'make show          a screen: TRACE=FILE for another trace'
-	@echo 'make test          all tests of the C side: the next four'
+	@echo 'make show          a screen: TRACE=FILE for another trace, FILE.trace or a typed FILE.txt'
+	@echo 'make shared        the library as a shared object: $(SHARED)'
+	@echo 'make install       tool, header, archive, shared object, pkg-config file and man page'
+	@echo '                   under PREFIX (now $(PREFIX)); DESTDIR is put before it'
+	@echo 'make uninstall     removes just those files'
+	@echo 'make test          all tests of the C side and of python/: the next six'
 	@echo 'make compare       the library beside the oracle; SEED=2 TIMES=10 for more'
 	@echo 'make calls         the calls that the oracle has no cases for, the header, the archive'
 	@echo 'make check-tool    the tool: what it prints, and its status'
 	@echo 'make check-traces  every trace, yours in traces/recorded too: oracle beside the tool'
-	@echo 'make sanitize      the same tests with address and undefined-behaviour checks'
+	@echo 'make check-install an installation in an empty folder, and C programs built against it'
+	@echo 'make check-python  the Python module: the samples of document 01, its errors, its README'
+	@echo 'make check-papers  the commands of the papers, as they stand, in a copy'
+	@echo 'make sanitize      the tests of the C side with address and undefined-behaviour checks'
 	@echo 'make mutants       damaged plain C, which the comparison must catch'
 	@echo 'make bench         the library beside plain C: time'
 	@echo 'make instructions  the library beside plain C: executed instructions'
@@ -81,8 +103,11 @@ help:
 	@echo 'make spread        makes the table of crates/tracelisting/proofs/Spread.antt again from the oracle'
 	@echo 'make clean         removes what was made'
 	@echo 'MODEL=plain        with any of these: plain C in place of the library'
+	@echo 'V=1                with any of these: the command lines of the compiler'
 
-test: compare calls check-tool check-traces
+# A shared object with gcc's checks cannot be loaded by Python or installed.
+test: compare calls check-tool check-traces \
+      $(if $(VARIANT),,check-install check-python)
 	@echo 'make test: all passed ($(MODEL))'
 
 compare: $(COMPARE) oracle
@@ -102,11 +127,28 @@ check-tool: $(TOOL) $(NO_PNG) $(PARTS)
 	host/test/refusals.sh $(RUN) $(TOOL)
 	host/test/pictures.sh '$(RUN) $(TOOL)' '$(RUN) $(NO_PNG)'
 	host/test/terminal.sh $(RUN) $(TOOL)
-	MAKE='$(MAKE)' host/test/makefile.sh
+	MODEL=$(MODEL) MAKE=$(MAKING) host/test/makefile.sh
 
 check-traces: $(TOOL) oracle
 	traces/check.sh $(ORACLE) $(RUN) $(TOOL)
 	traces/test.sh $(ORACLE) $(RUN) $(TOOL)
+
+check-install: $(TOOL) $(ARCHIVE) $(SHARED)
+	MAKE=$(MAKING) MODEL=$(MODEL) CC=$(CC) install/test.sh $(RUN)
+
+# Off x86-64 the machine's Python cannot load the library, so there the C is
+# plain and native.
+ifeq ($(NATIVE),yes)
+check-python: $(SHARED)
+	SSD1815B_LIBRARY=$(abspath $(SHARED)) python/test_ssd1815b.py
+else
+check-python:
+	$(MAKE) check-python MODEL=plain NATIVE=yes CROSS= RUN= CC=gcc VARIANT=-native
+endif
+
+check-papers:
+	.ci/papers
+	host/test/papers.sh
 
 # The library itself is not compiled with these checks; its steps outside what
 # it is lent are seen by the rooms of host/compare/room.h.  Off x86-64 the
@@ -152,10 +194,7 @@ clean:
 # ---- how things are built ----
 
 $(LIBRARY): crates.txt $(wildcard crates/*/src/*.rt)
-	@mkdir -p target
-	@echo 'rt staticlib host: some minutes where its six crates are not proved yet;' \
-	  'target/staticlib.log has how far it is'
-	@rt staticlib host > target/staticlib.log 2>&1 || { cat target/staticlib.log; exit 1; }
+	@GOALS='$(MAKECMDGOALS)' V='$(V)' host/prove.sh
 
 $(TOOL): $(call objects,host/tool/*.c) $(LINKED)
 $(COMPARE): $(call objects,host/compare/*.c) $(LINKED) \
@@ -171,30 +210,95 @@ $(BENCH): $(OUT)/bench/bench.o $(OUT)/bench/workloads.o $(OUT)/bench/plain.o \
           $(LINKED)
 
 $(TOOL) $(NO_PNG) $(COMPARE) $(CALLS) $(SAMPLES) $(PARTS) $(BENCH):
-	$(CC) $(CFLAGS) $^ -o $@
+	$(Q)$(CC) $(CFLAGS) $^ -o $@
 
 # The header as C++ takes it.
 $(HEADER): host/test/header.cpp host/ssd1815b.h $(LINKED) | cross
 	@mkdir -p $(@D)
-	$(CXX) -std=c++11 -g -O2 -Wall -Wextra -Wpedantic -Werror $(EXTRA) \
+	$(Q)$(CXX) -std=c++11 -g -O2 -Wall -Wextra -Wpedantic -Werror $(EXTRA) \
 	  $(INCLUDE) $< $(LINKED) -o $@
 
 $(OUT)/%.o: %.c | cross
 	@mkdir -p $(@D)
-	$(CC) $(CFLAGS) $(INCLUDE) -MMD -MP -c $< -o $@
+	$(Q)$(CC) $(CFLAGS) $(INCLUDE) -MMD -MP -c $< -o $@
 
 # The tool says which model it is linked with.
 $(OUT)/host/tool/help.o: CFLAGS += -DMODEL='"$(MODEL)"'
 
 $(OUT)/host/tool/no_png.o: host/tool/png.c | cross
 	@mkdir -p $(@D)
-	$(CC) $(CFLAGS) $(INCLUDE) -DWITHOUT_PNG -MMD -MP -c $< -o $@
+	$(Q)$(CC) $(CFLAGS) $(INCLUDE) -DWITHOUT_PNG -MMD -MP -c $< -o $@
 
 # What is measured is compiled as well as gcc can.
 $(OUT)/bench/plain.o $(OUT)/bench/plain_as_model.o: CFLAGS += -O3
 
 $(OUT)/bench/plain_as_model.o: bench/plain.c | cross
 	@mkdir -p $(@D)
-	$(CC) $(CFLAGS) $(INCLUDE) -include bench/as_model.h -MMD -MP -c $< -o $@
+	$(Q)$(CC) $(CFLAGS) $(INCLUDE) -include bench/as_model.h -MMD -MP -c $< -o $@
+
+# ---- the library as others link it ----
+
+VERSION := $(shell sed -n 's/^.define SSD1815B_VERSION  *"\(.*\)".*/\1/p' host/ssd1815b.h)
+SONAME  := libssd1815b.so.$(firstword $(subst ., ,$(VERSION)))
+
+ifeq ($(MODEL),proved)
+  WHOLE   := -Wl,--whole-archive $(LIBRARY) -Wl,--no-whole-archive
+  MEMBERS := $(LIBRARY)
+else
+  WHOLE   := $(OUT)/bench/plain_shared.o
+  MEMBERS := $(WHOLE)
+endif
+
+shared: $(SHARED)
+	@echo '$(SHARED)'
+
+# Just the calls of the header are exported (install/exports.map).
+$(SHARED): $(MEMBERS) install/exports.map host/ssd1815b.h
+	@mkdir -p $(@D)
+	$(Q)$(CC) -shared -Wl,-soname,$(SONAME) -Wl,-z,defs -Wl,-z,text \
+	  -Wl,--version-script=install/exports.map $(WHOLE) -o $@
+
+$(OUT)/bench/plain_shared.o: CFLAGS += -O3 -fPIC
+$(OUT)/bench/plain_shared.o: bench/plain.c | cross
+	@mkdir -p $(@D)
+	$(Q)$(CC) $(CFLAGS) $(INCLUDE) -include bench/as_model.h -MMD -MP -c $< -o $@
+
+ifeq ($(MODEL),proved)
+$(ARCHIVE): $(LIBRARY)
+	@mkdir -p $(@D)
+	$(Q)cp $< $@
+else
+$(ARCHIVE): $(LINKED)
+	$(Q)rm -f $@ && $(CROSS)ar rcs $@ $<
+endif
+
+$(OUT)/ssd1815b.pc: install/ssd1815b.pc.in host/ssd1815b.h FORCE
+	@mkdir -p $(@D)
+	$(Q)sed -e 's|@PREFIX@|$(abspath $(PREFIX))|' -e 's|@VERSION@|$(VERSION)|' \
+	  -e 's|@MODEL@|$(MODEL)|' $< > $@
+
+.PHONY: FORCE
+FORCE:
+
+# ---- installing ----
+
+ROOT      := $(DESTDIR)$(abspath $(PREFIX))
+INSTALLED := bin/ssd1815b include/ssd1815b.h lib/libssd1815b.a lib/$(SONAME) \
+             lib/libssd1815b.so lib/pkgconfig/ssd1815b.pc \
+             share/man/man1/ssd1815b.1
+
+install: $(TOOL) $(ARCHIVE) $(SHARED) $(OUT)/ssd1815b.pc
+	$(Q)mkdir -p $(addprefix $(ROOT)/,$(sort $(dir $(INSTALLED))))
+	$(Q)install -m 755 $(TOOL) $(ROOT)/bin/ssd1815b
+	$(Q)install -m 644 host/ssd1815b.h $(ROOT)/include/ssd1815b.h
+	$(Q)install -m 644 $(ARCHIVE) $(ROOT)/lib/libssd1815b.a
+	$(Q)install -m 755 $(SHARED) $(ROOT)/lib/$(SONAME)
+	$(Q)ln -sf $(SONAME) $(ROOT)/lib/libssd1815b.so
+	$(Q)install -m 644 $(OUT)/ssd1815b.pc $(ROOT)/lib/pkgconfig/ssd1815b.pc
+	$(Q)install -m 644 install/ssd1815b.1 $(ROOT)/share/man/man1/ssd1815b.1
+	@printf '%s\n' $(addprefix $(ROOT)/,$(INSTALLED))
+
+uninstall:
+	$(Q)rm -f $(addprefix $(ROOT)/,$(INSTALLED))
 
 -include $(wildcard $(OUT)/*/*.d $(OUT)/*/*/*.d)

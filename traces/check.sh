@@ -2,9 +2,9 @@
 # Runs every trace under this folder through the oracle and through the tool,
 # and compares: the listing, the number, offset and count of the run, and the
 # registers that it leaves.  A NAME.list beside a NAME.trace is compared too;
-# only a trace in recorded/ that is taken may be without one.  In refusals/ a
-# trace is refused with the number that its name begins with; in the other
-# folders all is taken, compared reads too.  Traces, listings and the stored run
+# only a trace in recorded/ that is taken may be without one.  A trace in
+# refusals/, and any other whose name begins with a number and -, is refused with
+# that number; all others are taken whole, compared reads too.  Traces, listings and the stored run
 # of crates/listpack must be what make.py and pack.py make.
 #
 #   check.sh ORACLE TOOL...      TOOL... is the command that runs the tool
@@ -49,7 +49,7 @@ while IFS= read -r trace; do
     */recorded/*)
       [[ $listed = frame* || -e ${trace%.trace}.list ]] ||
         differ "$trace" "the model does not take this recording (the tool's show says where)" '' "${listed%%$'\n'*}" ;;
-    */refusals/*)
+    */refusals/* | */[1-9]-*.trace | */10-*.trace)
       [[ $listed = "refused ${name%%-*} at "* ]] || differ "$trace" 'not refused by its number' '' "$listed" ;;
     *)
       [[ $listed = frame* ]] || differ "$trace" 'not taken' '' "$listed" ;;

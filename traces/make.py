@@ -5,9 +5,15 @@
   make.py FILE.txt...   FILE.trace beside each of these
   make.py --check       writes nothing, and fails where a trace under this
                         folder is not what its source says
+  --force               with the first two: overwrites any FILE.trace
 
 A source that has a fault is answered by a line FILE:LINE: what is wrong, and
 then no trace is written.
+
+Nothing is written to recorded/, not even by --force.  Elsewhere a FILE.trace
+that was not made here from FILE.txt is not overwritten without --force, and
+then no trace is written either.  What was made is known by its digest: the
+file made.sha256 beside the traces has them (`sha256sum -c` reads it).
 
 A line of a .txt is one thing of the trace; # begins a remark.  Bytes are
 hexadecimal.
@@ -21,12 +27,17 @@ hexadecimal.
   reset             a record of the reset pin
   record 0005 00    a record of this kind (two bytes, the higher first)
   bytes 01 00       bytes as they are, where a record is to be broken
+
+traces/typed.py shows what a source leaves, and at which line it is refused.
 """
 
+import hashlib
 import os
 import pathlib
 import re
 import sys
+import tempfile
+import typing
 
 FONT = {
     " ": "00 00 00 00 00", "-": "08 08 08 08 08", ".": "00 60 60 00 00",
@@ -119,38 +130,147 @@ def part(line):
     raise ValueError(f"a line begins with command, write, text, read, reset, record or bytes, not {word!r}")
 
 
-def line_part(raw):
-    """The bytes of one line as it stands in the file, none for a remark."""
+class Line(typing.NamedTuple):
+    """A line of a source: where it stands, what it says, the bytes made of it."""
+    place: int
+    text: str
+    made: bytes
+
+
+def text_of(raw):
+    """A line as it stands in the file, without its remark."""
     try:
-        line = raw.decode("utf-8-sig").partition("#")[0].strip()
+        return raw.decode("utf-8-sig").partition("#")[0].strip()
     except UnicodeDecodeError as fault:
         raise ValueError(f"not UTF-8: byte {fault.object[fault.start]:02X}") from fault
-    return part(line) if line else b""
 
 
-def trace(source):
-    """The bytes of a source, and a line for each of its faults."""
-    made, faults = b"", []
+def lines_of(source):
+    """The lines of a source that are no mere remarks, and a line for each fault."""
+    lines, faults = [], []
     for place, raw in enumerate(source.read_bytes().splitlines(), 1):
         try:
-            made += line_part(raw)
+            text = text_of(raw)
+            if text:
+                lines.append(Line(place, text, part(text)))
         except ValueError as fault:
             faults.append(f"{source}:{place}: {fault}")
-    return made, faults
+    return lines, faults
 
 
-def sources_of(arguments):
-    """The sources that are named, or else all under this folder."""
-    for name in arguments:
-        if name == "--check":
-            sys.exit("make.py: --check stands alone")
-        if name.startswith("-"):
-            sys.exit(f"make.py: no such option: {name}\nmake.py --help says more")
+def trace(lines):
+    """The bytes of a source's lines."""
+    return b"".join(line.made for line in lines)
+
+
+# ---- what may be written ----
+
+HERE = pathlib.Path(__file__).resolve().parent
+RECORD = "made.sha256"
+RECORD_HEAD = "# The traces that make.py made from the .txt of their name, and may make again.\n"
+
+
+def among_recordings(target):
+    """Whether a file lies in recorded/, which nothing of ours writes to."""
+    recordings = (HERE / "recorded").resolve()
+    folder = target.parent.resolve()
+    return folder == recordings or recordings in folder.parents
+
+
+def digest(content):
+    """What a trace is known by."""
+    return hashlib.sha256(content).hexdigest()
+
+
+def record_of(folder):
+    """The digests of the traces made in a folder, by their names."""
+    path = folder / RECORD
+    if not path.exists():
+        return {}
+    rows = [row.split("  ", 1) for row in path.read_text().splitlines() if not row.startswith("#")]
+    return {row[1]: row[0] for row in rows if len(row) == 2}
+
+
+def kept_from(target, made):
+    """Why a trace is not to be overwritten; nothing where it may be."""
+    if not os.path.lexists(target):
+        return ""
+    present = target.read_bytes()
+    if present == made or record_of(target.parent).get(target.name) == digest(present):
+        return ""
+    return (f"{target} is not overwritten: it was not made here from {target.with_suffix('.txt').name}"
+            " (--force overwrites it)")
+
+
+def write_whole(target, content):
+    """Writes a file whole or not at all."""
+    handle, name = tempfile.mkstemp(dir=target.parent, prefix=f".{target.name}.")
+    try:
+        with os.fdopen(handle, "wb") as file:
+            file.write(content)
+        umask = os.umask(0)
+        os.umask(umask)
+        os.chmod(name, 0o666 & ~umask)
+        os.replace(name, target)
+    except BaseException:
+        os.unlink(name)
+        raise
+
+
+def note_made(target, made):
+    """Notes in the folder's record that a trace was made here."""
+    record = record_of(target.parent) | {target.name: digest(made)}
+    rows = (f"{record[name]}  {name}\n" for name in sorted(record) if (target.parent / name).exists())
+    write_whole(target.parent / RECORD, (RECORD_HEAD + "".join(rows)).encode())
+
+
+def write_traces(traces, force):
+    """Writes the traces that are not so yet; where forced, all are noted as made here."""
+    for target, made in traces.items():
+        if force or not target.exists() or target.read_bytes() != made:
+            write_whole(target, made)
+            note_made(target, made)
+
+
+# ---- the command line ----
+
+OPTIONS = ("--check", "--force")
+
+
+def sources_of(names):
+    """The sources that are named, or else all under this folder but recorded/."""
+    for name in names:
         if not name.endswith(".txt"):
             sys.exit(f"make.py: {name}: a source is named FILE.txt")
-    if arguments:
-        return [pathlib.Path(name) for name in arguments]
-    return sorted(pathlib.Path(os.path.relpath(source)) for source in pathlib.Path(__file__).parent.glob("*/*.txt"))
+        if among_recordings(pathlib.Path(name)):
+            sys.exit(f"make.py: {name}: nothing is written to recorded/; type a trace in another folder")
+    if names:
+        return [pathlib.Path(name) for name in names]
+    found = (pathlib.Path(os.path.relpath(source)) for source in HERE.glob("*/*.txt"))
+    return sorted(source for source in found if not among_recordings(source))
+
+
+def options_of(arguments):
+    """The options and the names of a command line."""
+    options = {word for word in arguments if word.startswith("-")}
+    for option in options:
+        if option not in OPTIONS:
+            sys.exit(f"make.py: no such option: {option}\nmake.py --help says more")
+    if "--check" in options and len(arguments) > 1:
+        sys.exit("make.py: --check stands alone")
+    return options, [word for word in arguments if not word.startswith("-")]
+
+
+def traces_of(sources):
+    """What the trace of each source must be; ends where a source has a fault."""
+    traces, faults = {}, []
+    for source in sources:
+        lines, found = lines_of(source)
+        traces[source.with_suffix(".trace")] = trace(lines)
+        faults += found
+    if faults:
+        sys.exit("\n".join(faults))
+    return traces
 
 
 def differing(traces):
@@ -167,22 +287,19 @@ def main(arguments):
     if "--help" in arguments or "-h" in arguments:
         print(__doc__, end="")
         return 0
-    checked = arguments == ["--check"]
-    sources = sources_of([] if checked else arguments)
-    traces, faults = {}, []
-    for source in sources:
-        traces[source.with_suffix(".trace")], found = trace(source)
-        faults += found
-    if faults:
-        sys.exit("\n".join(faults))
+    options, names = options_of(arguments)
+    traces = traces_of(sources_of(names))
     wrong = 0
-    if checked:
+    if "--check" in options:
         wrong = differing(traces)
     else:
-        for target, made in traces.items():
-            target.write_bytes(made)
-    print(f"traces: {len(sources)} sources, {wrong} wrong")
-    return 0 if sources and wrong == 0 else 1
+        force = "--force" in options
+        kept = [] if force else [words for words in map(kept_from, traces, traces.values()) if words]
+        if kept:
+            sys.exit("\n".join(kept))
+        write_traces(traces, force)
+    print(f"traces: {len(traces)} sources, {wrong} wrong")
+    return 0 if traces and wrong == 0 else 1
 
 
 if __name__ == "__main__":

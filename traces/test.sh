@@ -1,6 +1,7 @@
 #!/usr/bin/env bash
-# Tests of make.py, pack.py and check.sh: what they say of sources, listings and
-# recordings that are not as they should be.  All is done in a temporary copy.
+# Tests of make.py, typed.py, list.sh, pack.py and check.sh: what they say of
+# sources, listings and recordings that are not as they should be, and that they
+# overwrite nothing that is not theirs.  All is done in a temporary copy.
 #
 #   test.sh ORACLE TOOL...      TOOL... is the command that runs the tool
 set -euo pipefail
@@ -19,7 +20,7 @@ tool=("${@:2}")
 # A folder of traces with one trace in it, and its stored run.
 copy=$here/copy
 mkdir -p "$copy/traces/rules" "$copy/traces/recorded" "$copy/crates/listpack"
-cp "$traces"/{check.sh,make.py,pack.py} "$copy/traces"
+cp "$traces"/{check.sh,list.sh,make.py,pack.py,typed.py} "$copy/traces"
 cp "$traces"/rules/bits.* "$copy/traces/rules"
 "$copy/traces/pack.py"
 check_traces() { ran "$copy/traces/check.sh" "$oracle" "${tool[@]}"; }
@@ -54,6 +55,74 @@ check_traces
 check 'recording: too long, fails' status_is 1
 check 'recording: too long, said' err_has 'input too long'
 rm "$recording.trace"
+
+# ---- names that say a refusal ----
+
+bytes 01 00 01 00 B9 > "$copy/traces/rules/4-named.trace"
+"$copy/traces/list.sh" "$oracle" > /dev/null
+"$copy/traces/pack.py"
+check_traces
+check 'a name with a number: refused with it' status_is 0
+mv "$copy/traces/rules/4-named.trace" "$copy/traces/rules/3-named.trace"
+mv "$copy/traces/rules/4-named.list" "$copy/traces/rules/3-named.list"
+"$copy/traces/pack.py"
+check_traces
+check 'a name with a number: refused with another, fails' status_is 1
+check 'a name with a number: said' err_has 'rules/3-named.trace: not refused by its number'
+rm "$copy/traces/rules"/3-named.*
+"$copy/traces/pack.py"
+
+# ---- recordings are never written to ----
+
+# A recording with notes beside it, one of them a source, and what the glass showed.
+bytes 01 00 01 00 AF > "$recording.trace"
+echo '# site 7, on a Tuesday' > "$recording.txt"
+printf 'frame 132 65\nend\n' > "$recording.list"
+echo 'command AE' > "$copy/traces/recorded/other.txt"
+recordings() { (cd "$copy/traces/recorded" && find . -type f | sort | xargs sha256sum); }
+before=$(recordings)
+# untouched WHAT COMMAND...: recorded/ is as it was after it.
+untouched() {
+  ran "${@:2}"
+  check "recorded/ untouched: $1" [ "$(recordings)" = "$before" ]
+}
+untouched 'make.py' "$copy/traces/make.py"
+check 'make.py: notes beside a recording are no fault' status_is 0
+check 'make.py: sources in recorded/ are not counted' out_is 'traces: 1 sources, 0 wrong'
+untouched 'make.py --force' "$copy/traces/make.py" --force
+untouched 'make.py --check' "$copy/traces/make.py" --check
+check 'make.py --check: notes beside a recording are no fault' status_is 0
+for name in mine other; do
+  for force in '' --force; do
+    # shellcheck disable=SC2086  # no word where it is empty
+    untouched "make.py $force recorded/$name.txt" "$copy/traces/make.py" $force "$copy/traces/recorded/$name.txt"
+    check "make.py $force recorded/$name.txt: status 1" status_is 1
+    check "make.py $force recorded/$name.txt: said" \
+      err_is "make.py: $copy/traces/recorded/$name.txt: nothing is written to recorded/; type a trace in another folder"
+  done
+done
+ln -s recorded "$copy/traces/link"
+untouched 'make.py by a link' "$copy/traces/make.py" --force
+untouched 'make.py by a link, named' "$copy/traces/make.py" --force "$copy/traces/link/mine.txt"
+rm "$copy/traces/link"
+untouched 'list.sh' "$copy/traces/list.sh" "$oracle"
+check 'list.sh: status 0' status_is 0
+check 'list.sh: nothing is written that is so already' out_is 'traces: 1 listings'
+untouched 'pack.py' "$copy/traces/pack.py"
+untouched 'check.sh' "$copy/traces/check.sh" "$oracle" "${tool[@]}"
+untouched 'typed.py' env SSD1815B_TOOL="${tool[*]}" "$copy/traces/typed.py" "$copy/traces/recorded/other.txt"
+rm "$copy/traces/recorded"/*
+
+# ---- listings ----
+
+cp "$copy/traces/rules/bits.list" "$here/bits.list"
+echo damaged > "$copy/traces/rules/bits.list"
+ran "$copy/traces/list.sh" "$oracle"
+check 'list.sh: the listing again' cmp -s "$copy/traces/rules/bits.list" "$here/bits.list"
+check 'list.sh: which was written' line_is 1 "$copy/traces/rules/bits.list: written"
+ran "$copy/traces/list.sh" false
+check 'list.sh: an oracle that fails, fails' [ "$status" -ne 0 ]
+check 'list.sh: an oracle that fails leaves the listing' cmp -s "$copy/traces/rules/bits.list" "$here/bits.list"
 
 # ---- the stored run ----
 
@@ -97,6 +166,107 @@ rm -f "$made"
 ran "$copy/traces/make.py" "$source" "$copy/other.txt"
 check 'make.py: several' [ -e "$made" ]
 check 'make.py: the other of them' [ -e "$copy/other.trace" ]
+
+# ---- sources: what is not overwritten ----
+
+# A recording beside notes, in a folder of one's own.
+own=$copy/own
+mkdir "$own"
+bytes 01 00 01 00 A5 > "$own/site7.trace"
+cp "$own/site7.trace" "$here/site7.trace"
+echo '# notes alone' > "$own/site7.txt"
+echo 'command AF' > "$own/new.txt"
+ran "$copy/traces/make.py" "$own/new.txt" "$own/site7.txt"
+check 'make.py: a trace that it did not make: status 1' status_is 1
+check 'make.py: a trace that it did not make, said' \
+  err_is "$own/site7.trace is not overwritten: it was not made here from site7.txt (--force overwrites it)"
+check 'make.py: a trace that it did not make stays' cmp -s "$own/site7.trace" "$here/site7.trace"
+check 'make.py: and then nothing is written' [ ! -e "$own/new.trace" ]
+
+# What it made it may make again, as often as the source is edited.
+ran "$copy/traces/make.py" "$own/new.txt"
+check 'make.py: a new trace' status_is 0
+for code in A5 A4 A4; do
+  echo "command $code" > "$own/new.txt"
+  ran "$copy/traces/make.py" "$own/new.txt"
+  check "make.py: its own trace again ($code)" status_is 0
+  check "make.py: its own trace, as edited ($code)" cmp -s "$own/new.trace" <(bytes 01 00 01 00 "$code")
+done
+check 'make.py: its record is one that sha256sum reads' sh -c "cd '$own' && sha256sum --check --status made.sha256"
+
+# A recording put in the place of what it made is not overwritten.
+cp "$here/site7.trace" "$own/new.trace"
+echo 'command A6' > "$own/new.txt"
+ran "$copy/traces/make.py" "$own/new.txt"
+check 'make.py: a recording put in its place: status 1' status_is 1
+check 'make.py: a recording put in its place stays' cmp -s "$own/new.trace" "$here/site7.trace"
+
+# Nor is one that was typed after it and was equal for a time.
+echo 'command A5' > "$own/site7.txt"
+ran "$copy/traces/make.py" "$own/site7.txt"
+check 'make.py: a recording typed alike: status 0' status_is 0
+echo 'command A4' > "$own/site7.txt"
+ran "$copy/traces/make.py" "$own/site7.txt"
+check 'make.py: a recording typed alike, then edited: status 1' status_is 1
+check 'make.py: a recording typed alike stays' cmp -s "$own/site7.trace" "$here/site7.trace"
+
+ran "$copy/traces/make.py" --force "$own/site7.txt"
+check 'make.py --force: status 0' status_is 0
+check 'make.py --force: overwritten' cmp -s "$own/site7.trace" <(bytes 01 00 01 00 A4)
+echo 'command A6' > "$own/site7.txt"
+ran "$copy/traces/make.py" "$own/site7.txt"
+check 'make.py --force: from then on it is its own' cmp -s "$own/site7.trace" <(bytes 01 00 01 00 A6)
+
+# ---- sources: told by their lines ----
+
+# typed ARGUMENTS...: the source through the tool.
+typed() { ran env SSD1815B_TOOL="${tool[*]}" "$copy/traces/typed.py" "$@"; }
+# line_of PATTERN: the number of the first line of standard output that begins so.
+line_of() { grep -n -m 1 -- "^$1" "$here/out" | cut -d : -f 1; }
+
+# Remarks and blank lines count as lines; the second byte of line 7 is refused.
+printf '# a\ncommand AE\n\nwrite 01 02 # two\ncommand AF\n# b\n  command D3 40  # too much\nreset\n' > "$own/mine.txt"
+typed "$own/mine.txt"
+check 'typed.py: refused, status 1' status_is 1
+check 'typed.py: the line' out_has "$own/mine.txt:7: command D3 40"
+check "typed.py: the tool's words follow" [ "$(line_of 'refused 5 at 21 (0x15): ')" -eq $(($(line_of "$own/mine.txt:7:") + 1)) ]
+check 'typed.py: the screen is shown' [ "$(line_of "$own/mine.txt")" -gt 30 ]
+check 'typed.py: nothing is written' [ ! -e "$own/mine.trace" ]
+typed list "$own/mine.txt"
+check 'typed.py list: status 1' status_is 1
+check 'typed.py list: the listing as it is' out_is "$(printf 'refused 5 at 21\nframe 132 65\n0 0-0\n1 1-1\nend')"
+check 'typed.py list: the line, on standard error' [ "$(head -n 1 "$here/err")" = "$own/mine.txt:7: command D3 40" ]
+typed picture --scale 1 "$own/mine.txt"
+check 'typed.py picture: its options' [ "$(head -n 1 "$here/out")" = P4 ]
+check 'typed.py picture: the line, on standard error' [ "$(head -n 1 "$here/err")" = "$own/mine.txt:7: command D3 40" ]
+
+# told_at LINE LINES...: a source of these lines is refused at that one.
+told_at() {
+  printf '%b\n' "${@:2}" > "$own/mine.txt"
+  typed "$own/mine.txt"
+  check "typed.py: line $1 (${*:2})" out_has "$own/mine.txt:$1: ${!#}"
+}
+told_at 1 'command B9'
+told_at 2 'write 00 x 132' 'command 30'
+told_at 3 'reset' '' 'bytes 01 00'
+told_at 3 '# no trace' 'text A' 'record 0005 00'
+told_at 2 'command 81' 'write 00'
+check 'typed.py: the line of the awaited code' out_has "  $own/mine.txt:1: command 81"
+told_at 3 '# column' 'command 0F 18' 'write AA'
+check 'typed.py: the line of the column' out_has "  $own/mine.txt:2: command 0F 18"
+typed "$copy/traces/rules/bits.txt"
+check 'typed.py: taken, status 0' status_is 0
+check 'typed.py: taken, no line' [ -z "$(line_of '.*bits.txt')" ]
+echo 'command A' > "$own/mine.txt"
+typed "$own/mine.txt"
+check 'typed.py: a fault: status 2' status_is 2
+check 'typed.py: a fault, as make.py says it' err_is "$own/mine.txt:1: 'A' is not 2 hexadecimal digits"
+typed show "$own/site7.trace"
+check 'typed.py: a trace is no source' err_is "typed.py: $own/site7.trace: a source is named FILE.txt, and stands last"
+ran env -u SSD1815B_TOOL PATH=/usr/bin:/bin "$copy/traces/typed.py" "$own/site7.txt"
+check 'typed.py: no tool: status 2' status_is 2
+# shellcheck disable=SC2016
+check 'typed.py: no tool, said' err_is 'typed.py: no tool: `make` builds it, or SSD1815B_TOOL says where it is'
 
 # ---- sources: what is refused ----
 

@@ -35,7 +35,7 @@ int main(void)
   return frame[0] == 1 && frame[SSD1815B_COLUMNS] == 1 ? 0 : 1;
 }
 END
-line=$(sed -n 's/^    gcc \(.*\)$/\1/p' "$readme")
+line=$(sed -n 's/^    gcc \(.*libhost\.a\)$/\1/p' "$readme")
 check 'host/README.md has the line' [ -n "$line" ]
 read -ra words <<< "${line/mine.c/$here/mine.c}"
 ran "$CC" "${words[@]}" -o "$here/mine"

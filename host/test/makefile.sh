@@ -1,13 +1,14 @@
 #!/usr/bin/env bash
-# Tests of the Makefile: how `make show` ends, what `make help` names, and what
-# is said before the library is made.
+# Tests of the Makefile: how `make show` ends, what `make help` names, what is
+# printed as things are made, and what is said where there is no rt.
 #
-#   MAKE=MAKE makefile.sh      in the folder of the Makefile, with the tool made
+#   MAKE=MAKE MODEL=MODEL makefile.sh      in the folder of the Makefile, with
+#                                          the tool made
 set -euo pipefail
 
 # shellcheck source=host/test/checks.sh
 . "$(dirname "$0")/checks.sh"
-make=("$MAKE" --no-print-directory)
+make=("$MAKE" --no-print-directory MODEL="$MODEL")
 
 # ---- show ----
 
@@ -27,31 +28,92 @@ ran "${make[@]}" show TRACE="$here/none"
 check 'show: no trace is an error of make' status_is 2
 check 'show: no trace, said' err_has "cannot open $here/none: No such file"
 
+printf '# typed\ncommand AF\ncommand D3 40\n' > "$here/typed.txt"
+ran "${make[@]}" show TRACE="$here/typed.txt"
+check 'show: a typed trace that is refused is no error of make' status_is 0
+check 'show: a typed trace is told by its line' out_has "$here/typed.txt:3: command D3 40"
+check 'show: no trace is left of it' [ ! -e "$here/typed.trace" ]
+echo 'command A' > "$here/typed.txt"
+ran "${make[@]}" show TRACE="$here/typed.txt"
+check 'show: a fault of a source is an error of make' status_is 2
+check 'show: a fault of a source, said' err_has "$here/typed.txt:1: 'A' is not 2 hexadecimal digits"
+
 # ---- help ----
 
-targets=$("${make[@]}" -pn help | sed -n 's/^\.PHONY: //p')
+targets=$("${make[@]}" -pn help | sed -n 's/^\.PHONY: //p' | tr ' ' '\n' | sort -u)
 ran "${make[@]}" help
 check 'help: there are targets' [ -n "$targets" ]
 for target in $targets; do
   case $target in
-    tool | oracle | cross | help) ;;  # `make` itself; steps of others; itself
-    *) check "help: names $target" grep -q "^make $target  " "$here/out" ;;
+    tool | oracle | cross | FORCE | help) ;;  # `make` itself; steps of others; itself
+    *) check "help: names $target" grep -q "^make $target " "$here/out" ;;
   esac
 done
 
-# ---- the library ----
+# ---- what is printed as things are made ----
 
-# A copy in which `rt` keeps what was said before it ran.
-mkdir "$here/copy" "$here/bin"
-cp Makefile "$here/copy"
-: > "$here/copy/crates.txt"
+# A copy with a library of its own, in which `rt` prints what the real one does,
+# and keeps what was said before it ran.
+copy=$here/copy
+mkdir -p "$copy/host/tool" "$copy/bench" "$here/bin"
+cp Makefile "$copy"
+cp host/prove.sh host/ssd1815b.h host/cross.sh "$copy/host"
+cp bench/*.[ch] "$copy/bench"
+printf 'int main(void)\n{\n  return 0;\n}\n' > "$copy/host/tool/main.c"
+printf 'codes:\nbus: codes\nhost: bus codes\n' > "$copy/crates.txt"
 cat > "$here/bin/rt" <<'END'
 #!/bin/sh
-cp ../out said && mkdir target/staticlib && : > target/staticlib/libhost.a
+[ "$*" = 'staticlib host' ] || exit 2
+cp ../out said
+echo 'fn codes::command_of: proved'
+echo 'logic=proved functions=5'
+echo 'rt: codes proved (6 s)' >&2
+echo 'rt: bus proved (unchanged since it was last proved)' >&2
+[ ! -e broken ] || { echo 'rt: host NOT PROVED (exit 1, 2 s)' >&2; exit 1; }
+mkdir -p target/staticlib && ar rcs target/staticlib/libhost.a
+echo 'rt: target/staticlib/libhost.a has the functions of host that are marked #[no_mangle] pub extern "C"'
 END
 chmod +x "$here/bin/rt"
-ran env PATH="$here/bin:$PATH" "${make[@]}" -C "$here/copy" target/staticlib/libhost.a
-check 'library: made' status_is 0
-check 'library: that it takes minutes is said before' grep -q minutes "$here/copy/said"
+# As by itself, whatever this make was called with.
+apart=(env -u MAKEFLAGS -u VARIANT -u EXTRA -u V)
+building=("${apart[@]}" PATH="$here/bin:$PATH" "$MAKE" --no-print-directory -C "$copy" MODEL=proved)
+ran "${building[@]}"
+check 'building: status 0' status_is 0
+check 'building: that it takes minutes is said before' grep -q "^proving the library's 3 crates: some minutes" "$copy/said"
+sed -i '1d; s/host ([0-9]* s)/host (N s)/' "$here/out"
+check 'building: a line for each crate, and the tool' \
+  out_is $'proved codes (6 s)\nproved bus (unchanged since it was last proved)\nproved host (N s)\ntarget/c/proved/ssd1815b'
+check 'building: nothing on standard error' nothing_on err
+ran "${building[@]}"
+check 'building again: the tool alone' out_is target/c/proved/ssd1815b
+
+rm -r "$copy/target"
+ran "${building[@]}" V=1
+check 'building with V=1: status 0' status_is 0
+check 'building with V=1: command lines' grep -q '^[^ ]*gcc .*host/tool/main.c' "$here/out"
+check 'building with V=1: what the prover says' out_has 'fn codes::command_of: proved'
+
+rm -r "$copy/target"
+: > "$copy/broken"
+ran "${building[@]}"
+check 'building what is not proved: status 2' status_is 2
+check 'building what is not proved: all that the prover says' out_has 'rt: host NOT PROVED (exit 1, 2 s)'
+check 'building what is not proved: no tool' [ ! -e "$copy/target/c/proved/ssd1815b" ]
+
+# ---- where there is no rt ----
+
+# Just what the Makefile needs.
+mkdir "$here/without"
+for command in bash sh cat mkdir sed uname {,x86_64-linux-gnu-}{gcc,as,ld} qemu-x86_64; do
+  path=$(command -v "$command") && ln -s "$path" "$here/without/$command"
+done
+without=("${apart[@]}" PATH="$here/without" "$(command -v "$MAKE")" --no-print-directory -C "$copy")
+ran "${without[@]}" MODEL=proved show
+check 'no rt: status 2' status_is 2
+check 'no rt: said' err_has 'there is no rt on the PATH'
+check 'no rt: where it is to be had' err_has 'rt is the command of the Rattle kit'
+check 'no rt: and what goes without' err_has 'make MODEL=plain show'
+ran "${without[@]}" MODEL=plain tool
+check 'no rt: what goes without it goes' status_is 0
 
 checks_end makefile

@@ -6,6 +6,9 @@ pub mod Asking
 pub mod Kept
 pub mod Answers
 pub mod Untouched
+pub mod Replayed
+pub mod Stretches
+pub mod Alone
 pub mod Settled
 pub mod TablesAgree
 pub mod Exactly

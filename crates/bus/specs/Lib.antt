@@ -8,9 +8,15 @@ pub mod Memory
 pub mod Events
 -- the chip as a machine: registers and memory, a step for each event
 pub mod Chip
+-- a refusal number, or what was asked for
+pub mod Result
+-- what a record's payload stands for, and the chip after it
+pub mod Recorded
+-- a stretch of events over any step: how far it came
+pub mod Stretch
 -- when a lent image is legal; refusals 1 and 2
 pub mod Image
--- the state and memory that a chip starts with
+-- the starting state and memory
 pub mod Start
 -- the whole outcome of a call
 pub mod Calls
@@ -30,5 +36,7 @@ pub mod Given
 pub mod Untouched
 -- a call on lent images is the event on the chip
 pub mod CallsOnChip
+-- a stretch event by event
+pub mod Stretches
 -- one result for each statement
 pub mod Settled

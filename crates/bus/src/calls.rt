@@ -1,12 +1,15 @@
-// The event calls, lent the state image and the display memory; a command byte's is `trace::command::command` (DECISIONS 58).
+// The event calls, lent the state image and the display memory.
 ghost use mathlib.Core.Path.{_≡_};
-ghost use Rattle.bus.specs.Chip.{dataWritten, dataRead, resetPulse};
+ghost use Rattle.bus.specs.Chip.{commandByte, dataWritten, dataRead, resetPulse};
+ghost use Rattle.bus.specs.Events.{command};
 ghost use Rattle.bus.specs.Calls.{called, replyOf, stateAfter, call};
+use crate::answer::After;
 use crate::answer::Answer;
 use crate::image::Asked;
 use crate::image::ask;
 use crate::image::short;
 use crate::registers::Registers;
+use crate::stretch::commands;
 use constants::refusal::TAKEN;
 use constants::refusal::TOO_SHORT;
 
@@ -15,6 +18,33 @@ pub struct Reply {
     pub number: u8,
     pub byte: u8,
     pub dummy: bool,
+}
+
+// A command byte.
+pub fn command(state: &mut [u8], memory: &[u8], byte: u8) -> Reply
+    ensures { λ r. ⌜ called r (now (state .exit)) (now (memory .entry)) ≡ call (commandByte byte) (now (state .entry)) (now (memory .entry)) ⌝ }
+{
+    match ask(state, memory) {
+        Asked::Found(registers) => conclude(alone(registers, byte), state),
+        Asked::Refused(number) => refuse(number),
+    }
+}
+
+// What a command byte answers: a stretch of one.
+fn alone(registers: Registers, byte: u8) -> Answer
+    ensures { λ r. ⌜ r ≡ command byte registers ⌝ }
+{
+    let bytes = [byte];
+    let stretch = commands(registers, &bytes);
+    let left = stretch.registers;
+    if stretch.number == TAKEN {
+        return Answer::Taken(After {
+            registers: left,
+            byte: 0,
+            dummy: false,
+        });
+    }
+    Answer::Refused(stretch.number)
 }
 
 // A data byte written.

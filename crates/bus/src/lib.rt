@@ -6,3 +6,4 @@ pub mod data;
 pub mod image;
 pub mod registers;
 pub mod start;
+pub mod stretch;

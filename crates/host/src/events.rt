@@ -9,7 +9,7 @@ ghost use Rattle.host.specs.Events.{flag, heldState, heldBoth, heldRead,
 pub extern "C" fn ssd1815b_command(state: &mut [u8], memory: &[u8], byte: u8) -> u8
     ensures { λ r. ⌜ heldState r (now (state .exit)) ≡ ofState (call (commandByte byte) (now (state .entry)) (now (memory .entry))) ⌝ }
 {
-    let reply = trace::command::command(state, memory, byte);
+    let reply = bus::calls::command(state, memory, byte);
     reply.number
 }
 

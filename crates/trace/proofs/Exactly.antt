@@ -29,7 +29,7 @@ use Rattle.trace.proofs.Further.{endingFurther, further, events-further
 use Rattle.trace.proofs.Written.{split-written}
 use Rattle.trace.proofs.Kept.{Bytes, Leaves, all-drop, all-take, events-keep}
 use Rattle.trace.proofs.Held.{Held, Brings, brings, replay-held}
-use Rattle.trace.proofs.Replayed.{read-differs}
+use Rattle.bus.proofs.Replayed.{read-differs}
 use Rattle.trace.proofs.First.{first}
 use Rattle.trace.proofs.Standing.{within-trace}
 use Rattle.trace.proofs.Turn.{playBytes, turn-refused, then-bytes}

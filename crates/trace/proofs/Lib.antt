@@ -1,6 +1,6 @@
 pub mod Samples
 pub mod Turn
-pub mod Replayed
+pub mod Stretched
 pub mod Fronts
 pub mod Standing
 pub mod ByKind
@@ -22,4 +22,3 @@ pub mod RecordStops
 pub mod RunStops
 pub mod FirstAsked
 pub mod Exactly
-pub mod Alone

@@ -11,16 +11,16 @@ use Rattle.trace.specs.Play.{play}
 use Rattle.trace.specs.Kinds.{chipOf, theChip}
 use Rattle.trace.specs.Code.{playedOf}
 use Rattle.trace.specs.Run.{ran, stopOf, ranOf, runOn, run}
-use Rattle.trace.specs.declared.run.Finish.{Finish}
+use Rattle.trace.specs.declared.run.Played as code
 
 module _ (state memory trace : List ℕ) {asking : Asked} (a : asking ≡ asked state memory) where
   as-asked : {found : Asked} → asking ≡ found → runOn found state memory trace ≡ run state memory trace
   unfolding run
   as-asked l = ap (λ found. runOn found state memory trace) (sym l ∙ a)
 
-  pub plays : {r : Registers} → asking ≡ Asked.Found r → (finish : Finish) (left : List ℕ) → playedOf finish left ≡ play theChip (split trace) (chipOf r memory) → {later : List ℕ} → later ≡ stored (finish .registers) state → ran (finish .stop) later left ≡ run state memory trace
+  pub plays : {r : Registers} → asking ≡ Asked.Found r → (p : code.Played) (left : List ℕ) → playedOf p left ≡ play theChip (split trace) (chipOf r memory) → {later : List ℕ} → later ≡ stored (p .registers) state → ran (p .stop) later left ≡ run state memory trace
   unfolding runOn ranOf playedOf
-  plays l finish left p q = rw q (ap (λ p. ranOf p state) p ∙ as-asked l)
+  plays l p left e q = rw q (ap (λ p. ranOf p state) e ∙ as-asked l)
 
   pub refuses : {number : ℕ} → asking ≡ Asked.Refused number → ran (stopOf number 0 0) state memory ≡ run state memory trace
   unfolding runOn

@@ -20,7 +20,7 @@ use Rattle.trace.specs.Kinds.{chipOf, theChip}
 use Rattle.trace.specs.Run.{Ran, ran, stopOf, ranOf, runOn, run}
 use Rattle.trace.specs.Code.{playedOf}
 use Rattle.trace.specs.declared.run.Stop.{Stop}
-use Rattle.trace.specs.declared.run.Finish.{Finish}
+use Rattle.trace.specs.declared.run.Played as code
 use Rattle.trace.proofs.Joined.{taken-offset, joined}
 use Rattle.trace.proofs.Kept.{Bytes, split-of-bytes, play-keeps}
 use Rattle.trace.proofs.Held.{Held, Brings, brings, replay-held}
@@ -37,7 +37,7 @@ same-run s t state state′ memory memory′ p q =
     (ap (λ r. r .stop) e, ap (λ r. r .state) e, ap (λ r. r .memory) e)
 
 -- and so are two that satisfy the play's
-pub same-play : {stated : Played Chip} (f g : Finish) (memory memory′ : List ℕ) → playedOf f memory ≡ stated → playedOf g memory′ ≡ stated → (f ≡ g) × (memory ≡ memory′)
+pub same-play : {stated : Played Chip} (f g : code.Played) (memory memory′ : List ℕ) → playedOf f memory ≡ stated → playedOf g memory′ ≡ stated → (f ≡ g) × (memory ≡ memory′)
 unfolding playedOf
 same-play f g memory memory′ p q =
     let e = p ∙ sym q in

@@ -1,27 +1,24 @@
 -- What the code's own types stand for.
-use Prim.Native.Nat.{ℕ}
+use Prim.Native.Nat.{ℕ, _+_}
+use mathlib.Core.Bool.{cond}
 use mathlib.Core.List.{List}
+use lib.Dec.{eqb}
+use Rattle.constants.specs.Numbers.{taken}
 use Rattle.bus.specs.Chip.{Chip}
-use Rattle.trace.specs.Play.{Ending, stopped, done, Played, played}
+use Rattle.bus.specs.Stretch.{Stretched}
+use Rattle.bus.specs.declared.stretch.Stretch.{Stretch}
+use Rattle.trace.specs.Play.{stopped, done, played}
+use Rattle.trace.specs.Play as play
 use Rattle.trace.specs.Kinds.{chipOf}
-use Rattle.bus.specs.declared.registers.Registers.{Registers}
-use Rattle.trace.specs.declared.events.Ended.{Ended}
-use Rattle.trace.specs.declared.events.Progress.{Progress}
-use Rattle.trace.specs.declared.run.Finish.{Finish}
+use Rattle.trace.specs.declared.record.Ending.{Ending}
+use Rattle.trace.specs.declared.run.Played.{Played}
 
--- How a record's events end, at the chip that is left.
-unfoldable pub endedAt : Ended → Chip → Ending Chip
-endedAt Ended.Done chip = done chip
-endedAt (Ended.Stopped halt) chip = stopped (halt .number) (halt .offset) chip
-
--- The same with the memory that is left beside it.
-abbrev pub endingOf : Progress → List ℕ → Ending Chip
-endingOf progress memory = endedAt (progress .ended) (chipOf (progress .registers) memory)
-
--- Stopped with a number at an offset.
-abbrev pub haltedOf : ℕ → ℕ → Registers → Progress
-haltedOf n at r = record { registers = r; ended = Ended.Stopped (record { number = n; offset = at }) }
+-- How a record ends, with the memory that is left beside it: all is done where the number is 0, and else stopped.
+unfoldable pub endingOf : Ending → List ℕ → play.Ending Chip
+endingOf e memory =
+    let chip = chipOf (e .registers) memory in
+    cond (eqb (e .number) taken) (done chip) (stopped (e .number) (e .offset) chip)
 
 -- A played trace, with the memory that is left beside it.
-unfoldable pub playedOf : Finish → List ℕ → Played Chip
-playedOf finish memory = played (finish .stop .number) (finish .stop .offset) (finish .stop .count) (chipOf (finish .registers) memory)
+unfoldable pub playedOf : Played → List ℕ → play.Played Chip
+playedOf p memory = played (p .stop .number) (p .stop .offset) (p .stop .count) (chipOf (p .registers) memory)

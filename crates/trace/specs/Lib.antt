@@ -3,6 +3,7 @@ pub mod Front
 pub mod Play
 pub mod Kinds
 pub mod Code
+pub mod Stretched
 pub mod Run
 pub mod Given
 pub mod OneByOne

@@ -3,16 +3,8 @@ use Prim.Native.Nat.{ℕ, _+_}
 use mathlib.Core.List.{List, [], _∷_}
 use Rattle.constants.specs.Numbers.{taken, headerCut}
 use Rattle.constants.specs.Sizes.{headerSize}
+pub use Rattle.bus.specs.Result.{Result, refuses, gives, onResult}
 use Rattle.trace.specs.Records.{Record, Trace, ended, cut, _then_}
-
--- Either a refusal number or what was asked for.
-pub data Result (A : Type 0) : Type 0 where
-  refuses : ℕ → Result A
-  gives : A → Result A
-
-abbrev pub onResult : {A B : Type 0} → Result A → (ℕ → B) → (A → B) → B
-onResult (refuses number) stop go = stop number
-onResult (gives a) stop go = go a
 
 -- A machine with states S and events E: the events that a record of a kind and payload stands for, and the state after an event.
 pub record Machine (S E : Type 0) : Type 0 where

@@ -1,6 +1,4 @@
-// The run of a recorded trace over the bus, and a command byte by itself, which is run as a record of one byte.
-pub mod command;
-mod events;
+// The run of a recorded trace over the bus.
 pub mod reader;
 mod record;
 pub mod records;

@@ -5,7 +5,6 @@ ghost use Rattle.trace.specs.Play.{play};
 ghost use Rattle.trace.specs.Kinds.{theChip, chipOf};
 ghost use Rattle.trace.specs.Code.{playedOf};
 ghost use Rattle.trace.specs.Run.{ran, run};
-use crate::events::Ended;
 use crate::reader::read_at;
 use crate::record::obey;
 use crate::records::Front;
@@ -23,7 +22,7 @@ pub struct Stop {
 }
 
 // A played trace: where it stopped, and the registers that it leaves.
-pub struct Finish {
+pub struct Played {
     pub stop: Stop,
     pub registers: Registers,
 }
@@ -34,10 +33,10 @@ pub fn run(state: &mut [u8], memory: &mut [u8], trace: &[u8]) -> Stop
 {
     match ask(state, memory) {
         Asked::Found(registers) => {
-            let finish = play(registers, memory, trace);
-            let left = finish.registers;
+            let played = play(registers, memory, trace);
+            let left = played.registers;
             left.store(state);
-            finish.stop
+            played.stop
         }
         Asked::Refused(number) => Stop {
             number,
@@ -48,7 +47,7 @@ pub fn run(state: &mut [u8], memory: &mut [u8], trace: &[u8]) -> Stop
 }
 
 // Plays the records of a trace from given registers and memory.
-pub fn play(mut registers: Registers, memory: &mut [u8], trace: &[u8]) -> Finish
+pub fn play(mut registers: Registers, memory: &mut [u8], trace: &[u8]) -> Played
     ensures { λ r. ⌜ playedOf r (now (memory .exit)) ≡ play theChip (split (now (trace .entry))) (chipOf registers (now (memory .entry))) ⌝ }
 {
     let mut at = 0;
@@ -58,18 +57,14 @@ pub fn play(mut registers: Registers, memory: &mut [u8], trace: &[u8]) -> Finish
             Front::Nothing => return end(TAKEN, at, count, registers),
             Front::Cut => return end(HEADER_CUT, at, count, registers),
             Front::Whole(header) => {
-                let progress = obey(header, registers, memory, trace, at);
-                let left = progress.registers;
-                let ended = progress.ended;
-                match ended {
-                    Ended::Done => {
-                        registers = left;
-                        at = at + 4 + header.length;
-                        count += 1;
-                    }
-                    Ended::Stopped(halt) => {
-                        return end(halt.number, halt.offset, count, left);
-                    }
+                let ending = obey(header, registers, memory, trace, at);
+                let left = ending.registers;
+                if ending.number == TAKEN {
+                    registers = left;
+                    at = at + 4 + header.length;
+                    count += 1;
+                } else {
+                    return end(ending.number, ending.offset, count, left);
                 }
             }
         }
@@ -77,10 +72,10 @@ pub fn play(mut registers: Registers, memory: &mut [u8], trace: &[u8]) -> Finish
 }
 
 // The end of a played trace.
-fn end(number: u8, offset: usize, count: usize, registers: Registers) -> Finish
+fn end(number: u8, offset: usize, count: usize, registers: Registers) -> Played
     ensures { λ r. ⌜ r ≡ record { stop = record { number = number; offset = offset; count = count }; registers = registers } ⌝ }
 {
-    Finish {
+    Played {
         stop: Stop {
             number,
             offset,

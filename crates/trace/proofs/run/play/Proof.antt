@@ -6,6 +6,7 @@ use mathlib.Core.Path.{_≡_, refl, sym, _∙_}
 use Prim.Native.Nat.{_+_, _≤_, _-_}
 use native.Mathlib.Omega.{arith}
 use borrow.Author.Needs.{needs}
+use borrow.Author.Tests.{ne-eqb}
 use denote.Ref.{now}
 use lib.ListN.{length, drop}
 use Rattle.constants.specs.Sizes.{headerSize}
@@ -13,7 +14,7 @@ use Rattle.trace.specs.Records.{split}
 use Rattle.trace.specs.Front.{frontOf}
 use Rattle.trace.specs.Play.{play, playFrom}
 use Rattle.trace.specs.Kinds.{theChip, chipOf}
-use Rattle.trace.specs.Code.{endedAt, playedOf}
+use Rattle.trace.specs.Code.{endingOf, playedOf}
 use Rattle.trace.proofs.Standing.{within-trace}
 use Rattle.trace.proofs.Rest.{rest, plays-nothing, plays-cut, plays-on, plays-stop}
 use Rattle.trace.specs.declared.records.Front.{Front}
@@ -78,11 +79,8 @@ enum-known-header c = search needs
 obey-requires : tie.Need-obey-requires Inv-loop μ-loop
 obey-requires c κs = sym (c .before .before .before .before .read-at .ensures) ∙ c .before .before .header .given .1
 
-enum-told-3 : tie.Need-enum-told-3 Inv-loop μ-loop
-enum-told-3 c = search needs
-
 add-at : tie.Need-add-at Inv-loop μ-loop
-add-at c = omega (arith, fits (c .before .before .before .before .before .before .before))
+add-at c = omega (arith, fits (c .before .before .before .before .before .before .before), c .before .before .before .before .before .before .before .before .before .before .before .before .before .before .good .1 .1 .0 .0)
 
 add-at-2 : tie.Need-add-at-2 Inv-loop μ-loop
 add-at-2 c = omega (arith, fits (c .before .before .before .before .before .before .before .before), c .before .before .before .before .before .before .before .before .before .before .before .before .before .before .before .good .1 .1 .0 .0)
@@ -94,7 +92,7 @@ loop-less : tie.Need-loop-less Inv-loop μ-loop
 loop-less c = omega (arith, fits (c .before .before .before .before .before .before .before .before))
 
 loop-again : tie.Need-loop-again Inv-loop μ-loop
-unfolding endedAt
+unfolding endingOf
 loop-again c =
     let d = c .before .before .before .before .before .before .before .before in
     let loop = d .before .before .before .before .loop in
@@ -102,26 +100,23 @@ loop-again c =
       omega (arith, fits d),
       omega (arith, fits d),
       obeyed .kept .1 .1 .0 ∙ loop .inv .2,
-      loop .inv .3 ∙ plays-on (now (d .before .before .before .before .before .before .before .args .trace)) (loop .at) theChip (loop .count) _ _ (standing d) _ (sym (rw (c .before .enum-told3 .given .1) at (obeyed .ensures))),
+      loop .inv .3 ∙ plays-on (now (d .before .before .before .before .before .before .before .args .trace)) (loop .at) theChip (loop .count) _ _ (standing d) _ (sym (rw (c .before .if1 .taken) at (obeyed .ensures))),
     )
-
-enum-known-ended : tie.Need-enum-known-ended Inv-loop μ-loop
-enum-known-ended c = search needs
 
 end-requires-3 : tie.Need-end-requires-3 Inv-loop μ-loop
 end-requires-3 c κs = search needs
 
 same-length-3 : tie.Need-same-length-3 Inv-loop μ-loop
-same-length-3 c = c .before .before .before .before .before .before .before .obey .kept .1 .1 .0 ∙ c .before .before .before .before .before .before .before .before .before .before .before .before .before .loop .inv .2
+same-length-3 c = c .before .before .before .before .before .before .obey .kept .1 .1 .0 ∙ c .before .before .before .before .before .before .before .before .before .before .before .before .loop .inv .2
 
 returns-3 : tie.Need-returns-3 Inv-loop μ-loop
-unfolding endedAt playedOf
+unfolding endingOf playedOf
 returns-3 c =
-    let d = c .before .before .before .before .before .before .before .before .before in
+    let d = c .before .before .before .before .before .before .before .before in
     let loop = d .before .before .before .before .loop in
-    let obeyed = c .before .before .before .before .before .before .before .obey in
+    let obeyed = c .before .before .before .before .before .before .obey in
     rw (c .end3 .ensures)
-    (sym (loop .inv .3 ∙ plays-stop (now (d .before .before .before .before .before .before .before .args .trace)) (loop .at) theChip (loop .count) _ _ (standing d) _ _ _ (sym (rw (c .before .before .ended .given .1) at (obeyed .ensures)))))
+    (sym (loop .inv .3 ∙ plays-stop (now (d .before .before .before .before .before .before .before .args .trace)) (loop .at) theChip (loop .count) _ _ (standing d) _ _ _ (sym (rw (ne-eqb _ _ (c .before .if1 .left)) at (obeyed .ensures)))))
 
 pub play-spec : {M : Type 1} → statement M
 play-spec =
@@ -141,13 +136,11 @@ play-spec =
     returns-2
     enum-known-header
     obey-requires
-    enum-told-3
     add-at
     add-at-2
     add-count
     loop-less
     loop-again
-    enum-known-ended
     end-requires-3
     same-length-3
     returns-3)

@@ -1,0 +1,28 @@
+-- The laws of stretches, over any machine that has a step.
+use Prim.Native.Nat.{ℕ, _≤_, _<_}
+use mathlib.Core.Path.{_≡_}
+use mathlib.Core.Logic.{_≢_, _↔_}
+use mathlib.Core.List.{List, _++_}
+use lib.ListN.{length}
+use Rattle.constants.specs.Numbers.{taken}
+use Rattle.bus.specs.Result.{Result, refuses}
+use Rattle.bus.specs.Recorded.{replay}
+use Rattle.bus.specs.Stretch.{after, stretch}
+
+-- A step that refuses with no 0, which is the number of what is taken.
+abbrev pub NeverZero : {S E : Type 0} → (E → S → Result S) → Type 0
+NeverZero {S} {E} step = (event : E) (s : S) (number : ℕ) → step event s ≡ refuses number → number ≢ taken
+
+pub record Stretches {S E : Type 0} (step : E → S → Result S) : Type 0 where
+  -- No more events are taken than there are.
+  pub within : (events : List E) (s : S) → stretch step events s .taken ≤ length events
+  -- Where all of `a` are taken, `a ++ b` is `a` and then `b` from what it left.
+  pub goes-on : (a b : List E) (s : S) → stretch step a s .taken ≡ length a → stretch step (a ++ b) s ≡ after (length a) (stretch step b (stretch step a s .state))
+  -- Where one of `a` is refused, `a ++ b` is `a`.
+  pub stops : (a b : List E) (s : S) → stretch step a s .taken < length a → stretch step (a ++ b) s ≡ stretch step a s
+  -- The number is 0 exactly where all are taken.
+  pub all-taken : NeverZero step → (events : List E) (s : S) → (stretch step events s .number ≡ taken) ↔ (stretch step events s .taken ≡ length events)
+
+-- What is recorded of the bus is refused with no 0.
+abbrev pub TheChipNeverZero : Type 0
+TheChipNeverZero = NeverZero replay

@@ -1,0 +1,132 @@
+// Stretches of events: bytes of one kind in order, up to the first that is refused. What a record of each kind does is one call here.
+ghost use mathlib.Core.Path.{_≡_};
+ghost use mathlib.Core.List.{List, [], _∷_, map};
+ghost use mathlib.Core.Bool.{_||_};
+ghost use Prim.Native.Nat.{ℕ};
+ghost use lib.Dec.{eqb};
+ghost use Rattle.bus.specs.Events.{numberOf};
+ghost use Rattle.bus.specs.Chip.{resetPulse};
+ghost use Rattle.bus.specs.Recorded.{event, command, write, readAs, chipOf, replay};
+ghost use Rattle.bus.specs.Stretch.{stretch, stretchOf};
+use crate::answer::After;
+use crate::answer::Answer;
+use crate::registers::Registers;
+use constants::refusal::READ_DIFFERS;
+use constants::refusal::TAKEN;
+
+// What a stretch comes to: the registers, how many events were taken, and the number that stopped it, 0 where all were taken.
+pub struct Stretch {
+    pub registers: Registers,
+    pub taken: usize,
+    pub number: u8,
+}
+
+// Command bytes. The library calls `Registers::command` here and nowhere else: the compiler then puts it into this loop (DECISIONS 58).
+pub fn commands(mut registers: Registers, bytes: &[u8]) -> Stretch
+    ensures { λ r. ⌜ ((memory : List ℕ) → stretchOf r memory ≡ stretch replay (map command (now (bytes .entry))) (chipOf registers memory)) ⌝ }
+{
+    let mut at = 0;
+    while at < bytes.len() {
+        let answer = registers.command(bytes[at]);
+        let Answer::Taken(after) = answer else {
+            return stopped(answer, at, registers);
+        };
+        registers = after.registers;
+        at += 1;
+    }
+    Stretch {
+        registers,
+        taken: at,
+        number: TAKEN,
+    }
+}
+
+// Data bytes written.
+pub fn writes(mut registers: Registers, memory: &mut [u8], bytes: &[u8]) -> Stretch
+    ensures { λ r. ⌜ stretchOf r (now (memory .exit)) ≡ stretch replay (map write (now (bytes .entry))) (chipOf registers (now (memory .entry))) ⌝ }
+{
+    let mut at = 0;
+    while at < bytes.len() {
+        let answer = registers.write(memory, bytes[at]);
+        let Answer::Taken(after) = answer else {
+            return stopped(answer, at, registers);
+        };
+        registers = after.registers;
+        at += 1;
+    }
+    Stretch {
+        registers,
+        taken: at,
+        number: TAKEN,
+    }
+}
+
+// Data bytes read, compared with the bytes that the firmware read.
+pub fn reads(mut registers: Registers, memory: &[u8], bytes: &[u8]) -> Stretch
+    ensures { λ r. ⌜ stretchOf r (now (memory .entry)) ≡ stretch replay (map readAs (now (bytes .entry))) (chipOf registers (now (memory .entry))) ⌝ }
+{
+    let mut at = 0;
+    while at < bytes.len() {
+        let answer = registers.read(memory);
+        let Answer::Taken(after) = answer else {
+            return stopped(answer, at, registers);
+        };
+        let left = after.registers;
+        if agrees(after, bytes[at]) {
+            registers = left;
+            at += 1;
+        } else {
+            return Stretch {
+                registers,
+                taken: at,
+                number: READ_DIFFERS,
+            };
+        }
+    }
+    Stretch {
+        registers,
+        taken: at,
+        number: TAKEN,
+    }
+}
+
+// A pulse on the reset pin, one event: the power-on state, whatever the state was.
+pub fn reset_pin(registers: Registers) -> Stretch
+    ensures { λ r. ⌜ ((memory : List ℕ) → stretchOf r memory ≡ stretch replay (event resetPulse ∷ []) (chipOf registers memory)) ⌝ }
+{
+    let registers = Registers::power_on();
+    Stretch {
+        registers,
+        taken: 1,
+        number: TAKEN,
+    }
+}
+
+// Whether a read is as the firmware read it; a dummy read is not compared.
+fn agrees(after: After, byte: u8) -> bool
+    ensures { λ r. ⌜ r ≡ (after .dummy || eqb (after .byte) byte) ⌝ }
+{
+    let read = after.byte;
+    if after.dummy {
+        return true;
+    }
+    read == byte
+}
+
+// Stopped by a refused event: its number is the answer's; `let .. else` has taken what was taken.
+fn stopped(answer: Answer, taken: usize, registers: Registers) -> Stretch
+    ensures { λ r. ⌜ r ≡ record { registers = registers; taken = taken; number = numberOf answer } ⌝ }
+{
+    match answer {
+        Answer::Taken(_) => Stretch {
+            registers,
+            taken,
+            number: TAKEN,
+        },
+        Answer::Refused(number) => Stretch {
+            registers,
+            taken,
+            number,
+        },
+    }
+}

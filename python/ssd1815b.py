@@ -1,0 +1,340 @@
+"""The SSD1815B model from Python: a thin module over its shared object.
+
+    chip = Chip()            a chip at power-on, with zero memory
+    chip.command(0xAF)       the four events: command, write, read, reset
+    chip.run(trace)          recorded bus traffic, in document 01's form
+    chip.draw()              the frame on the glass
+    listing(frame)           a frame as document 01's text
+
+Each call answers what host/ssd1815b.h says, with document 01's numbers.  A
+refusal is an answer, not an exception; an exception says that the module was
+misused (a byte that is none, a frame of another length) or that there is no
+library.
+
+The library is looked for, in this order: what SSD1815B_LIBRARY names, which is
+then the only place; libssd1815b.so beside this file; the repository's own
+(`make shared`); the system's (`make install`).
+
+No two threads are in the library at once: a call holds Python's lock.
+"""
+
+from __future__ import annotations
+
+import ctypes
+import enum
+import functools
+import os
+import pathlib
+import warnings
+from collections.abc import Iterator
+from typing import Any, NamedTuple, Union
+
+COLUMNS = 132
+ROWS = 64
+FRAME_ROWS = 65  # the panel rows and the icon line
+PAGES = 9
+ICON_PAGE = 8
+ICON_ROW = 64
+
+STATE_SIZE = 23
+MEMORY_SIZE = 1188
+FRAME_SIZE = 8580
+TEXT_SIZE = 27408
+
+Bytes = Union[bytes, bytearray, memoryview]
+
+
+class Number(enum.IntEnum):
+    """The numbers given: taken, or why not (document 01, "Numbers given")."""
+
+    TAKEN = 0
+    TOO_SHORT = 1
+    OUT_OF_RANGE = 2
+    OUTSIDE_TABLE = 3
+    NO_PAGE = 4
+    NOT_ALLOWED = 5
+    CODE_AWAITED = 6
+    COLUMN_ABOVE = 7
+    HEADER_CUT = 8
+    KIND_UNKNOWN = 9
+    READ_DIFFERS = 10
+
+
+class Register(enum.IntEnum):
+    """The place of each register in the state image: chip.state[Register.PAGE]."""
+
+    PAGE = 0
+    COLUMN = 1
+    START_LINE = 2
+    OFFSET = 3
+    MULTIPLEX = 4
+    CONTRAST = 5
+    RESISTOR_RATIO = 6
+    POWER_CONTROL = 7
+    BIAS = 8
+    QUARTER_BIAS = 9
+    BYTE_OF_A9 = 10
+    FRAME_PHASES = 11
+    COLUMN_DIRECTION = 12
+    ROW_DIRECTION = 13
+    ENTIRE_ON = 14
+    REVERSE = 15
+    DISPLAY_ON = 16
+    INDICATOR_ON = 17
+    INDICATOR_MODE = 18
+    AWAITED_CODE = 19
+    READ_MODIFY_WRITE = 20
+    SAVED_COLUMN = 21
+    FRESH = 22
+
+
+class Power(enum.IntEnum):
+    """What display off with entire on makes of the chip."""
+
+    AWAKE = 0
+    SLEEP = 1
+    STANDBY = 2
+
+
+class Kind(enum.IntEnum):
+    """The kinds of a trace's records."""
+
+    COMMANDS = 1
+    WRITTEN = 2
+    READ = 3
+    RESET_PIN = 4
+
+
+class Read(NamedTuple):
+    """A read's answer: byte and dummy are 0 and False where it is refused."""
+
+    number: Number
+    byte: int
+    dummy: bool
+
+
+class Run(NamedTuple):
+    """A run's answer: where it stopped, and how many whole records were done."""
+
+    number: Number
+    offset: int
+    records: int
+
+
+class Drawn(NamedTuple):
+    """A drawing's answer: row r, place x at 132r + x; no bytes where it is refused."""
+
+    number: Number
+    frame: bytes
+
+
+class Powered(NamedTuple):
+    """The power state's answer: awake where it is refused."""
+
+    number: Number
+    power: Power
+
+
+class Record(NamedTuple):
+    """A whole record of a trace: where it begins, its kind (any number) and payload."""
+
+    at: int
+    kind: int
+    payload: bytes
+
+
+class LibraryNotFound(OSError):
+    """There is no library, or it cannot be loaded or is too old."""
+
+
+# ---- the library ----
+
+NAME = "libssd1815b.so"
+SYSTEM_NAME = "libssd1815b.so.4"  # of this version
+BYTE = ctypes.c_uint8
+SIZE = ctypes.c_size_t
+BYTES = ctypes.POINTER(BYTE)
+CONST = ctypes.c_char_p
+_CHIP = (BYTES, SIZE, BYTES, SIZE)
+
+_CALLS = {
+    "ssd1815b_start": _CHIP,
+    "ssd1815b_command": (*_CHIP, BYTE),
+    "ssd1815b_write": (*_CHIP, BYTE),
+    "ssd1815b_read": (*_CHIP, BYTES, BYTES),
+    "ssd1815b_reset": _CHIP,
+    "ssd1815b_run": (*_CHIP, CONST, SIZE, ctypes.POINTER(SIZE), ctypes.POINTER(SIZE)),
+    "ssd1815b_draw": (*_CHIP, BYTES, SIZE),
+    "ssd1815b_list": (BYTE, SIZE, CONST, SIZE, BYTES, SIZE, ctypes.POINTER(SIZE)),
+    "ssd1815b_power_state": (BYTES, SIZE, BYTES),
+    "ssd1815b_record": (CONST, SIZE, SIZE, ctypes.POINTER(SIZE), ctypes.POINTER(SIZE)),
+}
+
+
+def library_path() -> str:
+    """The library that is used: a path, or a name that the system finds."""
+    named = os.environ.get("SSD1815B_LIBRARY")
+    if named:
+        return named
+    here = pathlib.Path(__file__).resolve().parent
+    built = here.parent / "target" / "c"
+    for path in (here / NAME, built / "proved" / NAME):
+        if path.exists():
+            return str(path)
+    if (built / "plain" / NAME).exists():
+        warnings.warn("ssd1815b: plain C, which is not proved, as the proved library is not built (`make shared`)",
+                      stacklevel=2)
+        return str(built / "plain" / NAME)
+    return SYSTEM_NAME
+
+
+@functools.lru_cache(maxsize=None)
+def _library() -> ctypes.PyDLL:
+    """The library, loaded when it is first called."""
+    path = library_path()
+    try:
+        loaded = ctypes.PyDLL(path)
+    except OSError as failure:
+        if path == SYSTEM_NAME:
+            raise LibraryNotFound(f"no {NAME}: `make shared` builds it, or SSD1815B_LIBRARY says where it is") from None
+        raise LibraryNotFound(f"{path} cannot be loaded: {failure}") from failure
+    for name, parameters in _CALLS.items():
+        call = getattr(loaded, name, None)
+        if call is None:
+            raise LibraryNotFound(f"{path} has no {name}: it is older than this module")
+        call.argtypes = parameters
+        call.restype = BYTE
+    return loaded
+
+
+def _call(name: str, *arguments: Any) -> Number:
+    """A call of the library."""
+    return Number(getattr(_library(), name)(*arguments))
+
+
+def _byte(value: int) -> int:
+    """A byte; says so where it is none."""
+    if not isinstance(value, int):
+        raise TypeError(f"a byte is a number, not {type(value).__name__}")
+    if not 0 <= value <= 0xFF:
+        raise ValueError(f"a byte is 0 to 255, not {value}")
+    return value
+
+
+def _bytes(value: Bytes, what: str, length: int | None = None) -> bytes:
+    """Bytes, of that length if one is asked for; says so where they are not."""
+    if not isinstance(value, (bytes, bytearray, memoryview)):
+        raise TypeError(f"{what}: bytes are wanted, not {type(value).__name__}")
+    taken = bytes(value)
+    if length is not None and len(taken) != length:
+        raise ValueError(f"{what} has {length} bytes, not {len(taken)}")
+    return taken
+
+
+# ---- the model ----
+
+
+class Chip:
+    """A chip: its registers and its display memory."""
+
+    def __init__(self) -> None:
+        """A chip at power-on, with zero memory."""
+        self._state = (BYTE * STATE_SIZE)()
+        self._memory = (BYTE * MEMORY_SIZE)()
+        self.start()
+
+    @property
+    def _lent(self) -> tuple[Any, int, Any, int]:
+        """State and memory as a call is lent them."""
+        return self._state, STATE_SIZE, self._memory, MEMORY_SIZE
+
+    @property
+    def state(self) -> bytes:
+        """The registers as an image of 23 bytes; any 23 bytes may be put in its place."""
+        return bytes(self._state)
+
+    @state.setter
+    def state(self, image: Bytes) -> None:
+        self._state[:] = list(_bytes(image, "a state image", STATE_SIZE))
+
+    @property
+    def memory(self) -> bytes:
+        """The display memory, 1,188 bytes: page p, column c at 132p + c; it may be replaced."""
+        return bytes(self._memory)
+
+    @memory.setter
+    def memory(self, content: Bytes) -> None:
+        self._memory[:] = list(_bytes(content, "a memory", MEMORY_SIZE))
+
+    def start(self) -> Number:
+        """Power on: the power-on image and zero memory."""
+        return _call("ssd1815b_start", *self._lent)
+
+    def command(self, byte: int) -> Number:
+        """A command byte: 0, or 2 to 5 and nothing is changed."""
+        return _call("ssd1815b_command", *self._lent, _byte(byte))
+
+    def write(self, byte: int) -> Number:
+        """A data byte written: 0, or 2, 6 or 7 and nothing is changed."""
+        return _call("ssd1815b_write", *self._lent, _byte(byte))
+
+    def read(self) -> Read:
+        """A data byte read, or the dummy read; or 2, 6 or 7 and nothing is changed."""
+        byte, dummy = BYTE(), BYTE()
+        number = _call("ssd1815b_read", *self._lent, ctypes.byref(byte), ctypes.byref(dummy))
+        return Read(number, byte.value, dummy.value == 1)
+
+    def reset(self) -> Number:
+        """A pulse on the reset pin: the power-on image; memory stays."""
+        return _call("ssd1815b_reset", *self._lent)
+
+    def run(self, trace: Bytes) -> Run:
+        """Runs a trace up to its end or its first refusal; what came before stands."""
+        content = _bytes(trace, "a trace")
+        offset, count = SIZE(), SIZE()
+        number = _call("ssd1815b_run", *self._lent, content, len(content), ctypes.byref(offset), ctypes.byref(count))
+        return Run(number, offset.value, count.value)
+
+    def draw(self) -> Drawn:
+        """The frame that the panel shows: 0 dark, 1 lit, the icon line as row 64; or 2."""
+        frame = (BYTE * FRAME_SIZE)()
+        number = _call("ssd1815b_draw", *self._lent, frame, FRAME_SIZE)
+        return Drawn(number, bytes(frame) if number == Number.TAKEN else b"")
+
+    def power_state(self) -> Powered:
+        """Awake, asleep or in standby; or 2."""
+        power = BYTE()
+        number = _call("ssd1815b_power_state", self._state, STATE_SIZE, ctypes.byref(power))
+        return Powered(number, Power(power.value))
+
+
+def listing(frame: Bytes, number: int = Number.TAKEN, offset: int = 0) -> str:
+    """A frame as text; with a run's number and offset, its line `refused` first."""
+    content = _bytes(frame, "a frame", FRAME_SIZE)
+    if offset < 0:
+        raise ValueError(f"an offset is 0 or more, not {offset}")
+    text, length = (BYTE * TEXT_SIZE)(), SIZE()
+    _call("ssd1815b_list", _byte(number), offset, content, FRAME_SIZE, text, TEXT_SIZE, ctypes.byref(length))
+    return bytes(text[:length.value]).decode("ascii")
+
+
+def records(trace: Bytes) -> Iterator[Record]:
+    """The whole records of a trace, by their lengths alone; the rest of a cut trace is left out."""
+    content = _bytes(trace, "a trace")
+    at, kind, after = 0, SIZE(), SIZE()
+    while True:
+        number = _call("ssd1815b_record", content, len(content), at, ctypes.byref(kind), ctypes.byref(after))
+        if number != Number.TAKEN or after.value == at:
+            return
+        yield Record(at, kind.value, content[at + 4:after.value])
+        at = after.value
+
+
+def record(kind: int, payload: Bytes = b"") -> bytes:
+    """The bytes of a record, to make a trace of: length, kind, payload."""
+    content = _bytes(payload, "a payload")
+    if len(content) > 0xFFFF:
+        raise ValueError(f"a payload has at most 65,535 bytes, not {len(content)}")
+    if not 0 <= kind <= 0xFFFF:
+        raise ValueError(f"a kind is 0 to 65,535, not {kind}")
+    return len(content).to_bytes(2, "little") + kind.to_bytes(2, "little") + content

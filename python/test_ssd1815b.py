@@ -1,0 +1,391 @@
+#!/usr/bin/env python3
+"""Tests of ssd1815b.py: document 01's samples, refusals, misuse, the search for the library, the README's example.
+
+What is expected is what document 01 says.  SSD1815B_LIBRARY names the library.
+"""
+
+from __future__ import annotations
+
+import contextlib
+import copy
+import io
+import os
+import pathlib
+import random
+import re
+import shutil
+import subprocess
+import sys
+import tempfile
+import unittest
+
+sys.dont_write_bytecode = True
+HERE = pathlib.Path(__file__).resolve().parent
+sys.path.insert(0, str(HERE))
+
+import ssd1815b  # noqa: E402
+from ssd1815b import Chip, Kind, Number, Power, Register  # noqa: E402
+
+
+def commanded(*codes: int) -> Chip:
+    """A chip that has taken these command bytes."""
+    chip = Chip()
+    for code in codes:
+        assert chip.command(code) == Number.TAKEN, hex(code)
+    return chip
+
+
+def row(frame: bytes, number: int) -> bytes:
+    """A row of a frame."""
+    return frame[ssd1815b.COLUMNS * number:ssd1815b.COLUMNS * (number + 1)]
+
+
+def ram_row(memory: bytes, number: int) -> bytes:
+    """A RAM row: bit b of page p is RAM row 8p + b."""
+    page, bit = divmod(number, 8)
+    return bytes(memory[132 * page + column] >> bit & 1 for column in range(132))
+
+
+class Samples(unittest.TestCase):
+    """The twelve sample events of document 01, by their numbers there."""
+
+    def test_01_data(self) -> None:
+        chip = Chip()
+        self.assertEqual(chip.write(0x03), 0)
+        self.assertEqual(chip.memory, b"\x03" + bytes(1187))
+        self.assertEqual(chip.state[Register.COLUMN], 1)
+
+    def test_02_the_last_column(self) -> None:
+        chip = commanded(0x03, 0x18)
+        self.assertEqual(chip.state[Register.COLUMN], 131)
+        self.assertEqual(chip.write(0xAA), 0)
+        self.assertEqual(chip.memory[131], 0xAA)
+        self.assertEqual((chip.state[Register.COLUMN], chip.state[Register.PAGE]), (0, 0))
+
+    def test_03_a_column_above(self) -> None:
+        chip = commanded(0x0F, 0x18)
+        self.assertEqual(chip.state[Register.COLUMN], 143)
+        self.assertEqual(chip.write(0xAA), 7)
+
+    def test_04_pages(self) -> None:
+        chip = Chip()
+        self.assertEqual(chip.command(0xB8), 0)
+        self.assertEqual(chip.command(0xB9), 4)
+
+    def test_05_icons(self) -> None:
+        chip = commanded(0xB8)
+        self.assertEqual(chip.write(0xFF), 0)
+        self.assertEqual(chip.memory[1056], 0x01)
+
+    def test_06_read_modify_write(self) -> None:
+        for around, column in (True, 5), (False, 7):
+            chip = commanded(0x05, 0x10, *([0xE0] if around else []))
+            self.assertEqual([chip.write(0x11), chip.write(0x22)], [0, 0])
+            if around:
+                self.assertEqual(chip.command(0xEE), 0)
+            self.assertEqual(chip.state[Register.COLUMN], column)
+
+    def test_07_contrast(self) -> None:
+        chip = commanded(0x81)
+        self.assertEqual(chip.write(0x00), 6)
+        self.assertEqual(chip.command(0xC5), 0)
+        self.assertEqual(chip.state[Register.CONTRAST], 5)
+
+    def test_08_offset(self) -> None:
+        chip = commanded(0xD3)
+        self.assertEqual(chip.command(0x40), 5)
+        self.assertEqual(chip.command(0x3F), 0)
+        self.assertEqual(chip.state[Register.OFFSET], 63)
+
+    def test_09_entire_on(self) -> None:
+        frame = commanded(0xA8, 0x0F, 0xAF, 0xA5).draw().frame
+        for number in range(65):
+            lit = number <= 15 or number == 64
+            self.assertEqual(row(frame, number), bytes([lit]) * 132, f"row {number}")
+
+    def test_10_start_line_and_offset(self) -> None:
+        for reversing, first, last in (0xC0, 5, 4), (0xC8, 0, 1):
+            chip = commanded(0x43, 0xD3, 0x02, 0xAF, reversing)
+            chip.memory = random.Random(10).randbytes(1188)
+            frame = chip.draw().frame
+            self.assertEqual(row(frame, 0), ram_row(chip.memory, first))
+            self.assertEqual(row(frame, 63), ram_row(chip.memory, last))
+
+    def test_11_rows_reversed(self) -> None:
+        chip = commanded(0xA8, 0x0F, 0xC8, 0xAF)
+        chip.memory = random.Random(11).randbytes(1188)
+        self.assertEqual(row(chip.draw().frame, 0), ram_row(chip.memory, 15))
+
+    def test_12_display_off(self) -> None:
+        self.assertEqual(commanded(0xA5).draw(), (0, bytes(8580)))
+
+
+POWER_ON = bytes(1 if place == Register.FRESH else {4: 63, 5: 32, 6: 4}.get(place, 0) for place in range(23))
+OWN_TRACE = bytes.fromhex("01000100AF 020002000301")
+
+
+class Calls(unittest.TestCase):
+    """What the other calls answer, by document 01."""
+
+    def test_power_on(self) -> None:
+        chip = Chip()
+        self.assertEqual((chip.state, chip.memory), (POWER_ON, bytes(1188)))
+
+    def test_start_again(self) -> None:
+        chip = commanded(0xAF)
+        chip.write(0x55)
+        self.assertEqual(chip.start(), 0)
+        self.assertEqual((chip.state, chip.memory), (POWER_ON, bytes(1188)))
+
+    def test_a_copy_is_a_chip_of_its_own(self) -> None:
+        chip = commanded(0xAF)
+        other = copy.deepcopy(chip)
+        other.write(0x55)
+        self.assertEqual((chip.memory[0], other.memory[0]), (0, 0x55))
+        self.assertEqual((chip.state[Register.COLUMN], other.state[Register.COLUMN]), (0, 1))
+
+    def test_reset_pin(self) -> None:
+        chip = commanded(0xAF, 0x81)
+        chip.memory = b"\x55" * 1188
+        self.assertEqual(chip.reset(), 0)
+        self.assertEqual((chip.state, chip.memory), (POWER_ON, b"\x55" * 1188))
+
+    def test_read(self) -> None:
+        chip = Chip()
+        chip.memory = b"\x12\x34" + bytes(1186)
+        self.assertEqual([chip.read() for _ in range(3)], [(0, 0, True), (0, 0x12, False), (0, 0x34, False)])
+        chip.command(0x81)
+        self.assertEqual(chip.read(), (6, 0, False))
+
+    def test_own_trace_prints_what_document_01_says(self) -> None:
+        chip = Chip()
+        self.assertEqual(chip.run(OWN_TRACE), (0, 11, 2))
+        self.assertEqual(ssd1815b.listing(chip.draw().frame), "frame 132 65\n0 0-1\n1 0-0\nend\n")
+
+    def test_refused_run(self) -> None:
+        chip = Chip()
+        run = chip.run(OWN_TRACE + bytes.fromhex("02000100A630"))
+        self.assertEqual(run, (3, 16, 2))
+        self.assertEqual(ssd1815b.listing(chip.draw().frame, run.number, run.offset),
+                         "refused 3 at 16\nframe 132 65\n0 0-1\n1 0-0\nend\n")
+        self.assertEqual(Chip().run(memoryview(b"\x01\x00\x01")), (8, 0, 0))
+        self.assertEqual(Chip().run(bytearray(b"\x00\x00\x05\x00")), (9, 0, 0))
+        self.assertEqual(Chip().run(b""), (0, 0, 0))
+        self.assertEqual(Chip().run(bytes.fromhex("020003000007")), (10, 5, 0))
+
+    def test_an_image_out_of_its_ranges(self) -> None:
+        chip = Chip()
+        image = b"\x09" + POWER_ON[1:]
+        chip.state = image
+        self.assertEqual([chip.command(0xAF), chip.write(0), chip.read(), chip.run(b"")],
+                         [2, 2, (2, 0, False), (2, 0, 0)])
+        self.assertEqual(chip.draw(), (2, b""))
+        self.assertEqual(chip.power_state(), (2, Power.AWAKE))
+        self.assertEqual(chip.state, image)
+        self.assertEqual(chip.reset(), 0)
+
+    def test_power_state(self) -> None:
+        self.assertEqual(Chip().power_state(), (0, Power.AWAKE))
+        self.assertEqual(commanded(0xA5).power_state(), (0, Power.SLEEP))
+        self.assertEqual(commanded(0xA5, 0xAD, 0x00).power_state(), (0, Power.STANDBY))
+        self.assertEqual(commanded(0xA5, 0xAF).power_state(), (0, Power.AWAKE))
+
+    def test_records(self) -> None:
+        trace = OWN_TRACE + ssd1815b.record(Kind.RESET_PIN) + ssd1815b.record(0x0105, b"\x07")
+        found = [(0, 1, b"\xAF"), (5, 2, b"\x03\x01"), (11, 4, b""), (15, 0x0105, b"\x07")]
+        self.assertEqual(list(ssd1815b.records(trace)), found)
+        self.assertEqual(list(ssd1815b.records(trace[:-1])), found[:-1])
+        self.assertEqual(list(ssd1815b.records(b"")), [])
+
+    def test_record(self) -> None:
+        self.assertEqual(ssd1815b.record(Kind.COMMANDS, b"\xAF") + ssd1815b.record(Kind.WRITTEN, bytearray(b"\3\1")),
+                         OWN_TRACE)
+
+
+class Misuse(unittest.TestCase):
+    """What is no event at all, said in words."""
+
+    def test_bytes(self) -> None:
+        chip = Chip()
+        for call in chip.command, chip.write:
+            for value in -1, 256:
+                with self.assertRaisesRegex(ValueError, f"a byte is 0 to 255, not {value}"):
+                    call(value)
+            with self.assertRaisesRegex(TypeError, "a byte is a number, not str"):
+                call("AF")  # type: ignore[arg-type]
+        self.assertEqual((chip.state, chip.memory), (POWER_ON, bytes(1188)))
+
+    def test_lengths(self) -> None:
+        chip = Chip()
+        with self.assertRaisesRegex(ValueError, "a state image has 23 bytes, not 22"):
+            chip.state = bytes(22)
+        with self.assertRaisesRegex(ValueError, "a memory has 1188 bytes, not 1189"):
+            chip.memory = bytes(1189)
+        with self.assertRaisesRegex(ValueError, "a frame has 8580 bytes, not 0"):
+            ssd1815b.listing(b"")
+        with self.assertRaisesRegex(ValueError, "an offset is 0 or more, not -1"):
+            ssd1815b.listing(bytes(8580), 3, -1)
+        with self.assertRaisesRegex(ValueError, "a payload has at most 65,535 bytes, not 65536"):
+            ssd1815b.record(1, bytes(65536))
+        with self.assertRaisesRegex(ValueError, "a kind is 0 to 65,535, not 65536"):
+            ssd1815b.record(65536)
+
+    def test_a_text_is_no_trace(self) -> None:
+        with self.assertRaisesRegex(TypeError, "a trace: bytes are wanted, not str"):
+            Chip().run("command AF")  # type: ignore[arg-type]
+
+
+DRIVERS = HERE.parent / "traces" / "drivers"
+
+
+def picture(name: str) -> list[bytes]:
+    """The rows of the picture that a driver was given, 128 places each."""
+    content = (DRIVERS / f"{name}.pbm").read_bytes()
+    assert content[:10] == b"P4\n128 64\n" and len(content) == 10 + 64 * 16
+    return [bytes(content[10 + 16 * y + x // 8] >> 7 - x % 8 & 1 for x in range(128)) for y in range(64)]
+
+
+class Drivers(unittest.TestCase):
+    """The frame of a foreign driver's traffic is the picture that it was given (traces/drivers/README.md)."""
+
+    def frame(self, name: str) -> bytes:
+        """The frame of a trace that is taken whole."""
+        trace = (DRIVERS / f"{name}.trace").read_bytes()
+        chip = Chip()
+        run = chip.run(trace)
+        self.assertEqual((run.number, run.offset), (0, len(trace)))
+        return chip.draw().frame
+
+    def assert_shows(self, name: str, rows: list[bytes]) -> None:
+        """Column x is at place 127 - x; places 128 to 131 and the icon line are dark."""
+        expected = b"".join(row[::-1] + bytes(4) for row in rows) + bytes(132)
+        self.assertEqual(self.frame(name), expected)
+        self.assertIn(1, expected)
+
+    def test_pictures(self) -> None:
+        for name in "st7567-picture", "st7567-second-picture":
+            self.assert_shows(name, picture(name))
+
+    def test_upside_down(self) -> None:
+        turned = [row[::-1] for row in reversed(picture("st7567-upside-down"))]
+        self.assert_shows("st7567-upside-down", turned)
+
+    def test_hidden(self) -> None:
+        self.assertEqual(self.frame("st7567-hidden"), bytes(8580))
+
+    def test_another_controller(self) -> None:
+        trace = (DRIVERS / "3-uc1701x.trace").read_bytes()
+        run = Chip().run(trace)
+        self.assertEqual((run.number, trace[run.offset]), (3, 0xF8))
+
+    def test_each_trace_is_tested(self) -> None:
+        tested = {"st7567-picture", "st7567-second-picture", "st7567-upside-down", "st7567-hidden", "3-uc1701x"}
+        self.assertEqual({path.stem for path in DRIVERS.glob("*.trace")}, tested)
+
+    def test_example(self) -> None:
+        python = "/usr/bin/python3"  # Debian's, for which python3-luma.lcd is
+        if subprocess.run([python, "-c", "import luma.lcd"], capture_output=True, check=False).returncode != 0:
+            self.skipTest("no luma.lcd here; its recorded traffic is tested")
+        done = subprocess.run([python, str(HERE / "luma_example.py")], capture_output=True, text=True, check=False)
+        self.assertEqual((done.returncode, done.stderr), (0, ""), done.stdout)
+
+
+HEADER = HERE.parent / "host" / "ssd1815b.h"
+
+
+class Header(unittest.TestCase):
+    """The names and values of host/ssd1815b.h are the module's."""
+
+    def test_values(self) -> None:
+        defined = dict(re.findall(r"^#define SSD1815B_(\w+) +(\d+)\b", HEADER.read_text(), re.M))
+        self.assertGreater(len(defined), 40)
+        names: dict[str, int] = {name: value for name, value in vars(ssd1815b).items() if isinstance(value, int)}
+        for group in (Number, Register, Power):
+            names |= {member.name: member.value for member in group}
+        for name, value in defined.items():
+            if not name.startswith("VERSION"):
+                self.assertEqual(names[name], int(value), name)
+
+    def test_version(self) -> None:
+        version = re.search(r'^#define SSD1815B_VERSION +"(\d+)\.', HEADER.read_text(), re.M)
+        assert version
+        self.assertEqual(ssd1815b.SYSTEM_NAME, f"libssd1815b.so.{version[1]}")
+
+    def test_calls(self) -> None:
+        declared = re.findall(r"^uint8_t (ssd1815b_\w+)\(", HEADER.read_text(), re.M)
+        self.assertEqual(sorted(declared), sorted(ssd1815b._CALLS))
+
+
+class Library(unittest.TestCase):
+    """Where the library is looked for."""
+
+    def setUp(self) -> None:
+        self.library = os.environ["SSD1815B_LIBRARY"]
+        folder = tempfile.TemporaryDirectory()
+        self.addCleanup(folder.cleanup)
+        self.root = pathlib.Path(folder.name)
+        (self.root / "python").mkdir()
+        shutil.copy(HERE / "ssd1815b.py", self.root / "python")
+
+    def put(self, place: str) -> str:
+        """Puts the library at a place of the copy."""
+        path = self.root / place
+        path.parent.mkdir(parents=True, exist_ok=True)
+        shutil.copy(self.library, path)
+        return str(path)
+
+    def asked(self, **environment: str) -> subprocess.CompletedProcess[str]:
+        """What a program in the copy says of its library."""
+        program = "import ssd1815b; ssd1815b.Chip(); print(ssd1815b.library_path())"
+        kept = {name: value for name, value in os.environ.items() if name != "SSD1815B_LIBRARY"}
+        return subprocess.run([sys.executable, "-B", "-c", program], cwd=self.root / "python", text=True,
+                              capture_output=True, check=False, env=kept | environment)
+
+    def test_order(self) -> None:
+        plain = self.put("target/c/plain/libssd1815b.so")
+        said = self.asked()
+        self.assertEqual(said.stdout.strip(), plain)
+        self.assertIn("plain C, which is not proved", said.stderr)
+        for place in "target/c/proved/libssd1815b.so", "python/libssd1815b.so":
+            found = self.put(place)
+            said = self.asked()
+            self.assertEqual((said.stdout.strip(), said.stderr), (found, ""))
+        named = self.put("elsewhere/any.so")
+        self.assertEqual(self.asked(SSD1815B_LIBRARY=named).stdout.strip(), named)
+
+    def test_installed(self) -> None:
+        self.put(f"lib/{ssd1815b.SYSTEM_NAME}")
+        said = self.asked(LD_LIBRARY_PATH=str(self.root / "lib"))
+        self.assertEqual((said.stdout.strip(), said.stderr), (ssd1815b.SYSTEM_NAME, ""))
+
+    def test_none(self) -> None:
+        said = self.asked()
+        if said.returncode != 0:  # else one is installed on this machine
+            self.assertIn("no libssd1815b.so: `make shared` builds it, or SSD1815B_LIBRARY says where", said.stderr)
+
+    def test_named_and_missing(self) -> None:
+        self.put("python/libssd1815b.so")
+        said = self.asked(SSD1815B_LIBRARY=str(self.root / "none.so"))
+        self.assertIn(f"{self.root}/none.so cannot be loaded", said.stderr)
+
+    def test_another_library(self) -> None:
+        said = self.asked(SSD1815B_LIBRARY="libc.so.6")
+        self.assertIn("libc.so.6 has no ssd1815b_start: it is older than this module", said.stderr)
+
+
+class Readme(unittest.TestCase):
+    """The example of README.md prints what is said there."""
+
+    def test_example(self) -> None:
+        text = (HERE / "README.md").read_text()
+        program = re.search(r"```python\n(.*?)```", text, re.S)
+        printed = re.search(r"```text\n(.*?)```", text, re.S)
+        assert program and printed
+        output = io.StringIO()
+        with contextlib.redirect_stdout(output):
+            exec(compile(program[1], "README.md", "exec"), {})
+        self.assertEqual(output.getvalue(), printed[1])
+
+
+if __name__ == "__main__":
+    unittest.main()

@@ -1,0 +1,120 @@
+#!/usr/bin/env python3
+"""Runs a typed source through the tool, and tells a refusal by the source's line.
+
+  typed.py FILE.txt                          what `ssd1815b show` shows of it
+  typed.py COMMAND [OPTION...] FILE.txt      the same for another command of the
+                                             tool, with its options
+
+Where the trace is refused, the line that the refused byte came from stands
+before the tool's own words, and that of an earlier byte after them:
+
+  mine.txt:7: write 00
+  refused 6 at 23 (0x17): ...
+    awaited is the n of 81 ..., since 18 (0x12) in record 3
+    mine.txt:5: command 81
+
+No file is written; make.py makes FILE.trace, and says how a source is typed.
+
+The tool is what SSD1815B_TOOL says; else this repository's proved one, or its
+plain C one, where they are built; else the installed ssd1815b.  Status: the
+tool's, or 2 where the source has a fault or there is no tool.
+"""
+
+import itertools
+import os
+import pathlib
+import re
+import shlex
+import shutil
+import signal
+import subprocess
+import sys
+
+sys.dont_write_bytecode = True
+import make  # noqa: E402  (make.py beside this)
+
+FAILED = 2
+LONGEST_TEXT = 100
+REFUSED = re.compile(rb"refused [0-9]+ at ([0-9]+) \(0x[0-9A-F]+\)")
+EARLIER = re.compile(rb"  .*since ([0-9]+) \(0x[0-9A-F]+\) in record")
+# Their standard output is for other programs; they tell refusals on standard error.
+TOLD_ON_STANDARD_ERROR = ("list", "picture")
+
+
+def fail(words):
+    """Says why nothing was run."""
+    print(words, file=sys.stderr)
+    sys.exit(FAILED)
+
+
+def tool():
+    """The command that runs the tool."""
+    if os.environ.get("SSD1815B_TOOL"):
+        return shlex.split(os.environ["SSD1815B_TOOL"])
+    built = pathlib.Path(__file__).resolve().parent.parent / "target" / "c"
+    if (built / "proved" / "ssd1815b").exists():
+        return [str(built / "proved" / "ssd1815b")]
+    if (built / "plain" / "ssd1815b").exists():
+        print("typed.py: by plain C, as the tool over the proved library is not built (`make`)", file=sys.stderr)
+        return [str(built / "plain" / "ssd1815b")]
+    installed = shutil.which("ssd1815b")
+    if installed is None:
+        fail("typed.py: no tool: `make` builds it, or SSD1815B_TOOL says where it is")
+    return [installed]
+
+
+def line_at(lines, offset):
+    """The line that the byte at an offset of the trace came from."""
+    ends = itertools.accumulate(len(line.made) for line in lines)
+    return next((line for line, end in zip(lines, ends) if offset < end), None)
+
+
+def told_line(source, lines, match):
+    """The line at the offset that a match of the tool's words has; nothing where there is none."""
+    line = match and line_at(lines, int(match[1]))
+    if not line:
+        return b""
+    text = line.text if len(line.text) <= LONGEST_TEXT else line.text[:LONGEST_TEXT] + " ..."
+    return f"{source}:{line.place}: {text}\n".encode()
+
+
+def told(words, source, lines):
+    """What the tool printed, with the lines of the source that it speaks of."""
+    rows = []
+    for row in words.splitlines(keepends=True):
+        earlier = told_line(source, lines, EARLIER.match(row))
+        rows += [told_line(source, lines, REFUSED.match(row)), row, b"  " + earlier if earlier else b""]
+    return b"".join(rows)
+
+
+def run(command, options, source):
+    """Runs the tool on the trace of a source; answers its status."""
+    lines, faults = make.lines_of(source)
+    if faults:
+        fail("\n".join(faults))
+    output = None if command in TOLD_ON_STANDARD_ERROR else subprocess.PIPE
+    done = subprocess.run([*tool(), command, *options, "-"], input=make.trace(lines), stdout=output,
+                          stderr=subprocess.PIPE, check=False)
+    sys.stderr.buffer.write(told(done.stderr, source, lines))
+    sys.stdout.buffer.write(told(done.stdout or b"", source, lines))
+    sys.stdout.flush()
+    return done.returncode
+
+
+def main(arguments):
+    if not arguments or "--help" in arguments or "-h" in arguments:
+        print(__doc__, end="")
+        return 0 if arguments else FAILED
+    *before, name = arguments
+    if not name.endswith(".txt"):
+        fail(f"typed.py: {name}: a source is named FILE.txt, and stands last")
+    command, *options = before or ["show"]
+    return run(command, options, pathlib.Path(name))
+
+
+if __name__ == "__main__":
+    signal.signal(signal.SIGPIPE, signal.SIG_DFL)
+    try:
+        sys.exit(main(sys.argv[1:]))
+    except OSError as failure:
+        fail(f"typed.py: {failure.filename}: {failure.strerror}")
