@@ -14,14 +14,11 @@ use Rattle.constants.specs.Numbers.{taken, headerCut}
 use Rattle.constants.specs.Sizes.{headerSize}
 use Rattle.trace.specs.Records.{ended, _then_, lengthOf, whole, recordAt, splitFrom, split}
 use Rattle.trace.specs.Play.{Machine, Ending, stopped, done, Played, played, playRecord, playFrom, play}
-use Rattle.trace.proofs.Further.{further, record-further}
-use Rattle.trace.proofs.Fronts.{room}
-use Rattle.trace.proofs.Rest.{split-nothing, split-cut, split-whole, rest}
-use Rattle.trace.proofs.Joined.{Sound, same-record, further-on, joined}
-
--- the records before an offset are played, and all are taken
-abbrev pub Reached : {S E : Type 0} → Machine S E → List ℕ → S → ℕ → ℕ → S → Type 0
-Reached machine trace s at count t = play machine (split (take at trace)) s ≡ played taken at count t
+use Rattle.trace.specs.AnyMachine.{Sound, further, Reached}
+use Rattle.trace.proofs.PlayedFurther.{record-further}
+use Rattle.trace.proofs.WhatStands.{room}
+use Rattle.trace.proofs.SplitLaws.{split-nothing, split-cut, split-whole, rest, same-record}
+use Rattle.trace.proofs.PlayedJoined.{further-on, joined}
 
 pub data First {S E : Type 0} (machine : Machine S E) (trace : List ℕ) (s : S) (p : Played S) : Type 0 where
   all : p .number ≡ taken → First machine trace s p

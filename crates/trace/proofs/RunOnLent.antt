@@ -1,47 +1,28 @@
--- The run's laws: two outcomes of its statement are equal; it leaves a legal image, and every byte past the needed lengths as it was; no records, and whole records followed by more.
+-- A run on a lent state and memory: refused first, or played from the image's registers; an empty trace, `a ++ b`, what stays legal, and what is left as it was.
 -- Assumes nothing.
 use mathlib.Core.Path.{_≡_, refl, sym, _∙_, ap, subst}
 use mathlib.Core.List.{List, [], _++_}
-use Prim.Native.Nat.{ℕ, _+_}
+use Prim.Native.Nat.{ℕ}
 use native.Mathlib.Omega.{arith}
-use lib.ListN.{length, drop}
+use lib.ListN.{length, drop, length-drop}
 use Rattle.constants.specs.Sizes.{imageSize, memorySize}
-use Rattle.bus.specs.Chip.{Chip}
 use Rattle.constants.specs.Numbers.{taken}
 use Rattle.bus.specs.Image.{asked, stored}
 use Rattle.bus.specs.declared.registers.Registers.{Registers}
 use Rattle.bus.specs.declared.image.Asked.{Asked}
+use Rattle.bus.specs.Bytes.{Bytes}
 use Rattle.bus.proofs.Asking.{OneOrTwo, asked-refusal}
 use Rattle.bus.proofs.Kept.{asked-legal}
-use Rattle.bus.proofs.Stored.{Sized, sized, stored-own, stored-again, stored-past, asked-stored}
-use Rattle.trace.specs.Records.{splitFrom, split}
-use Rattle.trace.specs.Play.{Played, playFrom, play}
+use Rattle.bus.proofs.Stored.{Sized, sized, stored-long, stored-own, stored-again, stored-past, asked-stored}
+use Rattle.trace.specs.Records.{splitFrom, split, recordsIn}
+use Rattle.trace.specs.Play.{playFrom, play}
 use Rattle.trace.specs.Kinds.{chipOf, theChip}
-use Rattle.trace.specs.Run.{Ran, ran, stopOf, ranOf, runOn, run}
-use Rattle.trace.specs.Code.{playedOf}
-use Rattle.trace.specs.declared.run.Stop.{Stop}
-use Rattle.trace.specs.declared.run.Played as code
-use Rattle.trace.proofs.Joined.{taken-offset, joined}
-use Rattle.trace.proofs.Kept.{Bytes, split-of-bytes, play-keeps}
-use Rattle.trace.proofs.Held.{Held, Brings, brings, replay-held}
-use Rattle.trace.proofs.Sound.{the-chip-sound}
-
--- a run's outcome with the offset and the count of another before it added
-abbrev pub runFurther : Stop → Ran → Ran
-runFurther before r = ran (stopOf (r .stop .number) (before .offset + r .stop .offset) (before .count + r .stop .count)) (r .state) (r .memory)
-
--- two outcomes that satisfy the run's statement are equal
-pub same-run : {stated : Ran} (s t : Stop) (state state′ memory memory′ : List ℕ) → ran s state memory ≡ stated → ran t state′ memory′ ≡ stated → (s ≡ t) × (state ≡ state′) × (memory ≡ memory′)
-same-run s t state state′ memory memory′ p q =
-    let e = p ∙ sym q in
-    (ap (λ r. r .stop) e, ap (λ r. r .state) e, ap (λ r. r .memory) e)
-
--- and so are two that satisfy the play's
-pub same-play : {stated : Played Chip} (f g : code.Played) (memory memory′ : List ℕ) → playedOf f memory ≡ stated → playedOf g memory′ ≡ stated → (f ≡ g) × (memory ≡ memory′)
-unfolding playedOf
-same-play f g memory memory′ p q =
-    let e = p ∙ sym q in
-    (rw (ap (λ r. r .number) e, ap (λ r. r .offset) e, ap (λ r. r .count) e, ap (λ r. r .state .registers) e), ap (λ r. r .state .memory) e)
+use Rattle.trace.specs.Run.{ran, stopOf, ranOf, runOn, run}
+use Rattle.trace.specs.RunLaws.{runFurther}
+use Rattle.trace.proofs.PlayedJoined.{taken-offset, taken-count, joined}
+use Rattle.trace.proofs.PlayedKeeps.{split-carries, play-keeps, all-any}
+use Rattle.trace.proofs.ChipKeeps.{Held, Aside, Brings, Anything, brings, brings-any, replay-held, replay-aside}
+use Rattle.trace.proofs.ChipRefusals.{the-chip-sound}
 
 -- the run of a trace on a legal state and memory, which hold registers r
 module _ (state memory : List ℕ) (r : Registers) (found : asked state memory ≡ Asked.Found r) where
@@ -59,7 +40,7 @@ module _ (state memory : List ℕ) (r : Registers) (found : asked state memory �
 
   pub left-held : (trace : List ℕ) → Bytes trace → Held memory (play theChip (split trace) (chipOf r memory) .state)
   unfolding split
-  left-held trace b = play-keeps theChip (Held memory) Brings brings (replay-held memory) (split trace) 0 (chipOf r memory) (split-of-bytes 0 0 trace b) (record { registers = asked-legal state memory r found; size = refl; past = refl })
+  left-held trace b = play-keeps theChip _ (Held memory) Brings brings (replay-held memory) (split trace) 0 (chipOf r memory) (split-carries _ 0 0 trace b) (record { registers = asked-legal state memory r found; size = refl; past = refl })
 
   -- a run from a legal image leaves a legal image
   pub run-legal : (trace : List ℕ) → Bytes trace → asked (run state memory trace .state) (run state memory trace .memory) ≡ Asked.Found (play theChip (split trace) (chipOf r memory) .state .registers)
@@ -68,15 +49,26 @@ module _ (state memory : List ℕ) (r : Registers) (found : asked state memory �
       let h = left-held trace b in
       rw (run-found trace) (asked-stored state (fits .image) _ _ (omega (arith, h .size, fits .display)) (h .registers))
 
-  past-found : (trace : List ℕ) → Bytes trace → (drop imageSize (run state memory trace .state) ≡ drop imageSize state) × (drop memorySize (run state memory trace .memory) ≡ drop memorySize memory)
-  unfolding ranOf
-  past-found trace b = rw (run-found trace) (stored-past state (fits .image) _, left-held trace b .past)
+  left-aside : (trace : List ℕ) → Aside memory (play theChip (split trace) (chipOf r memory) .state)
+  unfolding split
+  left-aside trace = play-keeps theChip _ (Aside memory) Anything brings-any (replay-aside memory) (split trace) 0 (chipOf r memory) (split-carries _ 0 0 trace (all-any trace)) (record { size = refl; past = refl })
 
-  offset-found : (trace : List ℕ) → run state memory trace .stop .number ≡ taken → run state memory trace .stop .offset ≡ length trace
+  past-found : (trace : List ℕ) → (drop imageSize (run state memory trace .state) ≡ drop imageSize state) × (drop memorySize (run state memory trace .memory) ≡ drop memorySize memory)
   unfolding ranOf
-  offset-found trace h =
+  past-found trace = rw (run-found trace) (stored-past state (fits .image) _, left-aside trace .past)
+
+  lengths-found : (trace : List ℕ) → (length (run state memory trace .state) ≡ length state) × (length (run state memory trace .memory) ≡ length memory)
+  unfolding ranOf
+  lengths-found trace =
+      let h = fits .image in
+      rw (run-found trace, stored-long state h (play theChip (split trace) (chipOf r memory) .state .registers)) (rw (length-drop imageSize state) (omega arith), left-aside trace .size)
+
+  whole-found : (trace : List ℕ) → run state memory trace .stop .number ≡ taken → (run state memory trace .stop .offset ≡ length trace) × (run state memory trace .stop .count ≡ recordsIn (split trace))
+  unfolding ranOf
+  whole-found trace h =
       let e = run-found trace in
-      ap (λ outcome. outcome .stop .offset) e ∙ taken-offset theChip the-chip-sound trace [] (chipOf r memory) (ap (λ outcome. outcome .stop .number) (sym e) ∙ h)
+      let n = ap (λ outcome. outcome .stop .number) (sym e) ∙ h in
+      (ap (λ outcome. outcome .stop .offset) e ∙ taken-offset theChip the-chip-sound trace [] (chipOf r memory) n, ap (λ outcome. outcome .stop .count) e ∙ taken-count theChip the-chip-sound trace [] (chipOf r memory) n)
 
   joined-found : (a b : List ℕ) → Bytes a → run state memory a .stop .number ≡ taken → run state memory (a ++ b) ≡ runFurther (run state memory a .stop) (run (run state memory a .state) (run state memory a .memory) b)
   unfolding ranOf runOn run
@@ -106,12 +98,15 @@ module _ (state memory : List ℕ) where
       by (Asked.Refused number) e = refused number e
 
   -- no byte past the needed lengths changes
-  pub run-past : (trace : List ℕ) → Bytes trace → (drop imageSize (run state memory trace .state) ≡ drop imageSize state) × (drop memorySize (run state memory trace .memory) ≡ drop memorySize memory)
-  run-past trace bytes = by-asking _ (λ r e. past-found state memory r e trace bytes) (λ number e. rw (refused-run trace number e) (refl, refl))
+  pub run-past : (trace : List ℕ) → (drop imageSize (run state memory trace .state) ≡ drop imageSize state) × (drop memorySize (run state memory trace .memory) ≡ drop memorySize memory)
+  run-past trace = by-asking _ (λ r e. past-found state memory r e trace) (λ number e. rw (refused-run trace number e) (refl, refl))
 
-  -- where all is taken the offset is the trace's length
-  pub run-offset : (trace : List ℕ) → run state memory trace .stop .number ≡ taken → run state memory trace .stop .offset ≡ length trace
-  run-offset trace h = by-asking _ (λ r e. offset-found state memory r e trace h) (λ number e. absurd (refused-taken trace number e h))
+  pub run-lengths : (trace : List ℕ) → (length (run state memory trace .state) ≡ length state) × (length (run state memory trace .memory) ≡ length memory)
+  run-lengths trace = by-asking _ (λ r e. lengths-found state memory r e trace) (λ number e. rw (refused-run trace number e) (refl, refl))
+
+  -- where all is taken the offset is the trace's length, and the count is of all its records
+  pub run-whole : (trace : List ℕ) → run state memory trace .stop .number ≡ taken → (run state memory trace .stop .offset ≡ length trace) × (run state memory trace .stop .count ≡ recordsIn (split trace))
+  run-whole trace h = by-asking _ (λ r e. whole-found state memory r e trace h) (λ number e. absurd (refused-taken trace number e h))
 
   -- running `a ++ b` is running `a`, then `b` from what it left, with offset and count added, whenever `a` is taken whole
   pub run-joined : (a b : List ℕ) → Bytes a → run state memory a .stop .number ≡ taken → run state memory (a ++ b) ≡ runFurther (run state memory a .stop) (run (run state memory a .state) (run state memory a .memory) b)

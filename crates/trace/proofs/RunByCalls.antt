@@ -3,7 +3,7 @@
 use mathlib.Core.Path.{_≡_, refl, _∙_, ap}
 use mathlib.Core.Bool.{Bool, true, false, cond, not, _||_}
 use mathlib.Core.List.{List, [], _∷_, _++_}
-use Prim.Native.Nat.{ℕ, _+_, _≤_}
+use Prim.Native.Nat.{ℕ, _+_, _≤_, _<_}
 use native.Mathlib.Omega.{arith}
 use borrow.Author.Tests.{ne-eqb}
 use lib.Dec.{eqb}
@@ -16,6 +16,8 @@ use Rattle.bus.specs.Image.{asked, stored}
 use Rattle.bus.specs.Calls.{replyOf, stateAfter, concluded, call}
 use Rattle.bus.specs.declared.registers.Registers.{Registers}
 use Rattle.bus.specs.declared.answer.Answer.{Answer}
+use Rattle.bus.specs.Bytes.{All, Bytes}
+use Rattle.bus.specs.declared.image.Asked.{Asked}
 use Rattle.bus.proofs.Answers.{StandsFor, step-answers}
 use Rattle.bus.proofs.Kept.{LegalRegisters, Keeps, step-keeps, asked-legal}
 use Rattle.bus.proofs.Untouched.{step-length}
@@ -26,11 +28,11 @@ use Rattle.trace.specs.Kinds.{Recorded, event, readAs, chipOf, happened,
 use Rattle.trace.specs.OneByOne.{Placed, placed, Script, script, scriptFrom, applied}
 use Rattle.trace.specs.ByCalls.{calledBy, meets, byCalls, runByCalls}
 use Rattle.trace.specs.Run.{ran, stopOf, ranOf, run}
+use Rattle.trace.specs.AnyMachine.{Gives}
 use Rattle.trace.proofs.OneByOne.{one-by-one}
-use Rattle.trace.proofs.Kept.{All, Bytes, OfBytes, Gives, split-of-bytes}
-use Rattle.trace.proofs.Held.{Brings, brings}
-use Rattle.trace.proofs.Runs.{run-found, fits}
-use Rattle.bus.specs.declared.image.Asked.{Asked}
+use Rattle.trace.proofs.PlayedKeeps.{Carries, split-carries}
+use Rattle.trace.proofs.ChipKeeps.{Brings, brings}
+use Rattle.trace.proofs.RunOnLent.{run-found, fits}
 
 module _ (state : List ℕ) (h : imageSize ≤ length state) where
   -- the rest of the events, from the chip that one of them leaves
@@ -85,7 +87,7 @@ header-brings : (header : Result (List Recorded)) (place count : ℕ) (later : S
 header-brings (refuses number) place count later g h = tt
 header-brings (gives events) place count later g h = all-append _ (placed events (place + headerSize) count) (later .events) (all-placed events (place + headerSize) count g) h
 
-pub script-brings : (trace : Trace) (count : ℕ) → OfBytes trace → All (λ (p : Placed Recorded). Brings (p .event)) (scriptFrom theChip trace count .events)
+pub script-brings : (trace : Trace) (count : ℕ) → Carries (λ (b : ℕ). b < 256) trace → All (λ (p : Placed Recorded). Brings (p .event)) (scriptFrom theChip trace count .events)
 unfolding scriptFrom
 script-brings (ended offset) count h = tt
 script-brings (cut offset) count h = tt
@@ -101,5 +103,5 @@ module _ (state memory : List ℕ) (r : Registers) (found : asked state memory �
       let own : stored r state ≡ state = rw (← (size .registers)) (stored-own state (size .image)) in
       run-found state memory r found trace ∙
       ap (λ p. ranOf p state) (one-by-one theChip (split trace) 0 (chipOf r memory)) ∙
-      by-calls state (size .image) (all .events) (all .number) (all .offset) (all .count) (script-brings (split trace) 0 (split-of-bytes 0 0 trace bytes)) r memory (asked-legal state memory r found) (size .display) ∙
+      by-calls state (size .image) (all .events) (all .number) (all .offset) (all .count) (script-brings (split trace) 0 (split-carries _ 0 0 trace bytes)) r memory (asked-legal state memory r found) (size .display) ∙
       ap (λ lent. byCalls (all .events) (stopOf (all .number) (all .offset) (all .count)) lent memory) own

@@ -1,4 +1,4 @@
--- How a run ends: with what its trace plays where state and memory are legal, and with refusal 1 or 2 where they are not.
+-- How the code's run ends: with what its trace plays where state and memory are legal, and with refusal 1 or 2 where they are not.
 -- Assumes nothing.
 use mathlib.Core.Path.{_≡_, sym, _∙_, ap}
 use mathlib.Core.List.{List}

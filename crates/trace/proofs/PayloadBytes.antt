@@ -1,4 +1,4 @@
--- One event more of a record's payload, over any machine.
+-- The bytes of a payload played one after the other, each an event: one byte more, where they stop, and the bytes after those that are done. Over any machine.
 -- Assumes nothing.
 use mathlib.Core.Path.{_≡_, refl, sym, _∙_}
 use mathlib.Core.List.{List, [], _∷_, map}
@@ -75,12 +75,8 @@ module _ {S E : Type 0} (machine : Machine S E) (means : ℕ → E) (trace : Lis
           turn-given machine means trace at end s next (omega arith) l r ∙
           later next (sym (turn-given machine means trace at to s next (omega arith) (omega arith) r) ∙ h)
 
--- a record of one event, which is refused or gives a state
+-- a record of one event, which gives a state
 module _ {S E : Type 0} (machine : Machine S E) (event : E) (at : ℕ) (s : S) where
-  pub one-refused : (number : ℕ) → machine .step event s ≡ refuses number → playEvents machine (event ∷ []) at s ≡ stopped number at s
-  unfolding playEvents
-  one-refused number e = rw e
-
   pub one-given : (t : S) → machine .step event s ≡ gives t → playEvents machine (event ∷ []) at s ≡ done t
   unfolding playEvents
   one-given t e = rw e

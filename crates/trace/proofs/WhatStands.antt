@@ -1,28 +1,28 @@
--- What stands at an offset of a trace, by the tests that tell it.
+-- What stands at an offset of a trace: nothing, a cut record or a whole one, by the tests that tell it; and what a whole record says of the bytes.
 -- Assumes nothing.
 use mathlib.Core.Path.{_≡_, refl, sym, _∙_, subst}
 use mathlib.Core.Bool.{Bool, true, false, _&&_, false≢true}
 use mathlib.Core.List.{List}
 use Prim.Native.Nat.{ℕ, _+_, _-_, _≤_, _<_}
 use native.Mathlib.Omega.{arith}
+use native.Mathlib.Nat.{add-zero}
 use borrow.Author.Tests.{ne-eqb, leb-true, leb-false, le-leb, lt-leb, eq-eqb, eqb-true, eqb-false}
 use lib.Dec.{leb, eqb}
-use lib.ListN.{length, drop, length-drop}
-use lib.Seq.{length-take-le, getD-drop}
+use lib.ListN.{length, drop, length-drop, take}
+use lib.Seq.{length-take-le, getD-drop, slice, drop-drop, drop-at, take-add}
 use Rattle.codes.proofs.Tests.{both, chosen}
 use Rattle.constants.specs.Sizes.{headerSize}
-use Rattle.trace.specs.Records.{lengthOf, kindOf, payloadOf, whole, number}
+use Rattle.trace.specs.Records.{lengthOf, kindOf, payloadOf, whole, CutShort, fewBytes, pastEnd, number, recordAt}
 use Rattle.trace.specs.Front.{frontOf}
-use Rattle.trace.specs.Given.{CutShort, fewBytes, pastEnd}
 use Rattle.trace.specs.declared.records.Front.{Front}
-use native.Mathlib.Nat.{add-zero}
+use Rattle.trace.specs.declared.records.Header.{Header}
 
 module _ (trace : List ℕ) (at : ℕ) where
   -- the header's two numbers, by their offsets
-  pub length-at : lengthOf (drop at trace) ≡ number trace at
+  length-at : lengthOf (drop at trace) ≡ number trace at
   length-at = rw (getD-drop at trace 0 0, getD-drop at trace 1 0, add-zero)
 
-  pub kind-at : kindOf (drop at trace) ≡ number trace (at + 2)
+  kind-at : kindOf (drop at trace) ≡ number trace (at + 2)
   kind-at =
       let e : at + 2 + 1 ≡ at + 3 = omega arith in
       rw (getD-drop at trace 2 0, getD-drop at trace 3 0, e)
@@ -101,3 +101,27 @@ module _ (trace : List ℕ) (at : ℕ) where
   payload-length w =
       let left = drop at trace in
       length-take-le (lengthOf left) (drop headerSize left) (omega (arith, length-drop headerSize left, room left w .1))
+
+module _ (trace : List ℕ) (at : ℕ) (header : Header) (h : frontOf (drop at trace) ≡ Front.Whole header) where
+  pub is-whole : whole (drop at trace) ≡ true
+  is-whole = tells (drop at trace) h .0
+
+  its-kind : kindOf (drop at trace) ≡ header .kind
+  its-kind = tells (drop at trace) h .1
+
+  pub its-length : lengthOf (drop at trace) ≡ header .length
+  its-length = tells (drop at trace) h .2
+
+  -- the payload is not past the end
+  pub within-trace : at + headerSize + header .length ≤ length trace
+  within-trace = omega (arith, its-length, length-drop at trace, room (drop at trace) is-whole .1)
+
+  -- the payload lies between two offsets
+  its-payload : payloadOf (drop at trace) ≡ slice (at + headerSize) (at + headerSize + header .length) trace
+  its-payload =
+      let from = at + headerSize in
+      rw (its-length, drop-drop headerSize at trace, take-add from (header .length) trace)
+      (sym (drop-at (take from trace) (take (header .length) (drop from trace)) from (length-take-le from trace (omega (arith, within-trace)))))
+
+  pub the-record : recordAt at (drop at trace) ≡ record { kind = header .kind; payload = slice (at + headerSize) (at + headerSize + header .length) trace; place = at }
+  the-record = rw (its-payload, its-kind)

@@ -1,4 +1,4 @@
--- Document 01, "Numbers given": a run gives 1 and 2 exactly when the table says so, before its first event; no event of a trace of bytes meets them.
+-- A run gives 1 and 2 exactly when the table says so, before its first event; no event of a trace of bytes meets them.
 -- Assumes nothing.
 use mathlib.Core.Path.{_≡_, refl, sym, ap, subst}
 use mathlib.Core.Logic.{_↔_}
@@ -16,6 +16,8 @@ use Rattle.bus.specs.Registers.{registersOf}
 use Rattle.bus.specs.Image.{short, legal, asked}
 use Rattle.bus.specs.declared.registers.Registers.{Registers}
 use Rattle.bus.specs.declared.answer.Answer.{Answer}
+use Rattle.bus.specs.Bytes.{All, Bytes}
+use Rattle.bus.specs.declared.image.Asked.{Asked}
 use Rattle.bus.proofs.Answers.{StandsFor, step-answers}
 use Rattle.bus.proofs.Kept.{asked-legal}
 use Rattle.bus.proofs.Exactly.{Neither, met-neither, not-one, not-two}
@@ -24,14 +26,14 @@ use Rattle.trace.specs.Play.{Result, refuses, gives, onResult, Played, p
 use Rattle.trace.specs.Kinds.{Recorded, event, readAs, chipOf, happened, compared, replay, eventsOf, theChip}
 use Rattle.trace.specs.OneByOne.{Placed, Script, script, scriptFrom, applied}
 use Rattle.trace.specs.Run.{Ran, ran, stopOf, ranOf, run}
+use Rattle.trace.specs.AnyMachine.{Gives}
 use Rattle.trace.proofs.OneByOne.{one-by-one}
-use Rattle.trace.proofs.Kept.{All, Bytes, Gives, split-of-bytes}
-use Rattle.trace.proofs.Held.{Held, Brings, replay-held}
-use Rattle.trace.proofs.Payloads.{by-kind}
-use Rattle.trace.proofs.Sound.{Refusing, headed}
-use Rattle.trace.proofs.Runs.{fits, run-found, refused-run}
-use Rattle.trace.proofs.ByCalls.{script-brings}
-use Rattle.bus.specs.declared.image.Asked.{Asked}
+use Rattle.trace.proofs.PlayedKeeps.{split-carries}
+use Rattle.trace.proofs.ChipKeeps.{Held, Brings, replay-held}
+use Rattle.trace.proofs.ChipKinds.{by-kind}
+use Rattle.trace.proofs.ChipRefusals.{Refusing, headed}
+use Rattle.trace.proofs.RunOnLent.{fits, run-found, refused-run}
+use Rattle.trace.proofs.RunByCalls.{script-brings}
 
 -- an event's answer stands for the number that it meets
 happened-neither : (number : ℕ) (answer : Answer) (memory : List ℕ) → StandsFor number answer → Neither number → Refusing Neither (happened answer memory)
@@ -96,7 +98,7 @@ module _ (state memory trace : List ℕ) where
   found-neither r found bytes =
       let all = scriptFrom theChip (split trace) 0 in
       rw (run-found state memory r found trace, one-by-one theChip (split trace) 0 (chipOf r memory))
-      (applied-neither memory (fits state memory r found .display) (all .events) (all .number) (all .offset) (all .count) (script-brings (split trace) 0 (split-of-bytes 0 0 trace bytes)) (script-neither (split trace) 0) (chipOf r memory) (record { registers = asked-legal state memory r found; size = refl; past = refl }))
+      (applied-neither memory (fits state memory r found .display) (all .events) (all .number) (all .offset) (all .count) (script-brings (split trace) 0 (split-carries _ 0 0 trace bytes)) (script-neither (split trace) 0) (chipOf r memory) (record { registers = asked-legal state memory r found; size = refl; past = refl }))
 
   -- refused first: offset and count are 0, and state and memory stay
   pub one-leaves : short state memory ≡ true → run state memory trace ≡ ran (stopOf tooShort 0 0) state memory

@@ -1,24 +1,23 @@
--- A trace that begins at a later offset, with records before it, plays as it would from the start, offsets and count moved on. Over any machine.
+-- A trace that begins at a later offset, with records before it, plays as it would from the start, offsets and count moved on; and by what stands there. Over any machine.
 -- Assumes nothing.
 use mathlib.Core.Path.{_≡_, refl}
-use mathlib.Core.Bool.{Bool, true, false, cond}
 use mathlib.Core.List.{List, [], _∷_}
-use Prim.Native.Nat.{ℕ, zero, suc, _+_}
+use Prim.Native.Nat.{ℕ, _+_}
 use native.Mathlib.Omega.{arith}
+use lib.ListN.{length, drop}
 use Rattle.constants.specs.Sizes.{headerSize}
-use Rattle.trace.specs.Records.{Record, Trace, ended, cut, _then_, lengthOf, whole, recordAt, splitFrom}
-use Rattle.trace.proofs.Cases.{by-cases}
+use Rattle.constants.specs.Numbers.{taken, headerCut}
+use Rattle.trace.specs.Records.{Record, Trace, ended, cut, _then_, recordAt}
+use Rattle.trace.specs.AnyMachine.{further}
+use Rattle.trace.specs.SplitLaws.{recordFurther, traceFurther}
 use Rattle.trace.specs.Play.{Machine, Ending, stopped, done, onEnding, Played, played, playEvents, playRecord, playFrom}
+use Rattle.trace.specs.Front.{frontOf}
+use Rattle.trace.specs.declared.records.Header.{Header}
+use Rattle.trace.specs.declared.records.Front.{Front}
+use Rattle.trace.proofs.OneByOne.{by-cases}
+use Rattle.trace.proofs.SplitLaws.{rest-cut, rest, rest-nothing, rest-whole}
 
--- a record, a split trace and what is played, moved on
-abbrev pub recordFurther : ℕ → Record → Record
-recordFurther k r = record { kind = r .kind; payload = r .payload; place = k + r .place }
-
-abbrev pub traceFurther : ℕ → Trace → Trace
-traceFurther k (ended offset) = ended (k + offset)
-traceFurther k (cut offset) = cut (k + offset)
-traceFurther k (r then rest) = recordFurther k r then traceFurther k rest
-
+-- how a record ends, moved on
 abbrev pub endingFurther : {S : Type 0} → ℕ → Ending S → Ending S
 endingFurther k (stopped number offset s) = stopped number (k + offset) s
 endingFurther k (done s) = done s
@@ -27,24 +26,6 @@ endingFurther k (done s) = done s
 pub is-done : {S : Type 0} (k : ℕ) (ending : Ending S) {t : S} → endingFurther k ending ≡ done t → ending ≡ done t
 is-done k (stopped number offset s) e = absurd (let z : _≡_ {A = ℕ} 0 1 = cc in omega arith)
 is-done k (done s) e = e
-
-abbrev pub further : {S : Type 0} → ℕ → ℕ → Played S → Played S
-further k c p = played (p .number) (k + p .offset) (c + p .count) (p .state)
-
-split-choice : (k : ℕ) (there : Bool) (r : Record) (rest rest′ : Trace) (offset : ℕ) → rest′ ≡ traceFurther k rest → cond there (recordFurther k r then rest′) (cut (k + offset)) ≡ traceFurther k (cond there (r then rest) (cut offset))
-split-choice k true r rest rest′ offset e = rw e
-split-choice k false r rest rest′ offset e = refl
-
-pub split-further : (k left offset : ℕ) (bytes : List ℕ) → splitFrom left (k + offset) bytes ≡ traceFurther k (splitFrom left offset bytes)
-unfolding splitFrom
-split-further k left offset [] = refl
-split-further k (suc left) offset (byte ∷ bytes) =
-    let e : k + offset + 1 ≡ k + (offset + 1) = omega arith in
-    rw e (split-further k left (offset + 1) bytes)
-split-further k zero offset (byte ∷ bytes) =
-    let all = byte ∷ bytes in
-    let e : k + offset + 1 ≡ k + (offset + 1) = omega arith in
-    split-choice k (whole all) (recordAt offset all) (splitFrom (3 + lengthOf all) (offset + 1) bytes) (splitFrom (3 + lengthOf all) (k + offset + 1) bytes) offset (rw e (split-further k (3 + lengthOf all) (offset + 1) bytes))
 
 module _ {S E : Type 0} (machine : Machine S E) (k : ℕ) where
   pub events-further : (events : List E) (offset : ℕ) (s : S) → playEvents machine events (k + offset) s ≡ endingFurther k (playEvents machine events offset s)
@@ -73,3 +54,24 @@ module _ {S E : Type 0} (machine : Machine S E) (k : ℕ) where
       let on : c + count + 1 ≡ c + (count + 1) = omega arith in
       rw (record-further r s)
       (ended-further c count (playRecord machine r s) _ (λ t. playFrom machine rest (count + 1) t) (λ t. rw on (play-further c rest (count + 1) t)))
+
+module _ (trace : List ℕ) (at : ℕ) where
+  module _ {S E : Type 0} (machine : Machine S E) (count : ℕ) (s : S) where
+    pub plays-nothing : frontOf (drop at trace) ≡ Front.Nothing → playFrom machine (rest trace at) count s ≡ played taken at count s
+    unfolding playFrom
+    plays-nothing h = rw (rest-nothing trace at h)
+
+    pub plays-cut : frontOf (drop at trace) ≡ Front.Cut → playFrom machine (rest trace at) count s ≡ played headerCut at count s
+    unfolding playFrom
+    plays-cut h = rw (rest-cut trace at h)
+
+    module _ (header : Header) (h : frontOf (drop at trace) ≡ Front.Whole header) where
+      -- the record is done, and the rest is played from what it left
+      pub plays-on : (t : S) → playRecord machine (recordAt at (drop at trace)) s ≡ done t → playFrom machine (rest trace at) count s ≡ playFrom machine (rest trace (at + headerSize + header .length)) (count + 1) t
+      unfolding playFrom
+      plays-on t e = rw (rest-whole trace at header h, e)
+
+      -- the record stops, and the trace with it
+      pub plays-stop : (number offset : ℕ) (t : S) → playRecord machine (recordAt at (drop at trace)) s ≡ stopped number offset t → playFrom machine (rest trace at) count s ≡ played number offset count t
+      unfolding playFrom
+      plays-stop number offset t e = rw (rest-whole trace at header h, e)
