@@ -20,7 +20,6 @@ use Rattle.bus.specs.Image.{asked, stored}
 use Rattle.bus.specs.Places.{fresh}
 use Rattle.bus.specs.Registers.{imageOf, registersOf, _with_≔_}
 use Rattle.bus.specs.Calls.{replyOf, stateAfter, concluded, refused, askedBefore, callOn, call}
-use Rattle.bus.specs.Given.{numberFrom}
 use Rattle.bus.specs.Untouched.{addressIn, Untouched, OneByteWritten}
 use Rattle.bus.specs.declared.registers.Registers.{Registers}
 use Rattle.bus.specs.declared.answer.After.{After}
