@@ -1,4 +1,4 @@
--- Document 01, "Numbers given": a single event's call gives each number exactly when the table says so, with the byte and the dummy mark that it says.
+-- The reply that a call gives, with its number by the tests that lead to it; and that no event on a legal state meets 1 or 2.
 -- Assumes nothing.
 use mathlib.Core.Path.{_≡_, refl, sym, _∙_, ap, subst}
 use mathlib.Core.Bool.{Bool, true, false, cond, not, _&&_, _||_, or-true, false≢true}

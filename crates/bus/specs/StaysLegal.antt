@@ -3,6 +3,7 @@ use Prim.Native.Nat.{ℕ}
 use mathlib.Core.Path.{_≡_}
 use mathlib.Core.Bool.{true, false, cond}
 use mathlib.Core.List.{List}
+use mathlib.Core.Logic.{_↔_}
 use lib.Dec.{eqb}
 use Rattle.codes.specs.OneOf.{oneOf}
 use Rattle.bus.specs.Registers.{largestValues, imageOf, powerOn}
@@ -31,7 +32,7 @@ pub record Accepted (state memory : List ℕ) : Type 0 where
 
 pub record StaysLegal : Type 0 where
   -- Legal registers are those whose image is in its ranges.
-  pub theImage : (r : Registers) → (LegalRegisters r → legal (imageOf r) ≡ true) × (legal (imageOf r) ≡ true → LegalRegisters r)
+  pub theImage : (r : Registers) → LegalRegisters r ↔ legal (imageOf r) ≡ true
   -- The registers at power-on are legal.
   pub atPowerOn : LegalRegisters powerOn
   -- A taken event leaves legal registers where it found them.
