@@ -1,10 +1,9 @@
 -- Document 01's legal ranges are kept: what a taken event leaves is legal where what it found was.
 use Prim.Native.Nat.{ℕ}
 use mathlib.Core.Path.{_≡_}
-use mathlib.Core.Bool.{true, false, cond}
+use mathlib.Core.Bool.{true, false}
 use mathlib.Core.List.{List}
 use mathlib.Core.Logic.{_↔_}
-use lib.Dec.{eqb}
 use Rattle.codes.specs.OneOf.{oneOf}
 use Rattle.bus.specs.Registers.{largestValues, imageOf, powerOn}
 use Rattle.bus.specs.Chip.{Event, resetPulse, step, Leaves}
@@ -19,7 +18,7 @@ use Rattle.bus.specs.declared.answer.Answer.{Answer}
 pub record LegalRegisters (r : Registers) : Type 0 where
   pub inRanges : within largestValues (imageOf r) ≡ true
   pub code : oneOf awaitedCodes (r .awaited) ≡ true
-  pub savedZero : cond (eqb (r .modify) 0) (eqb (r .saved) 0) true ≡ true
+  pub savedZero : r .modify ≡ 0 → r .saved ≡ 0
 
 -- A taken event leaves legal registers.
 abbrev pub Keeps : Answer → Type 0
