@@ -1,3 +1,5 @@
+-- laws on tests, for the layers above
+pub mod Tests
 -- 1. A lent state and memory.
 -- what it says that they are long enough, and that an image is within its ranges
 pub mod Legal
