@@ -109,10 +109,10 @@ pub record NumbersGiven (state memory trace : List ℕ) : Type 0 where
   pub zero : Bytes trace → run state memory trace .stop .number ≡ taken ↔ AllTaken state memory trace
   pub zeroLeaves : Bytes trace → AllTaken state memory trace → run state memory trace ≡ byCalls (eventsIn trace) (stopOf taken (length trace) (recordsIn (split trace))) state memory
   -- 1: a lent state or memory is too short. Offset and count are 0, and nothing changes.
-  pub one : Bytes trace → run state memory trace .stop .number ≡ tooShort ↔ short state memory ≡ true
+  pub one : run state memory trace .stop .number ≡ tooShort ↔ short state memory ≡ true
   pub oneLeaves : short state memory ≡ true → run state memory trace ≡ ran (stopOf tooShort 0 0) state memory
   -- 2: the state image is out of its ranges, where 1 does not go first. Offset and count are 0, and nothing changes.
-  pub two : Bytes trace → run state memory trace .stop .number ≡ outOfRange ↔ (short state memory ≡ false) × (legal state ≡ false)
+  pub two : run state memory trace .stop .number ≡ outOfRange ↔ (short state memory ≡ false) × (legal state ≡ false)
   pub twoLeaves : short state memory ≡ false → legal state ≡ false → run state memory trace ≡ ran (stopOf outOfRange 0 0) state memory
   -- 3 to 7 and 10: an event is refused, at its byte. It has not happened: the count is of the records before its own, and what is left is what the run of the bytes before it leaves.
   pub event : Bytes trace → (number offset : ℕ) → oneOf eventNumbers number ≡ true → GivesAt (run state memory trace) number offset ↔ EventRefused state memory trace number offset
