@@ -71,14 +71,15 @@ tool: $(TOOL)
 	@echo '$(TOOL)'
 
 # A refused trace (status 1) is shown too; what cannot be shown (2) fails.  A
-# typed source (.txt) is made into a trace and told by its lines.
+# typed source (.txt) is made into a trace; it, and a trace that has one beside
+# it, is told by its lines.
 show: export TRACE := $(TRACE)
 show: export SSD1815B_TOOL := $(RUN) $(TOOL)
 show: $(TOOL)
-	@case "$$TRACE" in \
-	  *.txt) traces/typed.py show "$$TRACE" ;; \
-	  *) $(RUN) $(TOOL) show "$$TRACE" ;; \
-	esac || [ $$? -eq 1 ]
+	@if [[ $$TRACE = *.txt || $$TRACE = *.trace && -e $${TRACE%.trace}.txt ]]; \
+	then traces/typed.py show "$$TRACE"; \
+	else $(RUN) $(TOOL) show "$$TRACE"; \
+	fi || [ $$? -eq 1 ]
 
 help:
 	@echo 'make               the tool: $(TOOL)'

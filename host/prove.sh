@@ -11,8 +11,8 @@ The library is proved and compiled by rt, and there is no rt on the PATH.
 
 rt is the command of the Rattle kit, the firm's own toolchain.  The kit is no
 part of this repository and no package of Debian; it is to be had from the firm.
-It lies in /opt/rattle, with /opt/rattle/bin on the PATH or a link to its rt
-there; \`rt version\` answers once that is so.
+It belongs in /opt/rattle, and /opt/rattle/bin (or a link to its rt) on the PATH;
+once that is so, \`rt version\` answers.
 
 Without it, plain C shows the same in two seconds.  It is compared with the
 second program like the library, but nothing of it is proved:

@@ -230,6 +230,7 @@ typed "$own/mine.txt"
 check 'typed.py: refused, status 1' status_is 1
 check 'typed.py: the line' out_has "$own/mine.txt:7: command D3 40"
 check "typed.py: the tool's words follow" [ "$(line_of 'refused 5 at 21 (0x15): ')" -eq $(($(line_of "$own/mine.txt:7:") + 1)) ]
+check 'typed.py: the line, once' [ "$(grep -c "$own/mine.txt:7:" "$here/out")" -eq 1 ]
 check 'typed.py: the screen is shown' [ "$(line_of "$own/mine.txt")" -gt 30 ]
 check 'typed.py: nothing is written' [ ! -e "$own/mine.trace" ]
 typed list "$own/mine.txt"
@@ -261,8 +262,27 @@ echo 'command A' > "$own/mine.txt"
 typed "$own/mine.txt"
 check 'typed.py: a fault: status 2' status_is 2
 check 'typed.py: a fault, as make.py says it' err_is "$own/mine.txt:1: 'A' is not 2 hexadecimal digits"
-typed show "$own/site7.trace"
-check 'typed.py: a trace is no source' err_is "typed.py: $own/site7.trace: a source is named FILE.txt, and stands last"
+typed show "$own"
+check 'typed.py: neither source nor trace' err_is "typed.py: $own: FILE.txt or FILE.trace is wanted, and stands last"
+
+# A trace that was made of a source is told by its lines; one that was not is told without.
+printf 'reset\ncommand B9\n' > "$own/mine.txt"
+bytes 00 00 04 00 01 00 01 00 B9 > "$own/mine.trace"
+typed "$own/mine.trace"
+check 'typed.py: a trace of a source: status 1' status_is 1
+check 'typed.py: a trace of a source: the line' out_has "$own/mine.txt:2: command B9"
+for text in 'command B9' 'notes, and no source' '# notes'; do
+  echo "$text" > "$own/mine.txt"
+  typed "$own/mine.trace"
+  check "typed.py: a trace beside another text is shown ($text)" [ -n "$(line_of 'refused 4 at 8')" ]
+  check "typed.py: a trace beside another text, without lines ($text)" [ -z "$(line_of '.*mine.txt')" ]
+done
+rm "$own/mine.txt"
+typed "$own/mine.trace"
+check 'typed.py: a trace by itself' [ -n "$(line_of 'refused 4 at 8')" ]
+rm "$own/mine.trace"
+typed "$own/mine.trace"
+check 'typed.py: no such trace: status 2' status_is 2
 ran env -u SSD1815B_TOOL PATH=/usr/bin:/bin "$copy/traces/typed.py" "$own/site7.txt"
 check 'typed.py: no tool: status 2' status_is 2
 # shellcheck disable=SC2016

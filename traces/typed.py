@@ -4,6 +4,8 @@
   typed.py FILE.txt                          what `ssd1815b show` shows of it
   typed.py COMMAND [OPTION...] FILE.txt      the same for another command of the
                                              tool, with its options
+  typed.py [COMMAND [OPTION...]] FILE.trace  a trace; the lines are those of
+                                             FILE.txt, if it was made from that
 
 Where the trace is refused, the line that the refused byte came from stands
 before the tool's own words, and that of an earlier byte after them:
@@ -79,22 +81,39 @@ def told_line(source, lines, match):
 
 
 def told(words, source, lines):
-    """What the tool printed, with the lines of the source that it speaks of."""
-    rows = []
+    """What the tool printed, with the lines of the source that it speaks of, each once."""
+    rows, said = [], set()
     for row in words.splitlines(keepends=True):
+        refused = told_line(source, lines, REFUSED.match(row))
         earlier = told_line(source, lines, EARLIER.match(row))
-        rows += [told_line(source, lines, REFUSED.match(row)), row, b"  " + earlier if earlier else b""]
+        rows += [refused, row, b"  " + earlier if earlier and earlier not in said else b""]
+        said |= {refused, earlier}
     return b"".join(rows)
 
 
-def run(command, options, source):
-    """Runs the tool on the trace of a source; answers its status."""
+def lines_behind(trace):
+    """The lines that a trace was made from; none where there is no such source."""
+    source = trace.with_suffix(".txt")
+    lines, faults = make.lines_of(source) if source.exists() else ([], [])
+    return lines if not faults and make.trace(lines) == trace.read_bytes() else []
+
+
+def lines_typed(source):
+    """The lines of a source; ends where it has a fault."""
     lines, faults = make.lines_of(source)
     if faults:
         fail("\n".join(faults))
+    return lines
+
+
+def run(command, options, path):
+    """Runs the tool on a trace, or on that of a source; answers its status."""
+    typed = path.suffix == ".txt"
+    lines = lines_typed(path) if typed else lines_behind(path)
+    source = path.with_suffix(".txt")
     output = None if command in TOLD_ON_STANDARD_ERROR else subprocess.PIPE
-    done = subprocess.run([*tool(), command, *options, "-"], input=make.trace(lines), stdout=output,
-                          stderr=subprocess.PIPE, check=False)
+    done = subprocess.run([*tool(), command, *options, "-" if typed else str(path)], input=make.trace(lines),
+                          stdout=output, stderr=subprocess.PIPE, check=False)
     sys.stderr.buffer.write(told(done.stderr, source, lines))
     sys.stdout.buffer.write(told(done.stdout or b"", source, lines))
     sys.stdout.flush()
@@ -106,8 +125,8 @@ def main(arguments):
         print(__doc__, end="")
         return 0 if arguments else FAILED
     *before, name = arguments
-    if not name.endswith(".txt"):
-        fail(f"typed.py: {name}: a source is named FILE.txt, and stands last")
+    if not name.endswith((".txt", ".trace")):
+        fail(f"typed.py: {name}: FILE.txt or FILE.trace is wanted, and stands last")
     command, *options = before or ["show"]
     return run(command, options, pathlib.Path(name))
 

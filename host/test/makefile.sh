@@ -33,6 +33,10 @@ ran "${make[@]}" show TRACE="$here/typed.txt"
 check 'show: a typed trace that is refused is no error of make' status_is 0
 check 'show: a typed trace is told by its line' out_has "$here/typed.txt:3: command D3 40"
 check 'show: no trace is left of it' [ ! -e "$here/typed.trace" ]
+traces/make.py "$here/typed.txt" > "$here/out"
+ran "${make[@]}" show TRACE="$here/typed.trace"
+check 'show: a trace that was typed is told by its line' out_has "$here/typed.txt:3: command D3 40"
+rm "$here/typed.trace"
 echo 'command A' > "$here/typed.txt"
 ran "${make[@]}" show TRACE="$here/typed.txt"
 check 'show: a fault of a source is an error of make' status_is 2

@@ -1,10 +1,20 @@
-pub mod Pieces
-pub mod Decimals
-pub mod Digits
-pub mod Walk
+-- For the code: pieces of text put one after the other.
+pub mod PutPieces
+-- For the code: a row walked from left to right.
+pub mod AlongRow
+-- Numbers in decimal, step by step and read back.
+pub mod PlainDecimal
+-- The runs are the longest, left to right, and no other list of runs is.
 pub mod LongestRuns
-pub mod Telling
-pub mod Lengths
-pub mod Bound
-pub mod Outcomes
+-- How long each part of the text is.
+pub mod LengthsOfText
+-- No listing is longer than 27,408 bytes, and one is that long.
+pub mod LongestListing
+-- What a listing leaves in a lent buffer.
+pub mod LentBuffers
+-- Equal listings are of equal frames.
+pub mod EqualListings
+-- Listings that are worked out.
 pub mod Samples
+-- The call's statement settles it.
+pub mod Settled

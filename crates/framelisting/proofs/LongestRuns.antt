@@ -10,8 +10,8 @@ use borrow.Author.Tests.{ltb-true, ltb-false, leb-true, leb-false, le-leb, lt-le
 use lib.Dec.{ltb, leb}
 use lib.ListN.{length, getD}
 use Rattle.framelisting.specs.Runs.{Run, lit, anyLit, leading, runsFrom, runs}
-use Rattle.framelisting.specs.LongestRuns.{inside, covered, together, Apart, LongestRuns}
-use Rattle.framelisting.proofs.Walk.{gap}
+use Rattle.framelisting.specs.LongestRuns.{inside, covered, together, Apart, LongestRuns, RunsOfLines}
+use Rattle.framelisting.proofs.AlongRow.{gap}
 
 -- where a run stands to a place
 within : (run : Run) (x : ℕ) → run .first ≤ x → x ≤ run .last → inside run x ≡ true
@@ -138,7 +138,7 @@ one-list x (r ∷ rs) (s ∷ ss) a b agree =
     ap₂ _∷_ (ap₂ run f l) (one-list (r .last + 2) rs ss (a .2) (rw l (b .2)) (rests r s rs ss p q agree l))
 
 -- no other list is
-pub runs-alone : (row : List ℕ) (list : List Run) → LongestRuns row list → list ≡ runs row
+runs-alone : (row : List ℕ) (list : List Run) → LongestRuns row list → list ≡ runs row
 runs-alone row list l =
     let k = runs-are row in
     one-list 0 list (runs row) (l .apart) (k .apart) (λ x. l .exact x ∙ sym (k .exact x))
@@ -185,7 +185,7 @@ stretch z (run ∷ more) a x y h all = by (inside run x) (inside run y) refl ref
     by false false d e rest = rest (λ p f t. rw (right-of run p (omega (arith, next d, f))) at (all p f t))
 
 -- no run could be longer: lit places side by side are in one run
-pub runs-longest : (row : List ℕ) (x y : ℕ) → x ≤ y → ((p : ℕ) → x ≤ p → p ≤ y → lit (getD row p 0) ≡ true) → together (runs row) x y ≡ true
+runs-longest : (row : List ℕ) (x y : ℕ) → x ≤ y → ((p : ℕ) → x ≤ p → p ≤ y → lit (getD row p 0) ≡ true) → together (runs row) x y ≡ true
 runs-longest row x y h all = stretch 0 (runs row) (runs-are row .apart) x y h (λ p f t. runs-are row .exact p ∙ all p f t)
 
 -- a row has runs exactly where it has a lit place, so that no line is without a run
@@ -205,6 +205,9 @@ pub no-runs : (row : List ℕ) → anyLit row ≡ false → runs row ≡ []
 unfolding runs
 no-runs row e = none-from 0 row e
 
-pub some-run : (row : List ℕ) → anyLit row ≡ true → runs row ≡ [] → ⊥
+some-run : (row : List ℕ) → anyLit row ≡ true → runs row ≡ [] → ⊥
 unfolding runs
 some-run row e = some-from 0 row e
+
+pub runs-of-lines : RunsOfLines
+runs-of-lines = record { longest = runs-are; alone = runs-alone; joined = runs-longest; none = no-runs; some = some-run }

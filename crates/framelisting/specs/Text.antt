@@ -5,6 +5,7 @@ use mathlib.Core.List.{List, [], _∷_, _++_}
 use lib.Dec.{eqb}
 use lib.ListN.{take, drop}
 use Rattle.constants.specs.Sizes.{width, frameRows}
+use Rattle.constants.specs.Numbers.{taken}
 use Rattle.framelisting.specs.Ascii.{ascii}
 use Rattle.framelisting.specs.Decimal.{decimal}
 use Rattle.framelisting.specs.Runs.{Run, anyLit, runs}
@@ -21,16 +22,16 @@ runsText (run ∷ more) = runText run ++ runsText more
 unfoldable pub line : ℕ → List ℕ → List ℕ
 line p row = cond (anyLit row) (decimal p ++ runsText (runs row) ++ ascii "\n") []
 
--- Row p of a frame whose frameRows are w wide.
+-- Row p of a frame whose rows are w wide.
 unfoldable pub rowOf : ℕ → List ℕ → ℕ → List ℕ
 rowOf w frame p = take w (drop (p * w) frame)
 
--- The lines of n frameRows from row p on.
+-- The lines of n rows from row p on.
 unfoldable pub lines : ℕ → List ℕ → ℕ → ℕ → List ℕ
 lines w frame zero p = []
 lines w frame (suc n) p = line p (rowOf w frame p) ++ lines w frame n (suc p)
 
--- A frame w wide and h frameRows high.
+-- A frame w wide and h rows high.
 unfoldable pub frameText : ℕ → ℕ → List ℕ → List ℕ
 frameText w h frame =
     (ascii "frame " ++ decimal w ++ ascii " " ++ decimal h ++ ascii "\n") ++ lines w frame h 0 ++ ascii "end\n"
@@ -38,7 +39,7 @@ frameText w h frame =
 -- A run that stopped first prints its number and offset; number 0, taken, prints nothing.
 unfoldable pub refusedText : ℕ → ℕ → List ℕ
 refusedText number offset =
-    cond (eqb number 0) [] (ascii "refused " ++ decimal number ++ ascii " at " ++ decimal offset ++ ascii "\n")
+    cond (eqb number taken) [] (ascii "refused " ++ decimal number ++ ascii " at " ++ decimal offset ++ ascii "\n")
 
 -- The whole listing.
 unfoldable pub listingOf : ℕ → ℕ → List ℕ → List ℕ

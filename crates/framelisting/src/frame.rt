@@ -39,7 +39,7 @@ fn put_refused(text: &mut [u8], at: usize, number: u8, offset: usize) -> usize
     put(text, next, b'\n')
 }
 
-// Puts the lines of the 65 frameRows.
+// Puts the lines of the 65 rows.
 fn put_lines(text: &mut [u8], at: usize, frame: &[u8]) -> usize
     requires { ⌜ frameSize ≤ length (now frame) ⌝ }
     requires { ⌜ Countable at (lines width (now frame) frameRows 0) ⌝ }

@@ -35,7 +35,7 @@ pub fn put_number(text: &mut [u8], at: usize, number: usize) -> usize
     requires { ⌜ Countable at (decimal number) ⌝ }
     ensures { λ r. ⌜ Put (now (text .entry)) at (decimal number) r (now (text .exit)) ⌝ }
 {
-    let digit = 48 + (number % 10) as u8;
+    let digit = b'0' + (number % 10) as u8;
     if number < 10 {
         return put(text, at, digit);
     }

@@ -1,1 +1,2 @@
+-- What stands at an offset of a pack, and where a whole entry ends.
 pub mod Entries

@@ -1,1 +1,2 @@
+-- a pack of named traces, entry by entry
 pub mod Pack

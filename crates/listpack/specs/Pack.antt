@@ -10,7 +10,11 @@ use Rattle.listpack.specs.declared.pack.Entry.{Entry}
 abbrev pub number : List ℕ → ℕ → ℕ
 number bytes place = getD bytes place 0 + 256 * (getD bytes (place + 1) 0 + 256 * (getD bytes (place + 2) 0 + 256 * getD bytes (place + 3) 0))
 
--- An entry's header: the two lengths.
+-- bytes of a length in a header
+abbrev pub lengthSize : ℕ
+lengthSize = 4
+
+-- bytes of an entry's header: the two lengths
 abbrev pub headerSize : ℕ
 headerSize = 8
 
@@ -18,7 +22,7 @@ abbrev pub nameLength : List ℕ → ℕ
 nameLength bytes = number bytes 0
 
 abbrev pub traceLength : List ℕ → ℕ
-traceLength bytes = number bytes 4
+traceLength bytes = number bytes lengthSize
 
 -- What stands first among the bytes: nothing; a whole entry, its header not cut and its name and trace not past the end; or a cut one.
 unfoldable pub entryOf : List ℕ → Entry

@@ -5,6 +5,7 @@ use constants::sizes::LONGEST_LISTING;
 use libc::STDERR_FILENO;
 use libc::STDOUT_FILENO;
 use pack::Entry;
+use pack::HEADER_SIZE;
 use pack::entry_at;
 use standardinput::Input;
 use standardinput::read_input;
@@ -45,7 +46,7 @@ fn list_entries(pack: &[u8]) -> bool {
             Entry::Nothing => return print_count(count),
             Entry::Cut => return print_cut(at),
             Entry::Whole(sizes) => {
-                let name = at + 8;
+                let name = at + HEADER_SIZE;
                 let trace = name + sizes.name;
                 let end = trace + sizes.trace;
                 if list_entry(&pack[name..trace], &pack[trace..end]) {

@@ -4,6 +4,11 @@ ghost use Prim.Native.Nat.{_+_, _<_};
 ghost use lib.ListN.{length, drop};
 ghost use Rattle.listpack.specs.Pack.{number, entryOf};
 
+// Bytes of a length in a header, and of an entry's header, which has two.
+const LENGTH_SIZE: usize = 4;
+
+pub const HEADER_SIZE: usize = 8;
+
 // What an entry's header says: the length of its name, and of its trace.
 pub struct Sizes {
     pub name: usize,
@@ -25,13 +30,13 @@ pub fn entry_at(pack: &[u8], at: usize) -> Entry
         return Entry::Nothing;
     }
     let left = pack.len() - at;
-    if left < 8 {
+    if left < HEADER_SIZE {
         return Entry::Cut;
     }
     let name = number_at(pack, at);
-    let trace = number_at(pack, at + 4);
+    let trace = number_at(pack, at + LENGTH_SIZE);
     let both = name + trace;
-    if both <= left - 8 {
+    if both <= left - HEADER_SIZE {
         return Entry::Whole(Sizes { name, trace });
     }
     Entry::Cut

@@ -1,1 +1,2 @@
+-- what can be said of reading
 pub mod Input

@@ -4,6 +4,10 @@ pub mod ListedByCalls
 pub mod FinalFrame
 -- Document 01's own trace prints what it says.
 pub mod Sample
+-- What a listing leaves in a lent buffer.
+pub mod LentBuffer
+-- The call's statement settles it.
+pub mod Settled
 -- A column of a frame by what each of its places shows, for the table that follows.
 pub mod FrameColumns
 -- The definitions beside the second program, on a spread of cases.

@@ -1,25 +1,23 @@
--- What start, run, draw and list leave one after the other is the listing of the trace, and a buffer that holds any listing holds it.
+-- What start, run, draw and list leave one after the other is the listing of the trace, whole at the start of the buffer.
 -- Assumes nothing.
 use mathlib.Core.Path.{_≡_, refl, sym, _∙_, ap}
-use mathlib.Core.List.{List, _++_}
+use mathlib.Core.List.{List}
 use Prim.Native.Nat.{ℕ, _^_, _≤_, _<_}
 use native.Mathlib.Omega.{arith}
-use mathlib.Core.Bool.{Bool, true, false, cond}
-use lib.Dec.{ltb}
 use borrow.Author.Tests.{le-ltb}
-use lib.ListN.{length, drop, replicate, length-append}
+use lib.ListN.{length, replicate}
 use Rattle.constants.specs.Numbers.{taken}
 use Rattle.constants.specs.Sizes.{imageSize, memorySize, frameSize, longestListing}
 use Rattle.bus.specs.Registers.{powerOn, imageOf}
 use Rattle.bus.specs.Image.{short, stored}
 use Rattle.bus.specs.Start.{registersAtStart, memoryAtStart, started, startOf}
-use Rattle.trace.specs.Run.{Ran, ran, run}
+use Rattle.trace.specs.Run.{ran, run}
 use Rattle.trace.specs.declared.run.Stop.{Stop}
 use Rattle.picture.specs.Draw.{drawn, draw}
 use Rattle.framelisting.specs.Text.{listingOf}
-use Rattle.framelisting.specs.Listing.{Outcome, outcome, written, listed}
+use Rattle.framelisting.specs.Listing.{outcome, written, listed}
 use Rattle.framelisting.specs.declared.Listed.{Listed}
-use Rattle.framelisting.proofs.Outcomes.{always-enough}
+use Rattle.framelisting.proofs.LentBuffers.{always-enough}
 use Rattle.tracelisting.specs.TraceListing.{ranFromStart, frameAfter, listingOfTrace, printed, printedOf}
 
 -- the start in arrays of the listing's own
@@ -52,12 +50,3 @@ never-refused listing text text′ answer number e a =
     let same : Listed.Refused number ≡ Listed.Written (length listing) = sym a ∙ ap (λ o. o .answer) e in
     let z : _≡_ {A = ℕ} 0 1 = cc in
     omega arith
-
--- the answer is within the buffer
-pub within-text : (whole text text′ : List ℕ) (size : ℕ) → printed size text′ ≡ printedOf whole text → size ≤ length text′
-unfolding printedOf
-within-text whole text text′ size e = by (ltb (length text) longestListing) e
-  where
-    by : (t : Bool) → printed size text′ ≡ cond t (printed 0 text) (printed (length whole) (whole ++ drop (length whole) text)) → size ≤ length text′
-    by true p = omega (arith, ap (λ o. o .size) p)
-    by false p = omega (arith, ap (λ o. o .size) p, ap (λ o. length (o .text)) p ∙ length-append whole (drop (length whole) text))

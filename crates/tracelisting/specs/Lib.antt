@@ -1,2 +1,10 @@
+-- from a trace to the text that is printed for it
 pub mod TraceListing
+-- what is listed is what the run leaves on the glass
+pub mod FinalFrame
+-- document 01's own trace, and what it prints whole
 pub mod Sample
+-- what a buffer has then, by its length
+pub mod LentBuffer
+-- the call's statement settles it
+pub mod Settled

@@ -1,4 +1,4 @@
--- `listing::list` meets its contract: in a buffer that is long enough for any listing the text is put at once; in another it is first measured in an empty one, which changes nothing.
+-- `framelisting::list` meets its contract: in a buffer that is long enough for any listing the text is put at once; in another it is first measured in an empty one, which changes nothing.
 -- Assumes nothing.
 use borrow.Author.Needs.{needs}
 use Rattle.framelisting.proofs.list.Statement.{statement}
@@ -14,9 +14,9 @@ use lib.Seq.{sets, sets-eq}
 use Rattle.framelisting.specs.Put.{Put}
 use Rattle.framelisting.specs.Text.{listingOf}
 use Rattle.framelisting.specs.Listing.{outcome, written}
-use Rattle.framelisting.proofs.Pieces.{sets-empty}
-use Rattle.framelisting.proofs.Bound.{at-most}
-use Rattle.framelisting.proofs.Outcomes.{frame-short, text-short, both-long}
+use Rattle.framelisting.proofs.PutPieces.{sets-empty}
+use Rattle.framelisting.proofs.LongestListing.{at-most}
+use Rattle.framelisting.proofs.LentBuffers.{frame-short, text-short, both-long}
 use Rattle.framelisting.specs.declared.Listed.{Listed}
 
 -- a buffer of which only the first 0 bytes were lent is as it was

@@ -1,4 +1,4 @@
--- `lists::list_entries` is safe and ends: each whole entry is within the pack, and the next begins further on.
+-- `listpack::list_entries` is safe and ends: each whole entry is within the pack, and the next begins further on.
 -- Assumes nothing.
 use Prim.Native.Nat.{_+_, _-_, _≤_}
 use mathlib.Core.Path.{sym, _∙_}

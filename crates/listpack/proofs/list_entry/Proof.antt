@@ -1,9 +1,9 @@
--- `lists::list_entry` is safe and ends: the listing is within its buffer.
+-- `listpack::list_entry` is safe and ends: the listing is within its buffer.
 -- Assumes nothing.
 use borrow.Author.Needs.{needs}
 use mathlib.Core.Path.{sym}
 use lib.Seq.{length-take-le}
-use Rattle.tracelisting.proofs.ListedByCalls.{within-text}
+use Rattle.tracelisting.proofs.LentBuffer.{within-text}
 use Rattle.listpack.proofs.list_entry.Statement.{statement}
 use Rattle.listpack.proofs.list_entry.Tie as tie
 

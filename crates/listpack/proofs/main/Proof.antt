@@ -1,4 +1,4 @@
--- `lists::main` is safe and ends: what was read is within its buffer.
+-- `listpack::main` is safe and ends: what was read is within its buffer.
 -- Assumes nothing.
 use Rattle.standardinput.proofs.Reading.{read-counts}
 use borrow.Author.Needs.{needs}

@@ -1,9 +1,9 @@
--- `list::main` is safe and ends: what was read and what it prints are within their buffers.
+-- `listtrace::main` is safe and ends: what was read and what it prints are within their buffers.
 -- Assumes nothing.
 use mathlib.Core.Path.{sym}
 use lib.Seq.{length-take-le}
 use Rattle.standardinput.proofs.Reading.{read-counts}
-use Rattle.tracelisting.proofs.ListedByCalls.{within-text}
+use Rattle.tracelisting.proofs.LentBuffer.{within-text}
 use borrow.Author.Needs.{needs}
 use Rattle.listtrace.proofs.main.Statement.{statement}
 use Rattle.listtrace.proofs.main.Tie as tie

@@ -1,4 +1,4 @@
--- `input::read_input` meets its contract: no more is counted than the buffer holds, and each read that gives something leaves less to fill.
+-- `standardinput::read_input` meets its contract: no more is counted than the buffer holds, and each read that gives something leaves less to fill.
 -- Assumes nothing.
 use Prim.Native.Nat.{_-_, _≤_}
 use mathlib.Core.Path.{_≡_, refl, _∙_}

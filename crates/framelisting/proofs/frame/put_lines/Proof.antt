@@ -1,4 +1,4 @@
--- `listing::frame::put_lines` meets its contract: the lines of the frameRows from here on are put from here on.
+-- `framelisting::frame::put_lines` meets its contract: the lines of the frameRows from here on are put from here on.
 -- Assumes nothing.
 use Rattle.framelisting.proofs.frame.put_lines.Statement.{statement}
 use Rattle.framelisting.proofs.frame.put_lines.Tie as tie
@@ -12,7 +12,7 @@ use lib.ListN.{take, drop}
 use Rattle.constants.specs.Sizes.{width, frameRows}
 use Rattle.framelisting.specs.Put.{Countable}
 use Rattle.framelisting.specs.Text.{line, rowOf, lines}
-use Rattle.framelisting.proofs.Pieces.{Rest, begin, turn, done, room, room-left, rest-length}
+use Rattle.framelisting.proofs.PutPieces.{Rest, begin, turn, done, room, room-left, rest-length}
 
 -- the lines from row p on are its own and those after it
 lines-on : (w : ℕ) (frame : List ℕ) (n p : ℕ) → p < n → lines w frame (n - p) p ≡ line p (rowOf w frame p) ++ lines w frame (n - (p + 1)) (p + 1)

@@ -1,4 +1,4 @@
--- `listing::frame::put_listing` meets its contract: four pieces one after the other.
+-- `framelisting::frame::put_listing` meets its contract: four pieces one after the other.
 -- Assumes nothing.
 use borrow.Author.Needs.{needs}
 use Rattle.framelisting.proofs.frame.put_listing.Statement.{statement}
@@ -8,8 +8,8 @@ use denote.Ref.{now}
 use Rattle.framelisting.specs.Ascii.{ascii}
 use Rattle.framelisting.specs.Decimal.{digits, decimal}
 use Rattle.framelisting.specs.Text.{frameText, listingOf}
-use Rattle.framelisting.proofs.Pieces.{after}
-use Rattle.framelisting.proofs.Lengths.{listing-length}
+use Rattle.framelisting.proofs.PutPieces.{after}
+use Rattle.framelisting.proofs.LengthsOfText.{listing-length}
 
 put-refused-requires : tie.Need-put-refused-requires
 put-refused-requires c κs =

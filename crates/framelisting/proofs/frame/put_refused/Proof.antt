@@ -1,4 +1,4 @@
--- `listing::frame::put_refused` meets its contract: five pieces one after the other, or none.
+-- `framelisting::frame::put_refused` meets its contract: five pieces one after the other, or none.
 -- Assumes nothing.
 use borrow.Author.Needs.{needs}
 use Rattle.framelisting.proofs.frame.put_refused.Statement.{statement}
@@ -7,8 +7,8 @@ use native.Mathlib.Omega.{arith}
 use borrow.Author.Tests.{ne-eqb}
 use Rattle.framelisting.specs.Ascii.{ascii}
 use Rattle.framelisting.specs.Text.{refusedText}
-use Rattle.framelisting.proofs.Pieces.{none, after}
-use Rattle.framelisting.proofs.Lengths.{taken-nothing, refused-length}
+use Rattle.framelisting.proofs.PutPieces.{none, after}
+use Rattle.framelisting.proofs.LengthsOfText.{taken-nothing, refused-length}
 
 returns : tie.Need-returns
 returns c =

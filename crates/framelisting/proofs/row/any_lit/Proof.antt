@@ -1,4 +1,4 @@
--- `listing::row::any_lit` meets its contract: the places from here on decide.
+-- `framelisting::row::any_lit` meets its contract: the places from here on decide.
 -- Assumes nothing.
 use Rattle.framelisting.proofs.row.any_lit.Statement.{statement}
 use Rattle.framelisting.proofs.row.any_lit.Tie as tie
@@ -7,7 +7,7 @@ use mathlib.Core.Path.{_≡_, refl, sym, _∙_}
 use native.Mathlib.Omega.{arith}
 use lib.ListN.{length, drop}
 use Rattle.framelisting.specs.Runs.{anyLit}
-use Rattle.framelisting.proofs.Walk.{any-here, any-on, any-end}
+use Rattle.framelisting.proofs.AlongRow.{any-here, any-on, any-end}
 
 abbrev Inv-loop : tie.InvT-loop
 Inv-loop row x₀ x = (x ≤ length row) × (anyLit row ≡ anyLit (drop x row))

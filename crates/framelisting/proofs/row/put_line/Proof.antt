@@ -1,4 +1,4 @@
--- `listing::row::put_line` meets its contract: three pieces one after the other, or none.
+-- `framelisting::row::put_line` meets its contract: three pieces one after the other, or none.
 -- Assumes nothing.
 use borrow.Author.Needs.{needs}
 use Rattle.framelisting.proofs.row.put_line.Statement.{statement}
@@ -8,8 +8,8 @@ use native.Mathlib.Omega.{arith}
 use denote.Ref.{now}
 use Rattle.framelisting.specs.Ascii.{ascii}
 use Rattle.framelisting.specs.Text.{line}
-use Rattle.framelisting.proofs.Pieces.{none, after}
-use Rattle.framelisting.proofs.Lengths.{line-length}
+use Rattle.framelisting.proofs.PutPieces.{none, after}
+use Rattle.framelisting.proofs.LengthsOfText.{line-length}
 
 any-lit-requires : tie.Need-any-lit-requires
 any-lit-requires c κs = search needs

@@ -1,4 +1,4 @@
--- `listing::row::put_run` meets its contract: four pieces one after the other.
+-- `framelisting::row::put_run` meets its contract: four pieces one after the other.
 -- Assumes nothing.
 use borrow.Author.Needs.{needs}
 use Rattle.framelisting.proofs.row.put_run.Statement.{statement}
@@ -8,8 +8,8 @@ use native.Mathlib.Omega.{arith}
 use Rattle.framelisting.specs.Ascii.{ascii}
 use Rattle.framelisting.specs.Runs.{Run}
 use Rattle.framelisting.specs.Text.{runText}
-use Rattle.framelisting.proofs.Pieces.{after}
-use Rattle.framelisting.proofs.Lengths.{run-length}
+use Rattle.framelisting.proofs.PutPieces.{after}
+use Rattle.framelisting.proofs.LengthsOfText.{run-length}
 
 abbrev run : ℕ → ℕ → Run
 run a b = record { first = a; last = b }

@@ -1,4 +1,4 @@
--- `listing::row::put_runs` meets its contract: the text of the runs from here on is put from here on.
+-- `framelisting::row::put_runs` meets its contract: the text of the runs from here on is put from here on.
 -- Assumes nothing.
 use Rattle.framelisting.proofs.row.put_runs.Statement.{statement}
 use Rattle.framelisting.proofs.row.put_runs.Tie as tie
@@ -8,8 +8,8 @@ use denote.Ref.{now}
 use lib.ListN.{length, drop}
 use Rattle.framelisting.specs.Runs.{runs, runsFrom}
 use Rattle.framelisting.specs.Text.{runText, runsText}
-use Rattle.framelisting.proofs.Pieces.{Rest, begin, turn, done, room, room-left, rest-length}
-use Rattle.framelisting.proofs.Walk.{runs-on, runs-end, run-text, run-within}
+use Rattle.framelisting.proofs.PutPieces.{Rest, begin, turn, done, room, room-left, rest-length}
+use Rattle.framelisting.proofs.AlongRow.{runs-on, runs-end, run-text, run-within}
 
 abbrev Inv-loop : tie.InvT-loop
 Inv-loop text₀ at row next₀ x₀ text next x = (x ≤ length row) × Rest text₀ at (runsText (runs row)) text next (runsText (runsFrom x 0 (drop x row)))

@@ -1,4 +1,4 @@
--- `listing::row::run_end` meets its contract: the places passed lead the row from the first one on.
+-- `framelisting::row::run_end` meets its contract: the places passed lead the row from the first one on.
 -- Assumes nothing.
 use Rattle.framelisting.proofs.row.run_end.Statement.{statement}
 use Rattle.framelisting.proofs.row.run_end.Tie as tie
@@ -8,7 +8,7 @@ use native.Mathlib.Omega.{arith}
 use denote.Ref.{now}
 use lib.ListN.{length, drop}
 use Rattle.framelisting.specs.Runs.{leading}
-use Rattle.framelisting.proofs.Walk.{leading-here, leading-on, leading-end}
+use Rattle.framelisting.proofs.AlongRow.{leading-here, leading-on, leading-end}
 
 abbrev Inv-loop : tie.InvT-loop
 Inv-loop row from x₀ x = (x ≤ length row) × (from + leading (drop from row) ≡ x + leading (drop x row))

@@ -6,8 +6,8 @@ use Rattle.framelisting.specs.Decimal.{decimal}
 use mathlib.Core.Path.{_∙_, ap}
 use native.Mathlib.Omega.{arith}
 use lib.ListN.{length}
-use Rattle.framelisting.proofs.Pieces.{after, room, room-after, put-length}
-use Rattle.framelisting.proofs.Decimals.{one-digit, more-digits}
+use Rattle.framelisting.proofs.PutPieces.{after, room, room-after, put-length}
+use Rattle.framelisting.proofs.PlainDecimal.{one-digit, more-digits}
 use borrow.Fn.Kinds.{In}
 use borrow.Fn.PlainCycle.{Measures, is, falls, and}
 use Rattle.framelisting.proofs.text.put_number.Reads as put-number

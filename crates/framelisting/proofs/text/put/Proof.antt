@@ -1,4 +1,4 @@
--- `listing::text::put` meets its contract: a place past the end takes no byte.
+-- `framelisting::text::put` meets its contract: a place past the end takes no byte.
 -- Assumes nothing.
 use borrow.Author.Needs.{needs}
 use Rattle.framelisting.proofs.text.put.Statement.{statement}

@@ -1,4 +1,4 @@
--- `listing::text::put_bytes` meets its contract: what is left of the bytes is put from here on.
+-- `framelisting::text::put_bytes` meets its contract: what is left of the bytes is put from here on.
 -- Assumes nothing.
 use Rattle.framelisting.proofs.text.put_bytes.Statement.{statement}
 use Rattle.framelisting.proofs.text.put_bytes.Tie as tie
@@ -6,7 +6,7 @@ use Prim.Native.Nat.{_≤_, _-_}
 use native.Mathlib.Omega.{arith}
 use denote.Ref.{now}
 use lib.ListN.{length, drop, length-drop, drop-of-length-le}
-use Rattle.framelisting.proofs.Pieces.{from, Rest, begin, turn, done, room-left, rest-length}
+use Rattle.framelisting.proofs.PutPieces.{from, Rest, begin, turn, done, room-left, rest-length}
 
 abbrev Inv-loop : tie.InvT-loop
 Inv-loop text₀ at bytes next₀ i₀ text next i = (i ≤ length bytes) × Rest text₀ at bytes text next (drop i bytes)

@@ -1,4 +1,4 @@
--- `lists::pack::entry_at` meets its contract: each return by the tests that led there.
+-- `listpack::pack::entry_at` meets its contract: each return by the tests that led there.
 -- Assumes nothing.
 use borrow.Author.Needs.{needs}
 use mathlib.Core.Path.{sym}

@@ -1,8 +1,8 @@
--- What a listing tells: two that are equal are of one number, of one offset where the run stopped, and of frames that are lit at the same places.
+-- Two listings that are equal are of one number, of one offset where the run stopped, and of one frame: read from the left, each piece tells what it is of.
 -- Assumes nothing.
-use Prim.Native.Nat.{ℕ, zero, suc, _+_, _*_, _^_, _≤_, _<_}
+use Prim.Native.Nat.{ℕ, zero, suc, _+_, _*_, _/_, _%_, _^_, _≤_, _<_}
 use mathlib.Core.Path.{_≡_, refl, sym, _∙_, ap, ap₂}
-use mathlib.Core.Bool.{Bool, true, false}
+use mathlib.Core.Bool.{Bool, true, false, false≢true}
 use mathlib.Core.List.{List, [], _∷_, _++_, append-assoc}
 use mathlib.Core.Logic.{⊎-elim}
 use native.Mathlib.Nat.{eq-or-lt-of-le}
@@ -10,16 +10,17 @@ use native.Mathlib.Omega.{arith}
 use borrow.Author.Tests.{eqb-true, eqb-false, ne-eqb}
 use lib.Dec.{eqb, lit<, lit≤}
 use lib.ListN.{length, length-take, getD, take, drop}
-use lib.Seq.{getD-take, getD-drop}
+use lib.Seq.{getD-take, getD-drop, ext-getD}
 use Rattle.constants.specs.Sizes.{width, frameRows}
 use Rattle.framelisting.specs.Ascii.{ascii}
 use Rattle.framelisting.specs.Decimal.{decimal}
 use Rattle.framelisting.specs.Runs.{Run, lit, anyLit, leading, runsFrom, runs}
 use Rattle.framelisting.specs.Text.{runText, runsText, line, rowOf, lines, frameText, refusedText, listingOf}
-use Rattle.framelisting.proofs.Digits.{Stop, number-first, digit-first}
-use Rattle.framelisting.proofs.Walk.{leading-length}
+use Rattle.framelisting.specs.EqualListings.{AsDrawn, EqualListings}
+use Rattle.framelisting.proofs.PlainDecimal.{Stop, number-first, digit-first}
+use Rattle.framelisting.proofs.AlongRow.{leading-length}
 use Rattle.framelisting.proofs.LongestRuns.{runs-are, no-runs}
-use Rattle.framelisting.proofs.Lengths.{taken-nothing}
+use Rattle.framelisting.proofs.LengthsOfText.{taken-nothing}
 
 cancel : (p s t : List ℕ) → p ++ s ≡ p ++ t → s ≡ t
 cancel [] s t e = e
@@ -77,7 +78,7 @@ module _ (w : ℕ) (narrow : w ≤ 2 ^ 64) where
   unfolding runs rowOf
   small-row frame p = small-from 0 0 (take w (drop (p * w) frame)) (omega (arith, length-take w (drop (p * w) frame), narrow))
 
-  -- the lines of later frameRows do not begin with an earlier row's number
+  -- the lines of later rows do not begin with an earlier row's number
   later-lines : (frame : List ℕ) (n q p : ℕ) (s : List ℕ) → p < q → q + n ≤ 2 ^ 64 → Stop s → decimal p ++ s ≡ lines w frame n q ++ ascii "end\n" → ⊥
   unfolding lines ascii
   later-lines frame zero q p s h k c e = omega (arith, digit-first p s, ap (λ l. getD l 0 0) e)
@@ -188,9 +189,27 @@ begins : (frame : List ℕ) → getD (frameText width frameRows frame) 0 0 < 114
 unfolding frameText ascii
 begins frame = lit< tt
 
--- The whole listing tells them all.
-pub listing-tells : (m n o u : ℕ) (f g : List ℕ) → m < 2 ^ 64 → n < 2 ^ 64 → o < 2 ^ 64 → u < 2 ^ 64 → listingOf m o f ≡ listingOf n u g → (m ≡ n) × ((m ≡ 0 → ⊥) → o ≡ u) × ((p x : ℕ) → p < frameRows → x < width → lit (getD f (p * width + x) 0) ≡ lit (getD g (p * width + x) 0))
+-- places that are 0 or 1 and both lit or both dark are equal
+one-bit : (b c : ℕ) → b ≤ 1 → c ≤ 1 → lit b ≡ lit c → b ≡ c
+unfolding lit
+one-bit zero zero h k e = refl
+one-bit zero (suc c) h k e = absurd (false≢true e)
+one-bit (suc b) zero h k e = absurd (false≢true (sym e))
+one-bit (suc b) (suc c) h k e = omega (arith, h, k)
+
+-- frames as they are drawn that are lit at the same places are equal
+same-places : (f g : List ℕ) → ((p x : ℕ) → p < frameRows → x < width → lit (getD f (p * width + x) 0) ≡ lit (getD g (p * width + x) 0)) → AsDrawn f → AsDrawn g → f ≡ g
+same-places f g places a b = ext-getD 0 f g (a .size ∙ sym (b .size)) at
+  where
+    at : (i : ℕ) → i < length f → getD f i 0 ≡ getD g i 0
+    at i h =
+        let e : i / width * width + i % width ≡ i = omega arith in
+        one-bit (getD f i 0) (getD g i 0) (a .places i) (b .places i)
+        (rw e at (places (i / width) (i % width) (omega (arith, h, a .size)) (omega arith)))
+
+pub equal-listings : EqualListings
 unfolding listingOf
-listing-tells m n o u f g a b c d e =
+equal-listings m n o u f g a b c d e =
     let r = refused-tells m n o u (frameText width frameRows f) (frameText width frameRows g) a b c d (begins f) (begins g) e in
-    (r .0, r .1, frame-tells f g (r .2))
+    let places = frame-tells f g (r .2) in
+    record { number = r .0; offset = r .1; places = places; frame = same-places f g places }

@@ -1,7 +1,7 @@
--- How the call ends, by the lengths of what is lent.
+-- What a listing leaves in a lent buffer, by the lengths of what is lent.
 -- Assumes nothing.
 use Prim.Native.Nat.{ℕ, _≤_, _<_, _^_}
-use mathlib.Core.Path.{_≡_, refl, sym, _∙_, ap}
+use mathlib.Core.Path.{_≡_, refl}
 use mathlib.Core.Bool.{Bool, true, false, cond, _||_}
 use mathlib.Core.List.{List}
 use native.Mathlib.Omega.{arith}
@@ -12,9 +12,10 @@ use lib.Seq.{drop-append-seam}
 use Rattle.constants.specs.Numbers.{tooShort}
 use Rattle.constants.specs.Sizes.{frameSize, longestListing}
 use Rattle.framelisting.specs.Text.{listingOf}
-use Rattle.framelisting.specs.Listing.{Outcome, outcome, written, listed}
+use Rattle.framelisting.specs.Listing.{outcome, written, listed}
+use Rattle.framelisting.specs.LentBuffers.{OfLentBuffers}
 use Rattle.framelisting.specs.declared.Listed.{Listed}
-use Rattle.framelisting.proofs.Bound.{at-most}
+use Rattle.framelisting.proofs.LongestListing.{at-most}
 
 module _ (number offset : ℕ) (frame text : List ℕ) where
   pub frame-short : length frame < frameSize → listed number offset frame text ≡ outcome (Listed.Refused tooShort) text
@@ -30,7 +31,7 @@ module _ (number offset : ℕ) (frame text : List ℕ) where
   both-long h k = rw (le-ltb (length frame) frameSize h, le-ltb (length text) (length (listingOf number offset frame)) k)
 
   -- no byte past the text changes, and none at all where the call is refused
-  pub past : drop (length (listingOf number offset frame)) (listed number offset frame text .text) ≡ drop (length (listingOf number offset frame)) text
+  past : drop (length (listingOf number offset frame)) (listed number offset frame text .text) ≡ drop (length (listingOf number offset frame)) text
   unfolding listed written
   past = by (ltb (length frame) frameSize || ltb (length text) (length (listingOf number offset frame)))
     where
@@ -45,6 +46,6 @@ module _ (number offset : ℕ) (frame text : List ℕ) where
   pub always-enough : number < 256 → offset < 2 ^ 64 → frameSize ≤ length frame → longestListing ≤ length text → listed number offset frame text ≡ written (listingOf number offset frame) text
   always-enough n o h k = both-long h (omega (arith, at-most number offset frame n o, k))
 
--- Two results that satisfy the call's statement are equal.
-pub same-outcome : {stated : Outcome} (r s : Listed) (text text′ : List ℕ) → outcome r text ≡ stated → outcome s text′ ≡ stated → (r ≡ s) × (text ≡ text′)
-same-outcome r s text text′ p q = let e = p ∙ sym q in (ap (λ o. o .answer) e, ap (λ o. o .text) e)
+pub of-lent-buffers : OfLentBuffers
+of-lent-buffers number offset frame text =
+    record { frameShort = frame-short number offset frame text; textShort = text-short number offset frame text; bothLong = both-long number offset frame text; alwaysEnough = always-enough number offset frame text; past = past number offset frame text }

@@ -1,4 +1,4 @@
--- A decimal number read back: its bytes are digits, they say the number, and they end where the digits end.
+-- Decimal numbers: what one step of the definition says; and read back, their bytes are digits, say the number, and end where the digits end.
 -- Assumes nothing.
 use Prim.Native.Nat.{ℕ, zero, suc, _+_, _-_, _*_, _/_, _%_, _^_, _≤_, _<_}
 use mathlib.Core.Path.{_≡_, refl, sym, _∙_, ap}
@@ -6,15 +6,33 @@ use mathlib.Core.Bool.{Bool, true, false, cond}
 use mathlib.Core.List.{List, [], _∷_, _++_}
 use native.Mathlib.Nat.{pow-suc}
 use native.Mathlib.Omega.{arith}
-use borrow.Author.Tests.{ltb-true, ltb-false}
+use borrow.Author.Tests.{ltb-true, ltb-false, lt-ltb, le-ltb}
 use lib.Dec.{ltb}
 use lib.ListN.{length, length-append, getD, List·getD-append}
 use Rattle.framelisting.specs.Decimal.{digits, decimal}
+use Rattle.framelisting.specs.PlainDecimal.{Digits, value, Plain}
 
--- bytes from 48 to 57
-abbrev pub Digits : List ℕ → Type 0
-Digits [] = Unit {0}
-Digits (d ∷ more) = (48 ≤ d) × (d ≤ 57) × Digits more
+-- as many digits as n has are enough
+enough : (f g n : ℕ) → n < 10 ^ suc f → n < 10 ^ suc g → digits (suc f) n ≡ digits (suc g) n
+unfolding digits
+enough zero g n p q = rw (lt-ltb n 10 p)
+enough (suc f) zero n p q = rw (lt-ltb n 10 q)
+enough (suc f) (suc g) n p q =
+    rw (enough f g (n / 10) (omega (arith, p, pow-suc 10 (suc f))) (omega (arith, q, pow-suc 10 (suc g))))
+
+-- below 10 one digit
+pub one-digit : (n : ℕ) → n < 10 → decimal n ≡ (48 + n % 10) ∷ []
+unfolding decimal digits
+one-digit n h = rw (lt-ltb n 10 h)
+
+-- from 10 on the digits of the tenth part, and then the last one
+last-digit : (f n : ℕ) → 10 ≤ n → digits (suc f) n ≡ digits f (n / 10) ++ ((48 + n % 10) ∷ [])
+unfolding digits
+last-digit f n h = rw (le-ltb n 10 h)
+
+pub more-digits : (n : ℕ) → 10 ≤ n → n < 2 ^ 64 → decimal n ≡ decimal (n / 10) ++ ((48 + n % 10) ∷ [])
+unfolding decimal
+more-digits n h k = last-digit 19 n h ∙ rw (enough 18 19 (n / 10) (omega (arith, k)) (omega (arith, k)))
 
 digits-and : (a b : List ℕ) → Digits a → Digits b → Digits (a ++ b)
 digits-and [] b p q = q
@@ -28,11 +46,6 @@ all-digits (suc f) n = digits-and (cond (ltb n 10) [] (digits f (n / 10))) ((48 
     by : (t : Bool) → Digits (digits f (n / 10)) → Digits (cond t [] (digits f (n / 10)))
     by true r = tt
     by false r = r
-
--- the number that digits say, after the number that the digits before them say
-abbrev pub value : ℕ → List ℕ → ℕ
-value so [] = so
-value so (d ∷ more) = value (so * 10 + (d - 48)) more
 
 value-and : (so : ℕ) (a b : List ℕ) → value so (a ++ b) ≡ value (value so a) b
 value-and so [] b = refl
@@ -109,7 +122,6 @@ digit-first n s = rw (List·getD-append (digits 20 n) s 0 0 (some-digit 19 n)) (
     by [] p = omega arith
     by (d ∷ more) p = p .1
 
--- Plain decimal: digits alone, that say the number, with no leading zero.
-pub plain : (n : ℕ) → n < 2 ^ 64 → Digits (decimal n) × (value 0 (decimal n) ≡ n) × (getD (decimal n) 0 0 ≡ 48 → n ≡ 0)
+pub plain : Plain
 unfolding decimal
-plain n h = (all-digits 20 n, read-back 19 n (omega (arith, h)), no-leading-zero 19 n (omega (arith, h)))
+plain n h = record { alone = all-digits 20 n; says = read-back 19 n (omega (arith, h)); noLeadingZero = no-leading-zero 19 n (omega (arith, h)) }

@@ -1,4 +1,4 @@
--- No listing is longer than 27,408 bytes, so a buffer of that length is always enough; and one listing is that long.
+-- No listing is longer than 27,408 bytes, by what each of its parts can take; and one listing is that long.
 -- Assumes nothing.
 use Prim.Native.Nat.{ℕ, zero, suc, _+_, _-_, _*_, _/_, _%_, _^_, _≤_, _<_}
 use mathlib.Core.Path.{_≡_, refl, _∙_}
@@ -16,8 +16,9 @@ use Rattle.framelisting.specs.Ascii.{ascii}
 use Rattle.framelisting.specs.Decimal.{digits, decimal}
 use Rattle.framelisting.specs.Runs.{lit, anyLit, leading, runsFrom, runs}
 use Rattle.framelisting.specs.Text.{runText, runsText, line, rowOf, lines, refusedText, listingOf}
-use Rattle.framelisting.proofs.Walk.{leading-length, gap}
-use Rattle.framelisting.proofs.Lengths.{run-length, line-length, refused-length, listing-length}
+use Rattle.framelisting.specs.LongestListing.{turns, striped, LongestListing}
+use Rattle.framelisting.proofs.AlongRow.{leading-length, gap}
+use Rattle.framelisting.proofs.LengthsOfText.{run-length, line-length, refused-length, listing-length}
 
 -- a number below 10 to the k has at most k digits
 few-digits : (f k n : ℕ) → n < 10 ^ suc k → length (digits f n) ≤ suc k
@@ -145,7 +146,7 @@ refused-most number offset h k = by (eqb number 0) refl
     by false e =
         omega (arith, refused-length number offset (eqb-false number 0 e), few-digits 20 2 number (omega (arith, h)), few-digits 20 19 offset (omega (arith, k)))
 
--- what all frameRows can take
+-- what all rows can take
 lines-all : tall frameRows 0 ≡ 27355
 unfolding tall most decimal digits
 lines-all = refl
@@ -154,15 +155,6 @@ lines-all = refl
 pub at-most : (number offset : ℕ) (frame : List ℕ) → number < 256 → offset < 2 ^ 64 → length (listingOf number offset frame) ≤ longestListing
 at-most number offset frame h k =
     omega (arith, listing-length number offset frame, refused-most number offset h k, lines-most frame frameRows 0, lines-all)
-
--- places lit and dark by turns, and frameRows of them
-abbrev turns : ℕ → List ℕ
-turns zero = []
-turns (suc n) = 1 ∷ 0 ∷ turns n
-
-abbrev pub striped : ℕ → List ℕ
-striped zero = []
-striped (suc n) = turns 66 ++ striped n
 
 -- each row is the same
 stripe : (n p : ℕ) → p < n → rowOf width (striped n) p ≡ turns 66
@@ -186,5 +178,8 @@ unfolding refusedText ascii decimal digits
 refused-all = refl
 
 -- and one is that long
-pub reached : length (listingOf 255 (2 ^ 64 - 1) (striped frameRows)) ≡ longestListing
+reached : length (listingOf 255 (2 ^ 64 - 1) (striped frameRows)) ≡ longestListing
 reached = listing-length 255 (2 ^ 64 - 1) (striped frameRows) ∙ rw (refused-all, stripe-lines frameRows 0 (lit≤ tt), lines-all)
+
+pub longest-listing : LongestListing
+longest-listing = record { atMost = at-most; reached = reached }

@@ -9,7 +9,7 @@ use native.Mathlib.Numerals.{add-one}
 use native.Mathlib.Omega.{arith}
 use lib.ListN.{length, getD, drop, length-drop, drop-of-length-le}
 use lib.Seq.{drop-drop}
-use Rattle.framelisting.proofs.Pieces.{from}
+use Rattle.framelisting.proofs.PutPieces.{from}
 use Rattle.framelisting.specs.Runs.{lit, anyLit, leading, runsFrom}
 use Rattle.framelisting.specs.Text.{runText, runsText}
 

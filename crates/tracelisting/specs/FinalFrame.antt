@@ -1,0 +1,34 @@
+-- The final frame: what is listed is what the run leaves on the glass.
+use Prim.Native.Nat.{ℕ}
+use mathlib.Core.Path.{_≡_}
+use mathlib.Core.List.{List}
+use lib.ListN.{replicate}
+use Rattle.constants.specs.Numbers.{taken}
+use Rattle.constants.specs.Sizes.{frameSize}
+use Rattle.bus.specs.Registers.{registersOf}
+use Rattle.bus.specs.Bytes.{Bytes}
+use Rattle.bus.specs.Chip.{Chip}
+use Rattle.bus.specs.Start.{registersAtStart, memoryAtStart}
+use Rattle.trace.specs.Records.{split}
+use Rattle.trace.specs.Play.{play}
+use Rattle.trace.specs.Kinds.{chipOf, theChip}
+use Rattle.trace.specs.Run.{Ran}
+use Rattle.picture.specs.Frame.{frame}
+use Rattle.picture.specs.Draw.{draw}
+use Rattle.tracelisting.specs.TraceListing.{ranFromStart, frameAfter}
+
+-- The chip that a run leaves: the registers of its state, and its memory.
+abbrev pub chipAfter : Ran → Chip
+chipAfter ran = chipOf (registersOf (ran .state)) (ran .memory)
+
+pub record FinalFrame (trace : List ℕ) : Type 0 where
+  -- the drawing is never refused
+  pub drawn : draw (ranFromStart trace .state) (ranFromStart trace .memory) (replicate frameSize 0) .number ≡ taken
+  -- the frame that is listed is that of the registers and memory that the run leaves
+  pub listed : frameAfter (ranFromStart trace) ≡ frame (chipAfter (ranFromStart trace) .registers) (chipAfter (ranFromStart trace) .memory)
+  -- and these are what the trace's records leave of the chip as it starts
+  pub played : chipAfter (ranFromStart trace) ≡ play theChip (split trace) (chipOf registersAtStart memoryAtStart) .state
+
+-- For each trace of bytes.
+abbrev pub FinalFrames : Type 0
+FinalFrames = (trace : List ℕ) → Bytes trace → FinalFrame trace
