@@ -1,13 +1,16 @@
 -- What each public call states has one result.
 -- Assumes nothing.
 use mathlib.Core.Path.{_≡_, sym, _∙_, ap}
-use mathlib.Core.List.{List}
+use mathlib.Core.List.{List, []}
 use Prim.Native.Nat.{ℕ}
 use Rattle.codes.specs.Settled.{Settles}
 use Rattle.codes.proofs.Settled.{equation}
 use Rattle.bus.specs.Calls.{Called, called}
+use Rattle.bus.specs.Chip.{Chip}
+use Rattle.bus.specs.Stretch.{Stretched, haltedAt}
 use Rattle.bus.specs.Settled.{Settled}
 use Rattle.bus.specs.declared.calls.Reply.{Reply}
+use Rattle.bus.specs.declared.stretch.Stretch.{Stretch}
 
 -- an outcome of answer, state and memory
 whole : (stated : Called) → Settles (λ (o : Reply × List ℕ × List ℕ). called (o .0) (o .1) (o .2) ≡ stated)
@@ -21,13 +24,22 @@ with-state memory stated first second p q = let e = p ∙ sym q in ap (λ (c : C
 two-equations : {A B : Type 0} (a : A) (b : B) → Settles (λ (o : A × B). (o .0 ≡ a) × (o .1 ≡ b))
 two-equations a b first second p q = rw (p .0 ∙ sym (q .0), p .1 ∙ sym (q .1))
 
+-- the code's stretch that one stands for
+abbrev stretch-of : Stretched Chip → Stretch
+stretch-of r = haltedAt (r .number) (r .taken) (r .state .registers)
+
 pub settled : Settled
 settled = record {
+  «calls::command» = λ byte state memory. with-state memory _;
   «calls::write» = λ byte state memory. whole _;
   «calls::read» = λ state memory. with-state memory _;
   «calls::reset_pin» = λ state memory. with-state memory _;
   «calls::conclude» = λ answer state. two-equations _ _;
   «calls::refuse» = λ number. equation _;
+  «stretch::commands» = λ registers bytes first second p q. ap stretch-of (p [] ∙ sym (q []));
+  «stretch::writes» = λ registers memory bytes first second p q. ap (λ r. (stretch-of r, r .state .memory)) (p ∙ sym q);
+  «stretch::reads» = λ registers memory bytes first second p q. ap stretch-of (p ∙ sym q);
+  «stretch::reset_pin» = λ registers first second p q. ap stretch-of (p [] ∙ sym (q []));
   «Registers::command» = λ byte self. equation _;
   «Registers::reset_pin» = λ self. equation _;
   «Registers::write» = λ self memory byte. two-equations _ _;

@@ -2,13 +2,16 @@
 use Prim.Native.Nat.{ℕ}
 use mathlib.Core.Path.{_≡_}
 use mathlib.Core.Bool.{Bool}
-use mathlib.Core.List.{List}
+use mathlib.Core.List.{List, [], _∷_, map}
 use lib.ListN.{length}
 use Rattle.codes.specs.Settled.{Settles}
 use Rattle.bus.specs.Places.{column, fresh}
 use Rattle.bus.specs.Registers.{imageOf, _with_≔_, powerOn, powerState}
 use Rattle.bus.specs.Events.{command, write, written, read, resetPin}
-use Rattle.bus.specs.Chip.{dataWritten, dataRead, resetPulse}
+use Rattle.bus.specs.Chip.{commandByte, dataWritten, dataRead, resetPulse}
+use Rattle.bus.specs.Recorded.{event, readAs, chipOf, replay}
+use Rattle.bus.specs.Recorded as recorded
+use Rattle.bus.specs.Stretch.{stretch, stretchOf}
 use Rattle.bus.specs.Image.{short, legal, asked, stored}
 use Rattle.bus.specs.Calls.{called, replyOf, stateAfter, call}
 use Rattle.bus.specs.declared.registers.Registers.{Registers}
@@ -16,13 +19,19 @@ use Rattle.bus.specs.declared.registers.PowerState.{PowerState}
 use Rattle.bus.specs.declared.answer.Answer.{Answer}
 use Rattle.bus.specs.declared.image.Asked.{Asked}
 use Rattle.bus.specs.declared.calls.Reply.{Reply}
+use Rattle.bus.specs.declared.stretch.Stretch.{Stretch}
 
 pub record Settled : Type 0 where
+  pub «calls::command» : (byte : ℕ) (state memory : List ℕ) → Settles (λ (o : Reply × List ℕ). called (o .0) (o .1) memory ≡ call (commandByte byte) state memory)
   pub «calls::write» : (byte : ℕ) (state memory : List ℕ) → Settles (λ (o : Reply × List ℕ × List ℕ). called (o .0) (o .1) (o .2) ≡ call (dataWritten byte) state memory)
   pub «calls::read» : (state memory : List ℕ) → Settles (λ (o : Reply × List ℕ). called (o .0) (o .1) memory ≡ call dataRead state memory)
   pub «calls::reset_pin» : (state memory : List ℕ) → Settles (λ (o : Reply × List ℕ). called (o .0) (o .1) memory ≡ call resetPulse state memory)
   pub «calls::conclude» : (answer : Answer) (state : List ℕ) → Settles (λ (o : Reply × List ℕ). (o .0 ≡ replyOf answer) × (o .1 ≡ stateAfter answer state))
   pub «calls::refuse» : (number : ℕ) → Settles (λ (r : Reply). r ≡ replyOf (Answer.Refused number))
+  pub «stretch::commands» : (registers : Registers) (bytes : List ℕ) → Settles (λ (s : Stretch). ((memory : List ℕ) → stretchOf s memory ≡ stretch replay (map recorded.command bytes) (chipOf registers memory)))
+  pub «stretch::writes» : (registers : Registers) (memory bytes : List ℕ) → Settles (λ (o : Stretch × List ℕ). stretchOf (o .0) (o .1) ≡ stretch replay (map recorded.write bytes) (chipOf registers memory))
+  pub «stretch::reads» : (registers : Registers) (memory bytes : List ℕ) → Settles (λ (s : Stretch). stretchOf s memory ≡ stretch replay (map readAs bytes) (chipOf registers memory))
+  pub «stretch::reset_pin» : (registers : Registers) → Settles (λ (s : Stretch). ((memory : List ℕ) → stretchOf s memory ≡ stretch replay (event resetPulse ∷ []) (chipOf registers memory)))
   pub «Registers::command» : (byte : ℕ) (self : Registers) → Settles (λ (r : Answer). r ≡ command byte self)
   pub «Registers::reset_pin» : (self : Registers) → Settles (λ (r : Answer). r ≡ resetPin self)
   pub «Registers::write» : (self : Registers) (memory : List ℕ) (byte : ℕ) → Settles (λ (o : Answer × List ℕ). (o .0 ≡ write self (length memory)) × (o .1 ≡ written byte self memory))

@@ -5,6 +5,7 @@ use Rattle.constants.specs.Numbers
 use Rattle.bus.specs.Result.{Result, onResult}
 use Rattle.bus.specs.Chip.{Chip}
 use Rattle.bus.specs.Recorded.{chipOf}
+use Rattle.bus.specs.declared.registers.Registers.{Registers}
 use Rattle.bus.specs.declared.stretch.Stretch.{Stretch}
 
 -- What a stretch comes to: the state reached, how many events were taken, and the number that stopped it, 0 where all were taken.
@@ -28,3 +29,7 @@ stretch step (event ∷ rest) s = onResult (step event s) (λ number. stretched 
 -- The code's, with the memory that is left beside it.
 abbrev pub stretchOf : Stretch → List ℕ → Stretched Chip
 stretchOf s memory = stretched (chipOf (s .registers) memory) (s .taken) (s .number)
+
+-- The code's, stopped with a number after so many.
+abbrev pub haltedAt : ℕ → ℕ → Registers → Stretch
+haltedAt stop count r = record { registers = r; taken = count; number = stop }

@@ -7,7 +7,7 @@ ghost use lib.Dec.{eqb};
 ghost use Rattle.bus.specs.Events.{numberOf};
 ghost use Rattle.bus.specs.Chip.{resetPulse};
 ghost use Rattle.bus.specs.Recorded.{event, command, write, readAs, chipOf, replay};
-ghost use Rattle.bus.specs.Stretch.{stretch, stretchOf};
+ghost use Rattle.bus.specs.Stretch.{stretch, stretchOf, haltedAt};
 use crate::answer::After;
 use crate::answer::Answer;
 use crate::registers::Registers;
@@ -76,11 +76,7 @@ pub fn reads(mut registers: Registers, memory: &[u8], bytes: &[u8]) -> Stretch
             registers = left;
             at += 1;
         } else {
-            return Stretch {
-                registers,
-                taken: at,
-                number: READ_DIFFERS,
-            };
+            return halted(READ_DIFFERS, at, registers);
         }
     }
     Stretch {
@@ -115,18 +111,21 @@ fn agrees(after: After, byte: u8) -> bool
 
 // Stopped by a refused event: its number is the answer's; `let .. else` has taken what was taken.
 fn stopped(answer: Answer, taken: usize, registers: Registers) -> Stretch
-    ensures { λ r. ⌜ r ≡ record { registers = registers; taken = taken; number = numberOf answer } ⌝ }
+    ensures { λ r. ⌜ r ≡ haltedAt (numberOf answer) taken registers ⌝ }
 {
     match answer {
-        Answer::Taken(_) => Stretch {
-            registers,
-            taken,
-            number: TAKEN,
-        },
-        Answer::Refused(number) => Stretch {
-            registers,
-            taken,
-            number,
-        },
+        Answer::Taken(_) => halted(TAKEN, taken, registers),
+        Answer::Refused(number) => halted(number, taken, registers),
+    }
+}
+
+// Stopped with a number after so many; the registers stand.
+fn halted(number: u8, taken: usize, registers: Registers) -> Stretch
+    ensures { λ r. ⌜ r ≡ haltedAt number taken registers ⌝ }
+{
+    Stretch {
+        registers,
+        taken,
+        number,
     }
 }

@@ -66,13 +66,17 @@ loop-again c =
     let bytes = now (d .before .before .before .before .before .args .bytes) in
     (omega arith, loop .inv .1 ∙ turn-given replay readAs bytes (loop .at) (omega arith) _ _ (read-agrees _ _ _ (d .read .ensures) (c .before .before .before .before .before .answer .given .1) (sym (c .before .agrees .ensures) ∙ c .if1 .taken)))
 
+halted-requires : tie.Need-halted-requires Inv-loop μ-loop
+halted-requires c κs = search needs
+
 returns-2 : tie.Need-returns-2 Inv-loop μ-loop
 unfolding step
 returns-2 c =
-    let d = c .before .before .before .before .before .before .before in
+    let d = c .before .before .before .before .before .before .before .before in
     let loop = d .before .before .loop in
     let bytes = now (d .before .before .before .before .before .args .bytes) in
-    sym (loop .inv .1 ∙ turn-refused replay readAs bytes (loop .at) (omega arith) _ _ (read-differs _ _ _ (d .read .ensures) (c .before .before .before .before .before .answer .given .1) (sym (c .before .agrees .ensures) ∙ c .if1 .left)))
+    rw (c .halted .ensures)
+    (sym (loop .inv .1 ∙ turn-refused replay readAs bytes (loop .at) (omega arith) _ _ (read-differs _ _ _ (d .read .ensures) (c .before .before .before .before .before .before .answer .given .1) (sym (c .before .before .agrees .ensures) ∙ c .before .if1 .left))))
 
 returns-3 : tie.Need-returns-3 Inv-loop μ-loop
 returns-3 c =
@@ -98,5 +102,6 @@ reads-spec =
     add-at
     loop-less
     loop-again
+    halted-requires
     returns-2
     returns-3)
