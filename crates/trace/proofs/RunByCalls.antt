@@ -87,7 +87,7 @@ header-brings : (header : Result (List Recorded)) (place count : ℕ) (later : S
 header-brings (refuses number) place count later g h = tt
 header-brings (gives events) place count later g h = all-append _ (placed events (place + headerSize) count) (later .events) (all-placed events (place + headerSize) count g) h
 
-pub script-brings : (trace : Trace) (count : ℕ) → Carries (λ (b : ℕ). b < 256) trace → All (λ (p : Placed Recorded). Brings (p .event)) (scriptFrom theChip trace count .events)
+script-brings : (trace : Trace) (count : ℕ) → Carries (λ (b : ℕ). b < 256) trace → All (λ (p : Placed Recorded). Brings (p .event)) (scriptFrom theChip trace count .events)
 unfolding scriptFrom
 script-brings (ended offset) count h = tt
 script-brings (cut offset) count h = tt
