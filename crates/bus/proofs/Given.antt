@@ -29,7 +29,7 @@ use Rattle.bus.proofs.Legal.{long}
 use Rattle.bus.proofs.Kept.{state-facts}
 use Rattle.bus.proofs.Asking.{OneOrTwo, before-refusal}
 use Rattle.bus.proofs.Answers.{numberOfCommand, numberOfEvent, isRead, step-answers, was-taken}
-use Rattle.bus.proofs.Exactly.{asksRanges, numberGiven, replyGiven, reply-given, number-given, isOther, namesNoPage, first-number, allows, second-number}
+use Rattle.bus.proofs.Replies.{asksRanges, numberGiven, replyGiven, reply-given, number-given, isOther, namesNoPage, first-number, allows, second-number}
 
 -- 0 is given exactly when the event is taken
 call-taken : (event : Event) (state memory : List ℕ) → call event state memory .reply .number ≡ taken ↔ IsTaken event state memory

@@ -23,8 +23,8 @@ use Rattle.bus.specs.Memory.{onward}
 use Rattle.bus.specs.Events.{commandTaken, enter, leave, softwareReset, obeyed, command, access, moved, write, read, resetPin}
 use Rattle.bus.specs.Chip.{Event, commandByte, dataWritten, dataRead, resetPulse, step}
 use Rattle.bus.specs.Image.{within, awaitedCodes, legal, asked}
-pub use Rattle.bus.specs.Bytes.{IsByte}
-pub use Rattle.bus.specs.StaysLegal.{LegalRegisters, Keeps}
+use Rattle.bus.specs.Bytes.{IsByte}
+use Rattle.bus.specs.StaysLegal.{LegalRegisters, Keeps}
 use Rattle.bus.proofs.Legal.{long}
 use Rattle.bus.specs.declared.registers.Registers.{Registers}
 use Rattle.bus.specs.declared.answer.Answer.{Answer}

@@ -26,7 +26,7 @@ pub mod Stored
 -- what a call leaves as it was, and the one byte that a write changes
 pub mod Untouched
 -- the reply that a call gives, by number, byte and dummy mark
-pub mod Exactly
+pub mod Replies
 -- each number exactly when
 pub mod Given
 -- what a call accepted, the next accepts

@@ -25,7 +25,7 @@ use Rattle.bus.specs.StaysLegal.{LegalRegisters}
 use Rattle.bus.specs.declared.registers.Registers.{Registers}
 use Rattle.bus.specs.declared.answer.Answer.{Answer}
 use Rattle.bus.proofs.Answers.{StandsFor, metBy, step-answers}
-use Rattle.bus.proofs.Exactly.{Neither, met-neither}
+use Rattle.bus.proofs.Replies.{Neither, met-neither}
 use Rattle.bus.proofs.Kept.{bound}
 use Rattle.bus.proofs.Untouched.{step-length}
 use Rattle.trace.specs.Kinds.{Recorded, event, readAs, happened, compared, replay}
@@ -125,7 +125,7 @@ step-leaves resetPulse r memory l = (refl, lit< tt)
 -- a command byte asks of the registers the awaited code alone
 as-awaiting : (code : ℕ) → oneOf awaitedCodes code ≡ true → LegalRegisters (powerOn with awaited ≔ code)
 unfolding powerOn largestValues within awaitedCodes
-as-awaiting code h = record { inRanges = rw (le-leb code 255 (one-of-at-most 255 awaitedCodes code refl h)); code = h; savedZero = refl }
+as-awaiting code h = record { inRanges = rw (le-leb code 255 (one-of-at-most 255 awaitedCodes code refl h)); code = h; savedZero = λ e. refl }
 
 data-neither : (r : Registers) (size : ℕ) → Addressed r → memorySize ≤ size → Neither (access r size)
 unfolding access

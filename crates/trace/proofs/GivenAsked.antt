@@ -13,7 +13,7 @@ use Rattle.bus.specs.Image.{short, legal, asked}
 use Rattle.bus.specs.declared.registers.Registers.{Registers}
 use Rattle.bus.specs.declared.image.Asked.{Asked}
 use Rattle.bus.proofs.Kept.{asked-legal}
-use Rattle.bus.proofs.Exactly.{Neither, not-one, not-two}
+use Rattle.bus.proofs.Replies.{Neither, not-one, not-two}
 use Rattle.trace.specs.Records.{Trace, ended, cut, _then_, split}
 use Rattle.trace.specs.Play.{Result, refuses, gives, onResult, Played, played}
 use Rattle.trace.specs.Kinds.{Recorded, chipOf, replay, eventsOf, theChip}

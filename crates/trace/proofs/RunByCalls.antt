@@ -19,7 +19,8 @@ use Rattle.bus.specs.declared.answer.Answer.{Answer}
 use Rattle.bus.specs.Bytes.{All, Bytes}
 use Rattle.bus.specs.declared.image.Asked.{Asked}
 use Rattle.bus.proofs.Answers.{StandsFor, step-answers}
-use Rattle.bus.proofs.Kept.{LegalRegisters, Keeps, step-keeps, asked-legal}
+use Rattle.bus.specs.StaysLegal.{LegalRegisters, Keeps}
+use Rattle.bus.proofs.Kept.{step-keeps, asked-legal}
 use Rattle.bus.proofs.Untouched.{step-length}
 use Rattle.bus.proofs.Stored.{stored-own, stored-again, call-stored}
 use Rattle.trace.specs.Records.{Trace, ended, cut, _then_, split}

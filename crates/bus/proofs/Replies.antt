@@ -28,7 +28,8 @@ use Rattle.bus.specs.declared.answer.Answer.{Answer}
 use Rattle.bus.specs.declared.image.Asked.{Asked}
 use Rattle.bus.specs.declared.calls.Reply.{Reply}
 use Rattle.bus.proofs.Legal.{long}
-use Rattle.bus.proofs.Kept.{LegalRegisters, bound, state-facts}
+use Rattle.bus.specs.StaysLegal.{LegalRegisters}
+use Rattle.bus.proofs.Kept.{bound, state-facts}
 use Rattle.bus.proofs.Answers.{numberOfCommand, numberOfEvent, isRead, StandsFor, Silent, metBy, step-answers, step-silent}
 
 -- 2 is not asked at a single reset-pin event
