@@ -1,40 +1,35 @@
 -- Document 01, "Numbers given": a single event's call gives each number exactly when the table says so, with the byte and the dummy mark that it says.
 -- Assumes nothing.
 use mathlib.Core.Path.{_≡_, refl, sym, _∙_, ap, subst}
-use mathlib.Core.Bool.{Bool, true, false, cond, not, _&&_, _||_, or-false, false≢true}
+use mathlib.Core.Bool.{Bool, true, false, cond, not, _&&_, or-false, false≢true}
 use mathlib.Core.Logic.{_↔_, _⊎_, inl, inr, ⊎-elim, _≢_}
 use mathlib.Core.List.{List, [], _∷_}
 use Prim.Native.Nat.{ℕ, zero, suc, _≤_, _<_}
 use native.Mathlib.Omega.{arith}
 use lib.Dec.{leb, eqb, lit≤}
-use lib.ListN.{getD}
-use borrow.Author.Tests.{le-leb, lt-leb, leb-true, leb-false, eq-eqb, ne-eqb, eqb-true, eqb-false, not-false}
+use borrow.Author.Tests.{lt-leb, leb-true, leb-false, eq-eqb, ne-eqb, eqb-true, eqb-false, not-false}
 use Rattle.codes.specs.OneOf.{oneOf}
 use Rattle.codes.specs.Others.{others, among}
-use Rattle.codes.specs.Table.{commandOf, operandOf, meaningOf}
-use Rattle.codes.specs.declared.Command.{Command}
+use Rattle.codes.specs.Table.{commandOf, meaningOf}
 use Rattle.codes.proofs.Tests.{both, chosen}
 use Rattle.codes.proofs.Others.{theOthers}
 use Rattle.constants.specs.Sizes.{lastColumn}
 use Rattle.constants.specs.Numbers.{taken, tooShort, outOfRange, outsideTable, noPage, notAllowed, codeAwaited, columnAbove}
 use Rattle.bus.specs.Registers.{registersOf}
-use Rattle.bus.specs.Memory.{address, kept}
 use Rattle.bus.specs.Events.{numberOf}
 use Rattle.bus.specs.Chip.{Event, commandByte, dataWritten, dataRead, resetPulse, step}
 use Rattle.bus.specs.Image.{short, legal}
 use Rattle.bus.specs.Calls.{replyOf, concluded, refused, askedBefore, callOn, call}
 use Rattle.bus.specs.Bytes.{IsByte}
-use Rattle.bus.specs.StaysLegal.{LegalRegisters, Accepted}
+use Rattle.bus.specs.StaysLegal.{Accepted}
 use Rattle.bus.specs.Given.{IsTaken, FirstByte, SecondByte, IsData, NotAllowed, numberFrom, Given}
 use Rattle.bus.specs.declared.registers.Registers.{Registers}
-use Rattle.bus.specs.declared.answer.Answer.{Answer}
 use Rattle.bus.specs.declared.image.Asked.{Asked}
-use Rattle.bus.specs.declared.calls.Reply.{Reply}
 use Rattle.bus.proofs.Legal.{long}
 use Rattle.bus.proofs.Kept.{state-facts}
 use Rattle.bus.proofs.Asking.{OneOrTwo, before-refusal}
 use Rattle.bus.proofs.Answers.{numberOfCommand, numberOfEvent, isRead, step-answers, was-taken}
-use Rattle.bus.proofs.Exactly.{asksRanges, numberGiven, replyWith, replyGiven, reply-given, number-given, isOther, namesNoPage, first-number, allows, second-number}
+use Rattle.bus.proofs.Replies.{asksRanges, numberGiven, replyGiven, reply-given, number-given, isOther, namesNoPage, first-number, allows, second-number}
 
 -- 0 is given exactly when the event is taken
 call-taken : (event : Event) (state memory : List ℕ) → call event state memory .reply .number ≡ taken ↔ IsTaken event state memory
