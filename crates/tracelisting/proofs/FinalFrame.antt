@@ -14,8 +14,8 @@ use Rattle.bus.proofs.Asking.{found-legal}
 use Rattle.trace.specs.Records.{split}
 use Rattle.trace.specs.Play.{play}
 use Rattle.trace.specs.Kinds.{chipOf, theChip}
-use Rattle.bus.specs.Bytes.{Bytes}
 use Rattle.trace.specs.Run.{ranOf, runOn, run}
+use Rattle.bus.specs.Bytes.{Bytes}
 use Rattle.trace.proofs.RunOnLent.{run-legal}
 use Rattle.picture.specs.Frame.{frame}
 use Rattle.picture.specs.Draw.{drawOn, draw}

@@ -6,13 +6,13 @@ use lib.ListN.{replicate}
 use Rattle.constants.specs.Numbers.{taken}
 use Rattle.constants.specs.Sizes.{frameSize}
 use Rattle.bus.specs.Registers.{registersOf}
-use Rattle.bus.specs.Bytes.{Bytes}
 use Rattle.bus.specs.Chip.{Chip}
 use Rattle.bus.specs.Start.{registersAtStart, memoryAtStart}
 use Rattle.trace.specs.Records.{split}
 use Rattle.trace.specs.Play.{play}
 use Rattle.trace.specs.Kinds.{chipOf, theChip}
 use Rattle.trace.specs.Run.{Ran}
+use Rattle.bus.specs.Bytes.{Bytes}
 use Rattle.picture.specs.Frame.{frame}
 use Rattle.picture.specs.Draw.{draw}
 use Rattle.tracelisting.specs.TraceListing.{ranFromStart, frameAfter}

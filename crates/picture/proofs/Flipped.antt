@@ -13,7 +13,7 @@ use lib.ListN.{length, getD, set}
 use lib.Seq.{getD-set-same, getD-set-other}
 use Rattle.constants.specs.Sizes.{width}
 use Rattle.bus.specs.Memory.{address}
-use Rattle.picture.specs.Rows.{ramRow}
+use Rattle.picture.specs.Scan.{ramRow}
 use Rattle.picture.specs.Frame.{bit}
 use Rattle.picture.specs.Demand3.{flipped}
 
@@ -59,10 +59,10 @@ byte-miss memory place k place′ k′ inside n = either (ℕ-discrete place′ 
 
 -- the bit of a RAM row in a column
 module _ (memory : List ℕ) (row column : ℕ) (inside : address (row / 8) column < length memory) where
-  pub flip-hit : bit (flipped (ramRow row) column memory) (ramRow row) column ≡ 1 - bit memory (ramRow row) column
+  pub flip-hit : bit address (flipped (ramRow row) column memory) (ramRow row) column ≡ 1 - bit address memory (ramRow row) column
   unfolding bit flipped
   flip-hit = byte-hit memory (address (row / 8) column) (row % 8) inside
 
-  pub flip-miss : (row′ column′ : ℕ) → column < width → column′ < width → ((row′ ≡ row) × (column′ ≡ column) → ⊥) → bit (flipped (ramRow row) column memory) (ramRow row′) column′ ≡ bit memory (ramRow row′) column′
+  pub flip-miss : (row′ column′ : ℕ) → column < width → column′ < width → ((row′ ≡ row) × (column′ ≡ column) → ⊥) → bit address (flipped (ramRow row) column memory) (ramRow row′) column′ ≡ bit address memory (ramRow row′) column′
   unfolding bit flipped
   flip-miss row′ column′ l l′ n = byte-miss memory (row / 8 * width + column) (row % 8) (row′ / 8 * width + column′) (row′ % 8) inside (λ e. n (omega arith))

@@ -7,10 +7,11 @@ use lib.Dec.{leb, eqb}
 use lib.ListN.{getD, replicate}
 use Rattle.constants.specs.Sizes.{width, memorySize, frameRows, frameSize}
 use Rattle.bus.specs.Registers.{powerOn}
+use Rattle.bus.specs.Memory.{address}
 use Rattle.bus.specs.Events.{numberOf}
 use Rattle.bus.specs.Chip.{Chip, Event, commandByte, dataWritten, step, after}
-use Rattle.picture.specs.Rows.{ramRow}
+use Rattle.picture.specs.Scan.{ramRow}
 use Rattle.picture.specs.Frame.{bit, line, grid, frame, rowOf}
 
 -- The chip at power-on, with a memory.
 abbrev pub started : List ℕ → Chip
@@ -38,7 +39,7 @@ commands bytes = map commandByte bytes
 
 -- After events, from power-on with any memory, panel row p shows RAM row n.
 abbrev pub Shows : List Event → ℕ → ℕ → Type 0
-Shows events p n = (memory : List ℕ) → rowOf p (picture (after events (started memory))) ≡ line width (bit memory (ramRow n))
+Shows events p n = (memory : List ℕ) → rowOf width p (picture (after events (started memory))) ≡ line width (bit address memory (ramRow n))
 
 -- Events that several statements take.
 abbrev pub toLastColumn : List Event

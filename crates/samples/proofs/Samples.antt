@@ -9,22 +9,23 @@ use borrow.Author.Tests.{lt-ltb, ne-eqb}
 use lib.Dec.{leb, ltb, eqb, leb·suc-suc}
 use Rattle.constants.specs.Sizes.{width, height, frameRows}
 use Rattle.bus.specs.declared.registers.Registers.{Registers}
 use Rattle.picture.specs.Frame.{whileOn, segment, grid, frame}
 use Rattle.picture.specs.declared.rows.RamRow.{RamRow}
 use Rattle.picture.proofs.Lines.{grid-same}
 use Rattle.codes.specs.Table.{table, offsetOf, framePhasesOf, commandBy, operandBy, commandOf, operandOf, meaningOf}
 use Rattle.bus.specs.Registers.{ranges, powerOn}
 use Rattle.bus.specs.Memory.{kept, onward}
 use Rattle.bus.specs.Events.{numberOf, obeyed, command, access, write, written}
 use Rattle.bus.specs.Chip.{step, registersAfter, chipAfter, after}
 use native.Mathlib.Omega.{arith}
-use Rattle.picture.specs.Rows.{panelRow, ramRow, comOf, used, ramRowOf, panelShows, rowShows}
-use Rattle.picture.specs.Samples.{Samples, numberFor, picture}
+use Rattle.picture.specs.Scan.{panelRow, ramRow, comOf, used, ramRowOf, panelShows, rowShows}
+use Rattle.picture.specs.Rows.{scanOf}
+use Rattle.samples.specs.Samples.{Samples, numberFor, picture}
 use Rattle.picture.proofs.Places.{row-plain, off-dark}
 use Rattle.picture.specs.declared.rows.Shown.{Shown}
 
 -- where the display is on, entire on lights a row that shows a RAM row, and no other
-shade : (r : Registers) (memory : List ℕ) (row : RamRow) (x : ℕ) → r .on ≡ 1 → r .entire ≡ 1 → (t : Bool) → segment width r memory (cond t (Shown.Ram row) Shown.Dark) x ≡ cond (t || false) 1 0
+shade : (r : Registers) (memory : List ℕ) (row : RamRow) (x : ℕ) → r .on ≡ 1 → r .entire ≡ 1 → (t : Bool) → segment r memory (cond t (Shown.Ram row) Shown.Dark) x ≡ cond (t || false) 1 0
 unfolding segment whileOn
 shade r memory row x on entire true = rw (on, entire)
 shade r memory row x on entire false = rw on
@@ -34,7 +35,7 @@ sixteen-lit : (r : Registers) (memory : List ℕ) → r .on ≡ 1 → r .entire 
 unfolding frame rowShows panelShows comOf used
 sixteen-lit r memory on entire offset multiplex = grid-same width frameRows _ _ (λ y x l k. place y x l (decLt y height))
   where
-    place : (y x : ℕ) → y < frameRows → Dec (y < height) → segment width r memory (rowShows height r (panelRow y)) x ≡ cond (leb y 15 || eqb y 64) 1 0
+    place : (y x : ℕ) → y < frameRows → Dec (y < height) → segment r memory (rowShows (scanOf r) (panelRow y)) x ≡ cond (leb y 15 || eqb y 64) 1 0
     place y x l (yes k) =
         let k-is : (y + r .offset) % height ≡ y = omega arith in
         let m-is : r .multiplex + 1 ≡ 16 = omega arith in
