@@ -21,20 +21,20 @@ use Rattle.trace.specs.OneByOne.{Placed, Script, script, scriptFrom, app
 use Rattle.trace.specs.Run.{Ran, ran, stopOf, ranOf, run}
 use Rattle.trace.specs.AnyMachine.{Gives}
 use Rattle.trace.proofs.OneByOne.{one-by-one}
-use Rattle.trace.proofs.ChipNeverAsks.{Asking, legal-asks, replay-asks, replay-neither}
+use Rattle.trace.proofs.ChipNotOneOrTwo.{Addressing, legal-addressed, replay-addressed, replay-neither}
 use Rattle.trace.proofs.ChipKinds.{by-kind}
 use Rattle.trace.proofs.ChipRefusals.{Refusing, headed}
 use Rattle.trace.proofs.RunOnLent.{fits, run-found, refused-run}
 
 -- no event of a trace is refused with 1 or 2
-on-one : (result : Result Chip) (at before : ℕ) (c : Chip) (go : Chip → Played Chip) → Refusing Neither result → Gives Asking result → ((d : Chip) → Asking d → Neither (go d .number)) → Neither (onResult result (λ refusal. played refusal at before c) go .number)
+on-one : (result : Result Chip) (at before : ℕ) (c : Chip) (go : Chip → Played Chip) → Refusing Neither result → Gives Addressing result → ((d : Chip) → Addressing d → Neither (go d .number)) → Neither (onResult result (λ refusal. played refusal at before c) go .number)
 on-one (refuses number) at before c go n g later = n
 on-one (gives d) at before c go n g later = later d g
 
-applied-neither : (events : List (Placed Recorded)) (number offset count : ℕ) → Neither number → (c : Chip) → Asking c → Neither (applied replay events number offset count c .number)
+applied-neither : (events : List (Placed Recorded)) (number offset count : ℕ) → Neither number → (c : Chip) → Addressing c → Neither (applied replay events number offset count c .number)
 unfolding applied
 applied-neither [] number offset count n c h = n
-applied-neither (p ∷ rest) number offset count n c h = on-one (replay (p .event) c) (p .offset) (p .before) c _ (replay-neither (p .event) c h) (replay-asks (p .event) c h) (λ d. applied-neither rest number offset count n d)
+applied-neither (p ∷ rest) number offset count n c h = on-one (replay (p .event) c) (p .offset) (p .before) c _ (replay-neither (p .event) c h) (replay-addressed (p .event) c h) (λ d. applied-neither rest number offset count n d)
 
 -- nor is a header refused with them
 header-neither : (header : Result (List Recorded)) (go : List Recorded → Script Recorded) (place count : ℕ) → Refusing (λ number. number ≡ kindUnknown) header → ((events : List Recorded) → Neither (go events .number)) → Neither (onResult header (λ number. script [] number place count) go .number)
@@ -69,7 +69,7 @@ module _ (state memory trace : List ℕ) where
   found-neither r found =
       let all = scriptFrom theChip (split trace) 0 in
       rw (run-found state memory r found trace, one-by-one theChip (split trace) 0 (chipOf r memory))
-      (applied-neither (all .events) (all .number) (all .offset) (all .count) (script-neither (split trace) 0) (chipOf r memory) (record { addressed = legal-asks r (asked-legal state memory r found); long = fits state memory r found .display }))
+      (applied-neither (all .events) (all .number) (all .offset) (all .count) (script-neither (split trace) 0) (chipOf r memory) (record { addressed = legal-addressed r (asked-legal state memory r found); long = fits state memory r found .display }))
 
   -- refused first: offset and count are 0, and state and memory stay
   pub one-leaves : short state memory ≡ true → run state memory trace ≡ ran (stopOf tooShort 0 0) state memory

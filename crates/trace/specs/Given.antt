@@ -66,6 +66,10 @@ replyThere state memory trace place offset =
     let before = ranBefore state memory trace place offset in
     call (calledBy (recordedThere trace place offset)) (before .state) (before .memory) .reply
 
+-- The number that it meets by that reply: its own, or 10 for a read that differs.
+abbrev pub metThere : List ℕ → List ℕ → List ℕ → ℕ → ℕ → ℕ
+metThere state memory trace place offset = meets (recordedThere trace place offset) (replyThere state memory trace place offset)
+
 -- 3 to 7 and 10, at the refused byte: a whole record of kind 1 to 3 stands at a place, the bytes of its payload before this one are taken, and the event that this one stands
 -- for meets the number.
 pub record EventRefused (state memory trace : List ℕ) (number offset : ℕ) : Type 0 where
@@ -78,7 +82,7 @@ pub record EventRefused (state memory trace : List ℕ) (number offset : ℕ) : 
   pub inside : offset < place + headerSize + lengthOf (drop place trace)
   pub before : ranBefore state memory trace place offset .stop .number ≡ taken
   pub refused : number ≢ taken
-  pub met : meets (recordedThere trace place offset) (replyThere state memory trace place offset) ≡ number
+  pub met : metThere state memory trace place offset ≡ number
 
 -- What makes 10 of it: the record is of reads, the read is taken and no dummy, which is not compared, and it answers another byte. 6 and 7 go before it.
 pub record ReadDiffers (state memory trace : List ℕ) (place offset : ℕ) : Type 0 where

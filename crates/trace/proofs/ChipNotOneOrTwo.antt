@@ -140,28 +140,28 @@ meets-neither dataRead r size l m = data-neither r size l m
 meets-neither resetPulse r size l m = refl
 
 -- the chip stays so, over a memory that is long enough
-pub record Asking (c : Chip) : Type 0 where
+pub record Addressing (c : Chip) : Type 0 where
   pub addressed : Addressed (c .registers)
   pub long : memorySize ≤ length (c .memory)
 
-pub legal-asks : (r : Registers) → LegalRegisters r → Addressed r
+pub legal-addressed : (r : Registers) → LegalRegisters r → Addressed r
 unfolding largestValues
-legal-asks r l = (l .code, omega (arith, bound r l 0 (lit< tt)))
+legal-addressed r l = (l .code, omega (arith, bound r l 0 (lit< tt)))
 
-happened-asks : (answer : Answer) (left : List ℕ) → Leaves answer → memorySize ≤ length left → Gives Asking (happened answer left)
+happened-addressed : (answer : Answer) (left : List ℕ) → Leaves answer → memorySize ≤ length left → Gives Addressing (happened answer left)
 unfolding happened
-happened-asks (Answer.Taken after) left l m = record { addressed = l; long = m }
-happened-asks (Answer.Refused number) left l m = tt
+happened-addressed (Answer.Taken after) left l m = record { addressed = l; long = m }
+happened-addressed (Answer.Refused number) left l m = tt
 
-compared-asks : (byte : ℕ) (answer : Answer) (left : List ℕ) → Leaves answer → memorySize ≤ length left → Gives Asking (compared byte answer left)
+compared-addressed : (byte : ℕ) (answer : Answer) (left : List ℕ) → Leaves answer → memorySize ≤ length left → Gives Addressing (compared byte answer left)
 unfolding compared
-compared-asks byte (Answer.Taken after) left l m = chosen (Gives Asking) (after .dummy || eqb (after .byte) byte) _ _ (λ e. record { addressed = l; long = m }) (λ e. tt)
-compared-asks byte (Answer.Refused number) left l m = tt
+compared-addressed byte (Answer.Taken after) left l m = chosen (Gives Addressing) (after .dummy || eqb (after .byte) byte) _ _ (λ e. record { addressed = l; long = m }) (λ e. tt)
+compared-addressed byte (Answer.Refused number) left l m = tt
 
-pub replay-asks : (recorded : Recorded) (c : Chip) → Asking c → Gives Asking (replay recorded c)
+pub replay-addressed : (recorded : Recorded) (c : Chip) → Addressing c → Gives Addressing (replay recorded c)
 unfolding replay
-replay-asks (event e) c h = happened-asks _ _ (step-leaves e (c .registers) (c .memory) (h .addressed)) (omega (arith, step-length e (c .registers) (c .memory), h .long))
-replay-asks (readAs byte) c h = compared-asks byte _ _ (step-leaves dataRead (c .registers) (c .memory) (h .addressed)) (omega (arith, step-length dataRead (c .registers) (c .memory), h .long))
+replay-addressed (event e) c h = happened-addressed _ _ (step-leaves e (c .registers) (c .memory) (h .addressed)) (omega (arith, step-length e (c .registers) (c .memory), h .long))
+replay-addressed (readAs byte) c h = compared-addressed byte _ _ (step-leaves dataRead (c .registers) (c .memory) (h .addressed)) (omega (arith, step-length dataRead (c .registers) (c .memory), h .long))
 
 -- an event's answer stands for the number that it meets
 happened-neither : (number : ℕ) (answer : Answer) (memory : List ℕ) → StandsFor number answer → Neither number → Refusing Neither (happened answer memory)
@@ -174,7 +174,7 @@ unfolding compared
 compared-neither byte number (Answer.Taken after) memory s h = chosen (Refusing Neither) (after .dummy || eqb (after .byte) byte) _ _ (λ e. tt) (λ e. refl)
 compared-neither byte number (Answer.Refused refusal) memory s h = subst Neither (s .0) h
 
-pub replay-neither : (recorded : Recorded) (c : Chip) → Asking c → Refusing Neither (replay recorded c)
+pub replay-neither : (recorded : Recorded) (c : Chip) → Addressing c → Refusing Neither (replay recorded c)
 unfolding replay
 replay-neither (event e) c h = happened-neither _ _ _ (step-answers e (c .registers) (c .memory)) (meets-neither e (c .registers) (length (c .memory)) (h .addressed) (h .long))
 replay-neither (readAs byte) c h = compared-neither byte _ _ _ (step-answers dataRead (c .registers) (c .memory)) (meets-neither dataRead (c .registers) (length (c .memory)) (h .addressed) (h .long))
