@@ -1,0 +1,2 @@
+-- The exported call's statement settles it.
+pub mod Settled

@@ -1,0 +1,2 @@
+-- the exported call's statement settles it
+pub mod Settled
