@@ -7,6 +7,7 @@ use Rattle.bus.specs.Chip.{commandByte, dataWritten, dataRead, resetPulse}
 use Rattle.bus.specs.Calls.{call}
 use Rattle.bus.specs.Start.{started, startOf}
 use Rattle.trace.specs.Front.{frontOf}
+use Rattle.trace.specs.Run.{ran, stopOf, run}
 use Rattle.picture.specs.Draw.{drawn, draw}
 use Rattle.framelisting.specs.Listing.{listed}
 use Rattle.host.specs.Events.{heldState, heldBoth, heldRead, ofState, ofBoth, ofRead}
@@ -29,6 +30,8 @@ pub record Settled : Type 0 where
   pub powerState : (state : List ℕ) (n n′ p p′ : ℕ) → heldPower n p ≡ powerStateOf state → heldPower n′ p′ ≡ powerStateOf state → (n ≡ n′) × (p ≡ p′)
   -- `ssd1815b_record`: number, kind, offset after the record
   pub recordAt : (bytes : List ℕ) (at n n′ k k′ a a′ : ℕ) → heldRecord n k a ≡ recordOf (frontOf (drop at bytes)) at → heldRecord n′ k′ a′ ≡ recordOf (frontOf (drop at bytes)) at → (n ≡ n′) × (k ≡ k′) × (a ≡ a′)
+  -- `ssd1815b_run`: number, offset, count, state, memory
+  pub runTrace : (state memory bytes : List ℕ) (n n′ o o′ c c′ : ℕ) (s s′ m m′ : List ℕ) → ran (stopOf n o c) s m ≡ run state memory bytes → ran (stopOf n′ o′ c′) s′ m′ ≡ run state memory bytes → (n ≡ n′) × (o ≡ o′) × (c ≡ c′) × (s ≡ s′) × (m ≡ m′)
   -- `ssd1815b_draw`: number, frame
   pub drawFrame : (state memory frame : List ℕ) (n n′ : ℕ) (f f′ : List ℕ) → drawn n f ≡ draw state memory frame → drawn n′ f′ ≡ draw state memory frame → (n ≡ n′) × (f ≡ f′)
   -- `ssd1815b_list`: number, length, text

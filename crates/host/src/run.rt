@@ -1,4 +1,4 @@
-// The run of a recorded trace, as C calls it. A crate of its own: its object has one call of the stretch of command bytes, and the compiler puts it into the run's loop.
+// The run of a recorded trace.
 ghost use mathlib.Core.Path.{_≡_};
 ghost use Rattle.trace.specs.Run.{ran, stopOf, run};
 

@@ -1,2 +1,0 @@
--- The exported call's statement settles it.
-pub mod Settled

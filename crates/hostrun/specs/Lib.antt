@@ -1,2 +1,0 @@
--- the exported call's statement settles it
-pub mod Settled
