@@ -6,7 +6,6 @@ use Rattle.host.specs.Settled.{Settled}
 pub settled : Settled
 settled = record {
   start = λ state memory n n′ s s′ m m′ p q. let e = p ∙ sym q in (ap (λ o. o .number) e, ap (λ o. o .state) e, ap (λ o. o .memory) e);
-  command = λ state memory byte n n′ s s′ p q. let e = p ∙ sym q in (ap (λ o. o .number) e, ap (λ o. o .state) e);
   write = λ state memory byte n n′ s s′ m m′ p q. let e = p ∙ sym q in (ap (λ o. o .number) e, ap (λ o. o .state) e, ap (λ o. o .memory) e);
   read = λ state memory n n′ b b′ d d′ s s′ p q. let e = p ∙ sym q in (ap (λ o. o .number) e, ap (λ o. o .byte) e, ap (λ o. o .dummy) e, ap (λ o. o .state) e);
   reset = λ state memory n n′ s s′ p q. let e = p ∙ sym q in (ap (λ o. o .number) e, ap (λ o. o .state) e);

@@ -3,7 +3,7 @@ use Prim.Native.Nat.{ℕ}
 use mathlib.Core.Path.{_≡_}
 use mathlib.Core.List.{List}
 use lib.ListN.{drop}
-use Rattle.bus.specs.Chip.{commandByte, dataWritten, dataRead, resetPulse}
+use Rattle.bus.specs.Chip.{dataWritten, dataRead, resetPulse}
 use Rattle.bus.specs.Calls.{call}
 use Rattle.bus.specs.Start.{started, startOf}
 use Rattle.trace.specs.Front.{frontOf}
@@ -18,8 +18,6 @@ use Rattle.host.specs.List.{heldText, ofListed}
 pub record Settled : Type 0 where
   -- `ssd1815b_start`: number, state, memory
   pub start : (state memory : List ℕ) (n n′ : ℕ) (s s′ m m′ : List ℕ) → started n s m ≡ startOf state memory → started n′ s′ m′ ≡ startOf state memory → (n ≡ n′) × (s ≡ s′) × (m ≡ m′)
-  -- `ssd1815b_command`: number, state
-  pub command : (state memory : List ℕ) (byte n n′ : ℕ) (s s′ : List ℕ) → heldState n s ≡ ofState (call (commandByte byte) state memory) → heldState n′ s′ ≡ ofState (call (commandByte byte) state memory) → (n ≡ n′) × (s ≡ s′)
   -- `ssd1815b_write`: number, state, memory
   pub write : (state memory : List ℕ) (byte n n′ : ℕ) (s s′ m m′ : List ℕ) → heldBoth n s m ≡ ofBoth (call (dataWritten byte) state memory) → heldBoth n′ s′ m′ ≡ ofBoth (call (dataWritten byte) state memory) → (n ≡ n′) × (s ≡ s′) × (m ≡ m′)
   -- `ssd1815b_read`: number, byte, dummy mark, state
