@@ -2,16 +2,18 @@
 -- Assumes nothing.
 use mathlib.Core.Path.{_≡_, refl, sym, _∙_, ap}
 use mathlib.Core.Bool.{false}
-use mathlib.Core.List.{List, [], _∷_, _++_}
+use mathlib.Core.List.{List, [], _∷_, _++_, append-nil}
 use Prim.Native.Nat.{ℕ, _≤_}
 use native.Mathlib.Omega.{arith}
 use borrow.Author.Tests.{le-ltb}
-use lib.ListN.{length, drop}
+use lib.ListN.{length, drop, drop-of-length-le, length-replicate}
 use Rattle.constants.specs.Sizes.{imageSize, memorySize}
 use Rattle.bus.specs.Registers.{imageOf, registersOf, powerOn}
 use Rattle.bus.specs.Events.{numberOf, byteOf, dummyOf, resetPin}
 use Rattle.bus.specs.Chip.{Chip, Event, resetPulse, step, registersAfter, chipAfter, after}
+use Rattle.bus.specs.Recorded.{chipOf}
 use Rattle.bus.specs.Image.{short, stored}
+use Rattle.bus.specs.Start.{registersAtStart, memoryAtStart, startOf}
 use Rattle.bus.specs.Calls.{called, replyOf, stateAfter, concluded, askedBefore, callOn, call}
 use Rattle.bus.specs.Bytes.{All, IsByte}
 use Rattle.bus.specs.StaysLegal.{LegalRegisters, Keeps, Accepted}
@@ -19,7 +21,7 @@ use Rattle.bus.specs.CallsOnChip.{chipIn, imagedIn, Lent, lent, afterCal
 use Rattle.bus.specs.declared.registers.Registers.{Registers}
 use Rattle.bus.specs.declared.answer.Answer.{Answer}
 use Rattle.bus.proofs.Legal.{long}
-use Rattle.bus.proofs.Kept.{state-facts, step-keeps}
+use Rattle.bus.proofs.Kept.{state-facts, step-keeps, power-on-legal}
 use Rattle.bus.proofs.Untouched.{step-length}
 use Rattle.bus.proofs.Stored.{stored-long, stored-own, stored-again, call-stored}
 
@@ -29,9 +31,6 @@ unfolding registersAfter
 after-legal (Answer.Taken after) r k l = k
 after-legal (Answer.Refused number) r k l = l
 
-abbrev chip : Registers → List ℕ → Chip
-chip r memory = record { registers = r; memory = memory }
-
 module _ (state : List ℕ) (h : imageSize ≤ length state) where
   -- what is stored after an answer is the image of the registers after it
   state-after : (answer : Answer) (r : Registers) → stateAfter answer (stored r state) ≡ stored (registersAfter answer r) state
@@ -39,12 +38,12 @@ module _ (state : List ℕ) (h : imageSize ≤ length state) where
   state-after (Answer.Taken after) r = stored-again state h r (after .registers)
   state-after (Answer.Refused number) r = refl
 
-  call-on-chip : (event : Event) (r : Registers) (memory : List ℕ) → LegalRegisters r → memorySize ≤ length memory → call event (stored r state) memory ≡ called (replyOf (step event r memory .answer)) (stored (chipAfter event (chip r memory) .registers) state) (chipAfter event (chip r memory) .memory)
+  call-on-chip : (event : Event) (r : Registers) (memory : List ℕ) → LegalRegisters r → memorySize ≤ length memory → call event (stored r state) memory ≡ called (replyOf (step event r memory .answer)) (stored (chipAfter event (chipOf r memory) .registers) state) (chipAfter event (chipOf r memory) .memory)
   unfolding concluded chipAfter
   call-on-chip event r memory l m =
       call-stored state h event r memory l m ∙ ap (λ later. called (replyOf (step event r memory .answer)) later (step event r memory .memory)) (state-after (step event r memory .answer) r)
 
-  calls-on-chip : (events : List Event) (r : Registers) (memory : List ℕ) → All IsByte events → LegalRegisters r → memorySize ≤ length memory → afterCalls events (stored r state) memory ≡ lent (stored (after events (chip r memory) .registers) state) (after events (chip r memory) .memory)
+  calls-on-chip : (events : List Event) (r : Registers) (memory : List ℕ) → All IsByte events → LegalRegisters r → memorySize ≤ length memory → afterCalls events (stored r state) memory ≡ lent (stored (after events (chipOf r memory) .registers) state) (after events (chipOf r memory) .memory)
   unfolding afterCalls after chipAfter
   calls-on-chip [] r memory b l m = refl
   calls-on-chip (event ∷ events) r memory b l m =
@@ -52,7 +51,7 @@ module _ (state : List ℕ) (h : imageSize ≤ length state) where
       (calls-on-chip events (registersAfter (step event r memory .answer) r) (step event r memory .memory) (b .1) (after-legal (step event r memory .answer) r (step-keeps event r memory (b .0) l) l) (omega (arith, step-length event r memory)))
 
   -- the chip after events keeps legal registers and the memory's length
-  after-kept : (events : List Event) (r : Registers) (memory : List ℕ) → All IsByte events → LegalRegisters r → LegalRegisters (after events (chip r memory) .registers) × (length (after events (chip r memory) .memory) ≡ length memory)
+  after-kept : (events : List Event) (r : Registers) (memory : List ℕ) → All IsByte events → LegalRegisters r → LegalRegisters (after events (chipOf r memory) .registers) × (length (after events (chipOf r memory) .memory) ≡ length memory)
   unfolding after chipAfter
   after-kept [] r memory b l = (l, refl)
   after-kept (event ∷ events) r memory b l =
@@ -90,11 +89,21 @@ the-reset-pin : (state memory : List ℕ) → short state memory ≡ false → c
 unfolding call callOn askedBefore concluded stateAfter step resetPin
 the-reset-pin state memory e = rw e (ap (λ later. called (replyOf (resetPin powerOn)) later memory) (stored-long state (long state memory e .0) powerOn))
 
+from-the-start : (events : List Event) (state memory : List ℕ) → All IsByte events → short state memory ≡ false → length memory ≡ memorySize → afterCalls events (startOf state memory .state) (startOf state memory .memory) ≡ lent (imagedIn state (after events (chipOf registersAtStart memoryAtStart) .registers)) (after events (chipOf registersAtStart memoryAtStart) .memory)
+unfolding startOf
+from-the-start events state memory b e size =
+    let h = long state memory e .0 in
+    let zeros : memoryAtStart ++ drop memorySize memory ≡ memoryAtStart = ap (λ rest. memoryAtStart ++ rest) (drop-of-length-le memory {i = memorySize} (omega (arith, size))) ∙ append-nil memoryAtStart in
+    rw (e, zeros)
+    (calls-on-chip state h events powerOn memoryAtStart b power-on-legal (rw (length-replicate {A = ℕ} memorySize 0) (omega arith)) ∙
+    ap (λ later. lent later (after events (chipOf registersAtStart memoryAtStart) .memory)) (stored-long state h (after events (chipOf registersAtStart memoryAtStart) .registers)))
+
 pub callsOnChip : CallsOnChip
 unfolding replyOf numberOf byteOf dummyOf resetPin
 callsOnChip = record {
   oneCall = λ event state memory a. one-call state memory a event;
   theResetPin = the-reset-pin;
   callByCall = λ events state memory b a. call-by-call state memory a events b ∙ ap (λ later. lent later (after events (chipIn state memory) .memory)) (stored-long state (long state memory (a .longEnough) .0) (after events (chipIn state memory) .registers));
+  fromTheStart = from-the-start;
   theNext = λ events event state memory b a. the-next state memory a events event b;
 }

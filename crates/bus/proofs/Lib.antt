@@ -17,3 +17,4 @@ pub mod Stored
 pub mod Awaiting
 pub mod StaysLegal
 pub mod CallsOnChip
+pub mod Tests

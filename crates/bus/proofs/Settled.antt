@@ -6,8 +6,9 @@ use Prim.Native.Nat.{ℕ}
 use Rattle.codes.specs.Settled.{Settles}
 use Rattle.codes.proofs.Settled.{equation}
 use Rattle.bus.specs.Calls.{Called, called}
+use Rattle.bus.specs.Start.{Started}
 use Rattle.bus.specs.Chip.{Chip}
-use Rattle.bus.specs.Stretch.{Stretched, haltedAt}
+use Rattle.bus.specs.Stretch.{Stretched, stretchOf}
 use Rattle.bus.specs.Settled.{Settled}
 use Rattle.bus.specs.declared.calls.Reply.{Reply}
 use Rattle.bus.specs.declared.stretch.Stretch.{Stretch}
@@ -24,9 +25,13 @@ with-state memory stated first second p q = let e = p ∙ sym q in ap (λ (c : C
 two-equations : {A B : Type 0} (a : A) (b : B) → Settles (λ (o : A × B). (o .0 ≡ a) × (o .1 ≡ b))
 two-equations a b first second p q = rw (p .0 ∙ sym (q .0), p .1 ∙ sym (q .1))
 
--- the code's stretch that one stands for
-abbrev stretch-of : Stretched Chip → Stretch
-stretch-of r = haltedAt (r .number) (r .taken) (r .state .registers)
+-- a stretch with the memory that it leaves, and one that touches no memory
+with-memory : (stated : Stretched Chip) → Settles (λ (o : Stretch × List ℕ). stretchOf (o .0) (o .1) ≡ stated)
+with-memory stated first second p q =
+    ap (λ (s : Stretched Chip). (record { registers = s .state .registers; taken = s .taken; number = s .number }, s .state .memory)) (p ∙ sym q)
+
+by-itself : (memory : List ℕ) (stated : Stretched Chip) → Settles (λ (r : Stretch). stretchOf r memory ≡ stated)
+by-itself memory stated first second p q = ap (λ (o : Stretch × List ℕ). o .0) (with-memory stated (first, memory) (second, memory) p q)
 
 pub settled : Settled
 settled = record {
@@ -36,10 +41,6 @@ settled = record {
   «calls::reset_pin» = λ state memory. with-state memory _;
   «calls::conclude» = λ answer state. two-equations _ _;
   «calls::refuse» = λ number. equation _;
-  «stretch::commands» = λ registers bytes first second p q. ap stretch-of (p [] ∙ sym (q []));
-  «stretch::writes» = λ registers memory bytes first second p q. ap (λ r. (stretch-of r, r .state .memory)) (p ∙ sym q);
-  «stretch::reads» = λ registers memory bytes first second p q. ap stretch-of (p ∙ sym q);
-  «stretch::reset_pin» = λ registers first second p q. ap stretch-of (p [] ∙ sym (q []));
   «Registers::command» = λ byte self. equation _;
   «Registers::reset_pin» = λ self. equation _;
   «Registers::write» = λ self memory byte. two-equations _ _;
@@ -51,6 +52,12 @@ settled = record {
   «Registers::with_column» = λ self value. equation _;
   «Registers::with_fresh» = λ self value. equation _;
   «image::ask» = λ state memory. equation _;
+  «image::ask_state» = λ state. equation _;
   «image::short» = λ state memory. equation _;
   «image::legal» = λ image. equation _;
+  «start::start» = λ state memory first second p q. ap (λ (s : Started). (s .number, s .state, s .memory)) (p ∙ sym q);
+  «stretch::commands» = λ registers bytes first second p q. by-itself [] _ first second (p []) (q []);
+  «stretch::writes» = λ registers memory bytes. with-memory _;
+  «stretch::reads» = λ registers memory bytes. by-itself memory _;
+  «stretch::reset_pin» = λ registers first second p q. by-itself [] _ first second (p []) (q []);
 }

@@ -2,15 +2,16 @@
 -- Assumes nothing.
 use mathlib.Core.Path.{_≡_, subst, sym, ap}
 use mathlib.Core.Bool.{false}
-use mathlib.Core.List.{List}
+use mathlib.Core.List.{List, _++_}
 use Prim.Native.Nat.{ℕ, _≤_}
 use native.Mathlib.Omega.{arith}
-use lib.ListN.{length}
+use lib.ListN.{length, drop, length-append, length-replicate}
 use Rattle.constants.specs.Sizes.{imageSize, memorySize}
 use Rattle.bus.specs.Registers.{registersOf, powerOn}
 use Rattle.bus.specs.Events.{resetPin}
 use Rattle.bus.specs.Chip.{Event, resetPulse, step}
 use Rattle.bus.specs.Image.{short, stored}
+use Rattle.bus.specs.Start.{memoryAtStart, startOf}
 use Rattle.bus.specs.Calls.{stateAfter, concluded, askedBefore, callOn, call}
 use Rattle.bus.specs.Bytes.{IsByte}
 use Rattle.bus.specs.StaysLegal.{LegalRegisters, Keeps, Accepted, StaysLegal}
@@ -51,6 +52,12 @@ pin-accepted : (state memory : List ℕ) → short state memory ≡ false → Ac
 unfolding call callOn askedBefore concluded stateAfter step resetPin
 pin-accepted state memory e = let sizes = long state memory e in rw e (stored-accepted state memory (sizes .0) (sizes .1) powerOn power-on-legal)
 
+start-accepted : (state memory : List ℕ) → short state memory ≡ false → Accepted (startOf state memory .state) (startOf state memory .memory)
+unfolding startOf
+start-accepted state memory e =
+    let sizes = long state memory e in
+    rw e (stored-accepted state (memoryAtStart ++ drop memorySize memory) (sizes .0) (rw (length-append memoryAtStart (drop memorySize memory), length-replicate {A = ℕ} memorySize 0) (omega arith)) powerOn power-on-legal)
+
 pub staysLegal : StaysLegal
 staysLegal = record {
   theImage = λ r. (facts-legal r, legal-facts r);
@@ -58,4 +65,5 @@ staysLegal = record {
   anEvent = step-keeps;
   aCall = call-accepted;
   theResetPin = pin-accepted;
+  theStart = start-accepted;
 }

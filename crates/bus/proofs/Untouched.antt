@@ -4,7 +4,7 @@ use mathlib.Core.Path.{_≡_, refl, subst}
 use mathlib.Core.Bool.{Bool, true, false, cond}
 use mathlib.Core.Logic.{_≢_}
 use mathlib.Core.List.{List, _++_}
-use Prim.Native.Nat.{ℕ, _≤_}
+use Prim.Native.Nat.{ℕ, _<_}
 use native.Mathlib.Omega.{arith}
 use lib.Dec.{ltb, eqb}
 use lib.ListN.{length, getD, drop, set, length-set, length-drop}
@@ -151,6 +151,14 @@ module _ (b : ℕ) (state memory : List ℕ) where
   unfolding written
   written-here r e = rw (eq-eqb (access r (length memory)) taken e) (getD-set-same memory (address (r .page) (r .column)) (kept (r .page) b) 0 (omega (arith, address-inside r (length memory) e, opened r (length memory) e .enough)))
 
+  inside : call (dataWritten b) state memory .reply .number ≡ taken → addressIn state < memorySize
+  unfolding call callOn concluded refused askedBefore step replyOf numberOf
+  inside = on (asked state memory) refl
+    where
+      on : (asking : Asked) → asked state memory ≡ asking → callOn asking (dataWritten b) state memory .reply .number ≡ taken → addressIn state < memorySize
+      on (Asked.Found r) e n = address-inside (registersOf state) (length memory) (rw (← (found-legal state memory e .2)) at (write-open r (length memory) n))
+      on (Asked.Refused number) e n = absurd (omega (arith, n, subst OneOrTwo e (asked-refusal state memory) .0))
+
   here : call (dataWritten b) state memory .reply .number ≡ taken → getD (call (dataWritten b) state memory .memory) (addressIn state) 0 ≡ kept (registersOf state .page) b
   unfolding call callOn concluded refused askedBefore step replyOf numberOf
   here = on (asked state memory) refl
@@ -168,4 +176,4 @@ module _ (b : ℕ) (state memory : List ℕ) where
       on (Asked.Refused number) e = refl
 
   pub oneByteWritten : OneByteWritten b state memory
-  oneByteWritten = record { here = here; elsewhere = elsewhere }
+  oneByteWritten = record { inside = inside; here = here; elsewhere = elsewhere }

@@ -3,12 +3,14 @@ use Prim.Native.Nat.{ℕ}
 use mathlib.Core.Path.{_≡_}
 use mathlib.Core.Bool.{false}
 use mathlib.Core.List.{List, [], _∷_, _++_}
-use lib.ListN.{drop}
-use Rattle.constants.specs.Sizes.{imageSize}
+use lib.ListN.{length, drop}
+use Rattle.constants.specs.Sizes.{imageSize, memorySize}
 use Rattle.constants.specs.Numbers.{taken}
 use Rattle.bus.specs.Registers.{imageOf, registersOf, powerOn}
 use Rattle.bus.specs.Chip.{Chip, Event, resetPulse, step, chipAfter, after}
+use Rattle.bus.specs.Recorded.{chipOf}
 use Rattle.bus.specs.Image.{short}
+use Rattle.bus.specs.Start.{registersAtStart, memoryAtStart, startOf}
 use Rattle.bus.specs.Calls.{called, replyOf, call}
 use Rattle.bus.specs.Bytes.{All, IsByte}
 use Rattle.bus.specs.StaysLegal.{Accepted}
@@ -16,7 +18,7 @@ use Rattle.bus.specs.declared.registers.Registers.{Registers}
 
 -- The chip that a lent state and memory hold.
 abbrev pub chipIn : List ℕ → List ℕ → Chip
-chipIn state memory = record { registers = registersOf state; memory = memory }
+chipIn state memory = chipOf (registersOf state) memory
 
 -- A lent state with the image of registers in its first 23 bytes, the bytes past them as they were.
 abbrev pub imagedIn : List ℕ → Registers → List ℕ
@@ -44,3 +46,5 @@ pub record CallsOnChip : Type 0 where
   pub callByCall : (events : List Event) (state memory : List ℕ) → All IsByte events → Accepted state memory → afterCalls events state memory ≡ lent (imagedIn state (after events (chipIn state memory) .registers)) (after events (chipIn state memory) .memory)
   -- And the next call answers as the chip after those events does.
   pub theNext : (events : List Event) (event : Event) (state memory : List ℕ) → All IsByte events → Accepted state memory → call event (afterCalls events state memory .state) (afterCalls events state memory .memory) .reply ≡ replyOf (step event (after events (chipIn state memory) .registers) (after events (chipIn state memory) .memory) .answer)
+  -- From the start, on a memory of 1,188 bytes, they are those of the chip at power-on with zero memory, of which the samples speak.
+  pub fromTheStart : (events : List Event) (state memory : List ℕ) → All IsByte events → short state memory ≡ false → length memory ≡ memorySize → afterCalls events (startOf state memory .state) (startOf state memory .memory) ≡ lent (imagedIn state (after events (chipOf registersAtStart memoryAtStart) .registers)) (after events (chipOf registersAtStart memoryAtStart) .memory)

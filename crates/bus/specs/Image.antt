@@ -4,7 +4,7 @@ use mathlib.Core.Bool.{Bool, true, false, cond, _&&_, _||_}
 use mathlib.Core.List.{List, [], _∷_, _++_}
 use lib.Dec.{leb, ltb, eqb}
 use lib.ListN.{length, getD, drop}
-use Rattle.codes.specs.OneOf.{oneOf}
+pub use Rattle.codes.specs.OneOf.{oneOf}
 use Rattle.constants.specs.Sizes.{imageSize, memorySize}
 use Rattle.constants.specs.Numbers.{tooShort, outOfRange}
 use Rattle.bus.specs.Places.{awaited, modify, saved}

@@ -9,10 +9,11 @@ use Rattle.bus.specs.Places.{column, fresh}
 use Rattle.bus.specs.Registers.{imageOf, _with_≔_, powerOn, powerState}
 use Rattle.bus.specs.Events.{command, write, written, read, resetPin}
 use Rattle.bus.specs.Chip.{commandByte, dataWritten, dataRead, resetPulse}
-use Rattle.bus.specs.Recorded.{event, readAs, chipOf, replay}
 use Rattle.bus.specs.Recorded as recorded
+use Rattle.bus.specs.Recorded.{chipOf, replay}
 use Rattle.bus.specs.Stretch.{stretch, stretchOf}
-use Rattle.bus.specs.Image.{short, legal, asked, stored}
+use Rattle.bus.specs.Image.{short, legal, askedState, asked, stored}
+use Rattle.bus.specs.Start.{started, startOf}
 use Rattle.bus.specs.Calls.{called, replyOf, stateAfter, call}
 use Rattle.bus.specs.declared.registers.Registers.{Registers}
 use Rattle.bus.specs.declared.registers.PowerState.{PowerState}
@@ -28,10 +29,6 @@ pub record Settled : Type 0 where
   pub «calls::reset_pin» : (state memory : List ℕ) → Settles (λ (o : Reply × List ℕ). called (o .0) (o .1) memory ≡ call resetPulse state memory)
   pub «calls::conclude» : (answer : Answer) (state : List ℕ) → Settles (λ (o : Reply × List ℕ). (o .0 ≡ replyOf answer) × (o .1 ≡ stateAfter answer state))
   pub «calls::refuse» : (number : ℕ) → Settles (λ (r : Reply). r ≡ replyOf (Answer.Refused number))
-  pub «stretch::commands» : (registers : Registers) (bytes : List ℕ) → Settles (λ (s : Stretch). ((memory : List ℕ) → stretchOf s memory ≡ stretch replay (map recorded.command bytes) (chipOf registers memory)))
-  pub «stretch::writes» : (registers : Registers) (memory bytes : List ℕ) → Settles (λ (o : Stretch × List ℕ). stretchOf (o .0) (o .1) ≡ stretch replay (map recorded.write bytes) (chipOf registers memory))
-  pub «stretch::reads» : (registers : Registers) (memory bytes : List ℕ) → Settles (λ (s : Stretch). stretchOf s memory ≡ stretch replay (map readAs bytes) (chipOf registers memory))
-  pub «stretch::reset_pin» : (registers : Registers) → Settles (λ (s : Stretch). ((memory : List ℕ) → stretchOf s memory ≡ stretch replay (event resetPulse ∷ []) (chipOf registers memory)))
   pub «Registers::command» : (byte : ℕ) (self : Registers) → Settles (λ (r : Answer). r ≡ command byte self)
   pub «Registers::reset_pin» : (self : Registers) → Settles (λ (r : Answer). r ≡ resetPin self)
   pub «Registers::write» : (self : Registers) (memory : List ℕ) (byte : ℕ) → Settles (λ (o : Answer × List ℕ). (o .0 ≡ write self (length memory)) × (o .1 ≡ written byte self memory))
@@ -43,5 +40,11 @@ pub record Settled : Type 0 where
   pub «Registers::with_column» : (self : Registers) (value : ℕ) → Settles (λ (r : Registers). r ≡ (self with column ≔ value))
   pub «Registers::with_fresh» : (self : Registers) (value : ℕ) → Settles (λ (r : Registers). r ≡ (self with fresh ≔ value))
   pub «image::ask» : (state memory : List ℕ) → Settles (λ (r : Asked). r ≡ asked state memory)
+  pub «image::ask_state» : (state : List ℕ) → Settles (λ (r : Asked). r ≡ askedState state)
   pub «image::short» : (state memory : List ℕ) → Settles (λ (r : Bool). r ≡ short state memory)
   pub «image::legal» : (image : List ℕ) → Settles (λ (r : Bool). r ≡ legal image)
+  pub «start::start» : (state memory : List ℕ) → Settles (λ (o : ℕ × List ℕ × List ℕ). started (o .0) (o .1) (o .2) ≡ startOf state memory)
+  pub «stretch::commands» : (registers : Registers) (bytes : List ℕ) → Settles (λ (r : Stretch). (memory : List ℕ) → stretchOf r memory ≡ stretch replay (map recorded.command bytes) (chipOf registers memory))
+  pub «stretch::writes» : (registers : Registers) (memory bytes : List ℕ) → Settles (λ (o : Stretch × List ℕ). stretchOf (o .0) (o .1) ≡ stretch replay (map recorded.write bytes) (chipOf registers memory))
+  pub «stretch::reads» : (registers : Registers) (memory bytes : List ℕ) → Settles (λ (r : Stretch). stretchOf r memory ≡ stretch replay (map recorded.readAs bytes) (chipOf registers memory))
+  pub «stretch::reset_pin» : (registers : Registers) → Settles (λ (r : Stretch). (memory : List ℕ) → stretchOf r memory ≡ stretch replay (recorded.event resetPulse ∷ []) (chipOf registers memory))

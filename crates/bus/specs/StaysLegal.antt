@@ -8,6 +8,7 @@ use Rattle.codes.specs.OneOf.{oneOf}
 use Rattle.bus.specs.Registers.{largestValues, imageOf, powerOn}
 use Rattle.bus.specs.Chip.{Event, resetPulse, step, Leaves}
 use Rattle.bus.specs.Image.{within, awaitedCodes, short, legal}
+use Rattle.bus.specs.Start.{startOf}
 use Rattle.bus.specs.Calls.{call}
 use Rattle.bus.specs.Bytes.{IsByte}
 use Rattle.bus.specs.declared.registers.Registers.{Registers}
@@ -39,3 +40,5 @@ pub record StaysLegal : Type 0 where
   pub aCall : (event : Event) (state memory : List ℕ) → IsByte event → Accepted state memory → Accepted (call event state memory .state) (call event state memory .memory)
   -- The reset pin leaves such a state whatever the image was, if it is long enough.
   pub theResetPin : (state memory : List ℕ) → short state memory ≡ false → Accepted (call resetPulse state memory .state) (call resetPulse state memory .memory)
+  -- So does the start.
+  pub theStart : (state memory : List ℕ) → short state memory ≡ false → Accepted (startOf state memory .state) (startOf state memory .memory)

@@ -1,5 +1,5 @@
 -- Documents 00 and 01: what a call leaves as it was, and the one byte that a write changes.
-use Prim.Native.Nat.{ℕ}
+use Prim.Native.Nat.{ℕ, _<_}
 use mathlib.Core.Path.{_≡_}
 use mathlib.Core.List.{List}
 use mathlib.Core.Logic.{_≢_}
@@ -27,7 +27,9 @@ pub record Untouched (event : Event) (state memory : List ℕ) : Type 0 where
   pub noWrite : ((b : ℕ) → event ≢ dataWritten b) → call event state memory .memory ≡ memory
 
 pub record OneByteWritten (b : ℕ) (state memory : List ℕ) : Type 0 where
-  -- A write stores one byte at page and column; on page 8 its bit 0 is kept.
+  -- Page and column lie in the memory's 1,188 bytes.
+  pub inside : numberFrom (dataWritten b) state memory ≡ taken → addressIn state < memorySize
+  -- A write stores one byte there; on page 8 its bit 0 is kept.
   pub here : numberFrom (dataWritten b) state memory ≡ taken → getD (call (dataWritten b) state memory .memory) (addressIn state) 0 ≡ kept (registersOf state .page) b
   -- It changes no other.
   pub elsewhere : (place : ℕ) → place ≢ addressIn state → getD (call (dataWritten b) state memory .memory) place 0 ≡ getD memory place 0

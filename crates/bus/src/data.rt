@@ -2,6 +2,7 @@
 ghost use mathlib.Core.Path.{_≡_};
 ghost use Prim.Native.Nat.{_≤_};
 ghost use lib.ListN.{length};
+ghost use Rattle.constants.specs.Sizes.{lastColumn};
 ghost use Rattle.bus.specs.Memory.{address, kept, onward};
 ghost use Rattle.bus.specs.Events.{access, write, written, read};
 use crate::answer::After;
@@ -12,6 +13,11 @@ use constants::refusal::COLUMN_ABOVE;
 use constants::refusal::OUT_OF_RANGE;
 use constants::refusal::TAKEN;
 use constants::refusal::TOO_SHORT;
+use constants::sizes::ICON_PAGE;
+use constants::sizes::LAST_COLUMN;
+use constants::sizes::MEMORY_SIZE;
+use constants::sizes::PAGES;
+use constants::sizes::WIDTH;
 
 impl Registers {
     // A data byte written: one byte of the memory is stored, fresh is 1 and the column moves on.
@@ -73,12 +79,12 @@ impl Registers {
     fn access(self, memory: usize) -> u8
         ensures { λ r. ⌜ r ≡ access self memory ⌝ }
     {
-        if memory < 1188 {
+        if memory < MEMORY_SIZE {
             return TOO_SHORT;
         }
-        if self.page < 9 {
+        if self.page < PAGES {
             if self.awaited == 0 {
-                if self.column <= 131 {
+                if self.column <= LAST_COLUMN {
                     return TAKEN;
                 }
                 return COLUMN_ABOVE;
@@ -93,20 +99,20 @@ impl Registers {
 fn address(page: u8, column: u8) -> usize
     ensures { λ r. ⌜ r ≡ address page column ⌝ }
 {
-    (page as usize) * 132 + (column as usize)
+    (page as usize) * WIDTH + (column as usize)
 }
 
 // What the memory keeps of a byte: on page 8 its bit 0.
 fn kept(page: u8, byte: u8) -> u8
     ensures { λ r. ⌜ r ≡ kept page byte ⌝ }
 {
-    if page == 8 { byte % 2 } else { byte }
+    if page == ICON_PAGE { byte % 2 } else { byte }
 }
 
 // The column after a column: after 131 comes 0.
 fn onward(column: u8) -> u8
-    requires { ⌜ column ≤ 131 ⌝ }
+    requires { ⌜ column ≤ lastColumn ⌝ }
     ensures { λ r. ⌜ r ≡ onward column ⌝ }
 {
-    if column == 131 { 0 } else { column + 1 }
+    if column == LAST_COLUMN { 0 } else { column + 1 }
 }

@@ -3,12 +3,14 @@ ghost use mathlib.Core.Path.{_≡_};
 ghost use Prim.Native.Nat.{_≤_};
 ghost use lib.ListN.{length};
 ghost use Rattle.codes.specs.OneOf.{oneOf};
+ghost use Rattle.constants.specs.Sizes.{imageSize};
 ghost use Rattle.bus.specs.Registers.{imageOf, registersOf, largestValues};
 ghost use Rattle.bus.specs.Image.{within, awaitedCodes, legal, short, askedState, asked, stored};
 use crate::registers::Registers;
 use constants::refusal::OUT_OF_RANGE;
 use constants::refusal::TOO_SHORT;
 use constants::sizes::IMAGE_SIZE;
+use constants::sizes::MEMORY_SIZE;
 
 // What a lent state and memory are found to be: taken up, with the registers, or refused 1 or 2.
 pub enum Asked {
@@ -16,8 +18,15 @@ pub enum Asked {
     Refused(u8),
 }
 
+// The places of which more is asked than a largest value: the awaited code, read-modify-write and the saved column.
+const AWAITED: usize = 19;
+
+const MODIFY: usize = 20;
+
+const SAVED: usize = 21;
+
 // The largest value of each register, in the image's order.
-const LARGEST: [u8; 23] = [
+const LARGEST: [u8; IMAGE_SIZE] = [
     8,
     255,
     63,
@@ -70,23 +79,23 @@ pub fn ask_state(state: &[u8]) -> Asked
 pub fn short(state: &[u8], memory: &[u8]) -> bool
     ensures { λ r. ⌜ r ≡ short (now (state .entry)) (now (memory .entry)) ⌝ }
 {
-    if state.len() < 23 {
+    if state.len() < IMAGE_SIZE {
         return true;
     }
-    memory.len() < 1188
+    memory.len() < MEMORY_SIZE
 }
 
 // Whether an image is in its ranges; one that is too short is not.
 pub fn legal(image: &[u8]) -> bool
     ensures { λ r. ⌜ r ≡ legal (now (image .entry)) ⌝ }
 {
-    if image.len() < 23 {
+    if image.len() < IMAGE_SIZE {
         return false;
     }
     if within(image) {
-        if awaitable(image[19]) {
-            if image[20] == 0 {
-                return image[21] == 0;
+        if awaitable(image[AWAITED]) {
+            if image[MODIFY] == 0 {
+                return image[SAVED] == 0;
             }
             return true;
         }
@@ -96,12 +105,12 @@ pub fn legal(image: &[u8]) -> bool
 
 // Whether each of the 23 bytes is at most its largest value.
 fn within(image: &[u8]) -> bool
-    requires { ⌜ 23 ≤ length (now image) ⌝ }
+    requires { ⌜ imageSize ≤ length (now image) ⌝ }
     ensures { λ r. ⌜ r ≡ within largestValues (now (image .entry)) ⌝ }
 {
     let largest = LARGEST;
     let mut i = 0;
-    while i < 23 {
+    while i < IMAGE_SIZE {
         if largest[i] < image[i] {
             return false;
         }
@@ -128,7 +137,7 @@ fn awaitable(code: u8) -> bool
 
 // The registers of an image.
 fn load(image: &[u8]) -> Registers
-    requires { ⌜ 23 ≤ length (now image) ⌝ }
+    requires { ⌜ imageSize ≤ length (now image) ⌝ }
     ensures { λ r. ⌜ r ≡ registersOf (now (image .entry)) ⌝ }
 {
     Registers {
@@ -151,9 +160,9 @@ fn load(image: &[u8]) -> Registers
         on: image[16],
         indicator: image[17],
         mode: image[18],
-        awaited: image[19],
-        modify: image[20],
-        saved: image[21],
+        awaited: image[AWAITED],
+        modify: image[MODIFY],
+        saved: image[SAVED],
         fresh: image[22],
     }
 }
@@ -163,19 +172,19 @@ impl Registers {
     pub fn store(self, state: &mut [u8])
         ensures { λ _. ⌜ now (state .exit) ≡ stored self (now (state .entry)) ⌝ }
     {
-        if state.len() < 23 {
+        if state.len() < IMAGE_SIZE {
             return;
         }
         let image = self.image();
         let mut i = 0;
-        while i < 23 {
+        while i < IMAGE_SIZE {
             state[i] = image[i];
             i += 1;
         }
     }
 
     // The image of the registers.
-    pub fn image(self) -> [u8; 23]
+    pub fn image(self) -> [u8; IMAGE_SIZE]
         ensures { λ r. ⌜ r ≡ imageOf self ⌝ }
     {
         [

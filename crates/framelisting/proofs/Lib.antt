@@ -16,5 +16,5 @@ pub mod LentBuffers
 pub mod EqualListings
 -- Listings that are worked out.
 pub mod Samples
--- The call's statement settles it.
+-- What the call states has one result.
 pub mod Settled

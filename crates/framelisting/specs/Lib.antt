@@ -21,5 +21,5 @@ pub mod LongestListing
 pub mod LentBuffers
 -- listings that are worked out
 pub mod Samples
--- the call's statement settles it
+-- one result for the call's statement
 pub mod Settled

@@ -1,4 +1,4 @@
 -- For the code: a whole record at an offset of a trace ends within it.
 pub mod WholeRecord
--- Each exported call's statement settles it.
+-- What each exported call states has one result.
 pub mod Settled

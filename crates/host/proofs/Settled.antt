@@ -1,17 +1,24 @@
--- The statement of each exported call settles it: both outcomes are the one that it states.
+-- What each exported call states has one result: both results are of the one outcome.
 -- Assumes nothing.
 use mathlib.Core.Path.{_∙_, sym, ap}
+use Rattle.bus.specs.Start.{Started}
+use Rattle.trace.specs.Run.{Ran}
+use Rattle.picture.specs.Draw.{Drawn}
+use Rattle.host.specs.Events.{HeldState, HeldBoth, HeldRead}
+use Rattle.host.specs.PowerState.{HeldPower}
+use Rattle.host.specs.Record.{HeldRecord}
+use Rattle.host.specs.List.{HeldText}
 use Rattle.host.specs.Settled.{Settled}
 
 pub settled : Settled
 settled = record {
-  start = λ state memory n n′ s s′ m m′ p q. let e = p ∙ sym q in (ap (λ o. o .number) e, ap (λ o. o .state) e, ap (λ o. o .memory) e);
-  write = λ state memory byte n n′ s s′ m m′ p q. let e = p ∙ sym q in (ap (λ o. o .number) e, ap (λ o. o .state) e, ap (λ o. o .memory) e);
-  read = λ state memory n n′ b b′ d d′ s s′ p q. let e = p ∙ sym q in (ap (λ o. o .number) e, ap (λ o. o .byte) e, ap (λ o. o .dummy) e, ap (λ o. o .state) e);
-  reset = λ state memory n n′ s s′ p q. let e = p ∙ sym q in (ap (λ o. o .number) e, ap (λ o. o .state) e);
-  powerState = λ state n n′ a a′ p q. let e = p ∙ sym q in (ap (λ o. o .number) e, ap (λ o. o .power) e);
-  recordAt = λ bytes at n n′ k k′ a a′ p q. let e = p ∙ sym q in (ap (λ o. o .number) e, ap (λ o. o .kind) e, ap (λ o. o .next) e);
-  runTrace = λ state memory bytes n n′ o o′ c c′ s s′ m m′ p q. let e = p ∙ sym q in (ap (λ r. r .stop .number) e, ap (λ r. r .stop .offset) e, ap (λ r. r .stop .count) e, ap (λ r. r .state) e, ap (λ r. r .memory) e);
-  drawFrame = λ state memory frame n n′ f f′ p q. let e = p ∙ sym q in (ap (λ o. o .number) e, ap (λ o. o .frame) e);
-  listFrame = λ number offset frame text n n′ l l′ t t′ p q. let e = p ∙ sym q in (ap (λ o. o .number) e, ap (λ o. o .size) e, ap (λ o. o .text) e);
+  «ssd1815b_start» = λ state memory a b p q. ap (λ (o : Started). (o .number, o .state, o .memory)) (p ∙ sym q);
+  «ssd1815b_write» = λ state memory byte a b p q. ap (λ (o : HeldBoth). (o .number, o .state, o .memory)) (p ∙ sym q);
+  «ssd1815b_read» = λ state memory a b p q. ap (λ (o : HeldRead). (o .number, o .byte, o .dummy, o .state)) (p ∙ sym q);
+  «ssd1815b_reset» = λ state memory a b p q. ap (λ (o : HeldState). (o .number, o .state)) (p ∙ sym q);
+  «ssd1815b_power_state» = λ state a b p q. ap (λ (o : HeldPower). (o .number, o .power)) (p ∙ sym q);
+  «ssd1815b_record» = λ bytes at a b p q. ap (λ (o : HeldRecord). (o .number, o .kind, o .next)) (p ∙ sym q);
+  «ssd1815b_run» = λ state memory bytes a b p q. ap (λ (o : Ran). (o .stop .number, o .stop .offset, o .stop .count, o .state, o .memory)) (p ∙ sym q);
+  «ssd1815b_draw» = λ state memory frame a b p q. ap (λ (o : Drawn). (o .number, o .frame)) (p ∙ sym q);
+  «ssd1815b_list» = λ number offset frame text a b p q. ap (λ (o : HeldText). (o .number, o .size, o .text)) (p ∙ sym q);
 }

@@ -6,5 +6,5 @@ pub mod PowerState
 pub mod Record
 -- a frame listed as text
 pub mod List
--- each exported call's statement settles it
+-- one result for each statement
 pub mod Settled

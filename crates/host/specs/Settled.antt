@@ -1,8 +1,9 @@
--- The statement of each exported call settles it: two outcomes on the same inputs are equal, in the answer and in all that was lent.
+-- Any two results that satisfy what an exported call states are equal: its answer, and what it leaves of everything lent to be changed. A field has the name of its call.
 use Prim.Native.Nat.{ℕ}
 use mathlib.Core.Path.{_≡_}
 use mathlib.Core.List.{List}
 use lib.ListN.{drop}
+use Rattle.codes.specs.Settled.{Settles}
 use Rattle.bus.specs.Chip.{dataWritten, dataRead, resetPulse}
 use Rattle.bus.specs.Calls.{call}
 use Rattle.bus.specs.Start.{started, startOf}
@@ -16,21 +17,21 @@ use Rattle.host.specs.Record.{heldRecord, recordOf}
 use Rattle.host.specs.List.{heldText, ofListed}
 
 pub record Settled : Type 0 where
-  -- `ssd1815b_start`: number, state, memory
-  pub start : (state memory : List ℕ) (n n′ : ℕ) (s s′ m m′ : List ℕ) → started n s m ≡ startOf state memory → started n′ s′ m′ ≡ startOf state memory → (n ≡ n′) × (s ≡ s′) × (m ≡ m′)
-  -- `ssd1815b_write`: number, state, memory
-  pub write : (state memory : List ℕ) (byte n n′ : ℕ) (s s′ m m′ : List ℕ) → heldBoth n s m ≡ ofBoth (call (dataWritten byte) state memory) → heldBoth n′ s′ m′ ≡ ofBoth (call (dataWritten byte) state memory) → (n ≡ n′) × (s ≡ s′) × (m ≡ m′)
-  -- `ssd1815b_read`: number, byte, dummy mark, state
-  pub read : (state memory : List ℕ) (n n′ b b′ d d′ : ℕ) (s s′ : List ℕ) → heldRead n b d s ≡ ofRead (call dataRead state memory) → heldRead n′ b′ d′ s′ ≡ ofRead (call dataRead state memory) → (n ≡ n′) × (b ≡ b′) × (d ≡ d′) × (s ≡ s′)
-  -- `ssd1815b_reset`: number, state
-  pub reset : (state memory : List ℕ) (n n′ : ℕ) (s s′ : List ℕ) → heldState n s ≡ ofState (call resetPulse state memory) → heldState n′ s′ ≡ ofState (call resetPulse state memory) → (n ≡ n′) × (s ≡ s′)
-  -- `ssd1815b_power_state`: number, power state
-  pub powerState : (state : List ℕ) (n n′ p p′ : ℕ) → heldPower n p ≡ powerStateOf state → heldPower n′ p′ ≡ powerStateOf state → (n ≡ n′) × (p ≡ p′)
-  -- `ssd1815b_record`: number, kind, offset after the record
-  pub recordAt : (bytes : List ℕ) (at n n′ k k′ a a′ : ℕ) → heldRecord n k a ≡ recordOf (frontOf (drop at bytes)) at → heldRecord n′ k′ a′ ≡ recordOf (frontOf (drop at bytes)) at → (n ≡ n′) × (k ≡ k′) × (a ≡ a′)
-  -- `ssd1815b_run`: number, offset, count, state, memory
-  pub runTrace : (state memory bytes : List ℕ) (n n′ o o′ c c′ : ℕ) (s s′ m m′ : List ℕ) → ran (stopOf n o c) s m ≡ run state memory bytes → ran (stopOf n′ o′ c′) s′ m′ ≡ run state memory bytes → (n ≡ n′) × (o ≡ o′) × (c ≡ c′) × (s ≡ s′) × (m ≡ m′)
-  -- `ssd1815b_draw`: number, frame
-  pub drawFrame : (state memory frame : List ℕ) (n n′ : ℕ) (f f′ : List ℕ) → drawn n f ≡ draw state memory frame → drawn n′ f′ ≡ draw state memory frame → (n ≡ n′) × (f ≡ f′)
-  -- `ssd1815b_list`: number, length, text
-  pub listFrame : (number offset : ℕ) (frame text : List ℕ) (n n′ l l′ : ℕ) (t t′ : List ℕ) → heldText n l t ≡ ofListed (listed number offset frame text) → heldText n′ l′ t′ ≡ ofListed (listed number offset frame text) → (n ≡ n′) × (l ≡ l′) × (t ≡ t′)
+  -- number, state, memory
+  pub «ssd1815b_start» : (state memory : List ℕ) → Settles (λ (o : ℕ × List ℕ × List ℕ). started (o .0) (o .1) (o .2) ≡ startOf state memory)
+  -- number, state, memory
+  pub «ssd1815b_write» : (state memory : List ℕ) (byte : ℕ) → Settles (λ (o : ℕ × List ℕ × List ℕ). heldBoth (o .0) (o .1) (o .2) ≡ ofBoth (call (dataWritten byte) state memory))
+  -- number, byte, dummy mark, state
+  pub «ssd1815b_read» : (state memory : List ℕ) → Settles (λ (o : ℕ × ℕ × ℕ × List ℕ). heldRead (o .0) (o .1) (o .2) (o .3) ≡ ofRead (call dataRead state memory))
+  -- number, state
+  pub «ssd1815b_reset» : (state memory : List ℕ) → Settles (λ (o : ℕ × List ℕ). heldState (o .0) (o .1) ≡ ofState (call resetPulse state memory))
+  -- number, power state
+  pub «ssd1815b_power_state» : (state : List ℕ) → Settles (λ (o : ℕ × ℕ). heldPower (o .0) (o .1) ≡ powerStateOf state)
+  -- number, kind, offset after the record
+  pub «ssd1815b_record» : (bytes : List ℕ) (at : ℕ) → Settles (λ (o : ℕ × ℕ × ℕ). heldRecord (o .0) (o .1) (o .2) ≡ recordOf (frontOf (drop at bytes)) at)
+  -- number, offset, count, state, memory
+  pub «ssd1815b_run» : (state memory bytes : List ℕ) → Settles (λ (o : ℕ × ℕ × ℕ × List ℕ × List ℕ). ran (stopOf (o .0) (o .1) (o .2)) (o .3) (o .4) ≡ run state memory bytes)
+  -- number, frame
+  pub «ssd1815b_draw» : (state memory frame : List ℕ) → Settles (λ (o : ℕ × List ℕ). drawn (o .0) (o .1) ≡ draw state memory frame)
+  -- number, length, text
+  pub «ssd1815b_list» : (number offset : ℕ) (frame text : List ℕ) → Settles (λ (o : ℕ × ℕ × List ℕ). heldText (o .0) (o .1) (o .2) ≡ ofListed (listed number offset frame text))

@@ -1,9 +1,8 @@
 -- Demand 3 holds.
 -- Assumes nothing.
 use mathlib.Core.Path.{_≡_, refl, sym, _∙_, ap, subst₂}
-use mathlib.Core.Logic.{_≢_}
 use mathlib.Core.Bool.{Bool, true, false, cond, false≢true}
-use mathlib.Core.List.{List, [], _∷_}
+use mathlib.Core.List.{List}
 use Prim.Native.Nat.{ℕ, zero, suc, _+_, _-_, _/_, _%_, _^_, _≤_, _<_}
 use native.Mathlib.Omega.{arith}
 use native.Mathlib.Nat.{mod-lt, le-of-eq, zero-div}
@@ -15,23 +14,22 @@ use lib.Pow.{pow-lt}
 use lib.ListN.{length, getD, set, replicate, length-set, length-replicate, getD-replicate, List·getD-eq-default}
 use lib.Seq.{getD-set-same, getD-set-other}
 use Rattle.constants.specs.Sizes.{width, memorySize, height, frameRows}
-use Rattle.codes.specs.Table.{table, commandBy, commandOf, meaningOf}
-use Rattle.bus.specs.Registers.{largestValues, powerOn}
+use Rattle.bus.specs.Places.{on}
+use Rattle.bus.specs.Registers.{ranges, largestValues, powerOn, _with_≔_}
 use Rattle.bus.specs.Memory.{address}
-use Rattle.bus.specs.Events.{obeyed, command}
-use Rattle.bus.specs.Chip.{commandByte, step, registersAfter, chipAfter, after}
 use Rattle.bus.specs.Image.{within, awaitedCodes, legal}
 use Rattle.bus.specs.declared.registers.Registers.{Registers}
-use Rattle.picture.specs.Rows.{ramRow}
-use Rattle.picture.specs.Frame.{bit, columnOf, turned, shownBit, line, frame, rowOf, placeOf}
-use Rattle.picture.specs.Samples.{fromPowerOn}
-use Rattle.picture.specs.Demand3.{Full, flipped, ShowsAt, OnePlace, SomeBit, raised, Scrolls, Content, scroll, Agree, Demand3}
+use Rattle.picture.specs.Scan.{ramRow, columnOf}
+use Rattle.picture.specs.Frame.{bit, turned, shownBit, line, frame, rowOf, placeOf}
+use Rattle.picture.specs.Demand3.{Full, flipped, ShowsAt, LitBy, OnePlace, SomeBit, raised, Scrolls, Content, scroll, Agree, Demand3}
 use Rattle.picture.specs.declared.rows.RamRow.{RamRow}
 use Rattle.picture.proofs.Lines.{line-same, grid-same}
-use Rattle.picture.proofs.Flip.{flip-hit, flip-miss}
+use Rattle.picture.proofs.Flipped.{flip-hit, flip-miss}
 use Rattle.picture.proofs.Places.{frame-row, bits-show}
 use Rattle.picture.proofs.Turns.{turnOf, up, down, decided}
-use Rattle.picture.proofs.Full.{Bounds, bounds, leavingIcons, ramOf, rowShowing, scroll-below, row-shows, place-shows, ram-below, row-below, ram-of-row, row-of-ram, column-below, column-twice}
+use Rattle.picture.proofs.Bijection.{Bijection, one}
+use Rattle.picture.proofs.Bijection.{one-place as only-place}
+use Rattle.picture.proofs.AllRows.{Bounds, bounds, leavingIcons, ramOf, rowShowing, scroll-below, rows-both-ways, columns-bijection, row-shows, place-shows}
 
 -- a memory of zeros
 blank : List ℕ
@@ -41,17 +39,17 @@ blank-long : memorySize ≤ length blank
 unfolding blank
 blank-long = le-of-eq (sym (length-replicate {A = ℕ} memorySize 0))
 
-bit-below : (memory : List ℕ) (row : RamRow) (column : ℕ) → bit memory row column < 2
+bit-below : (memory : List ℕ) (row : RamRow) (column : ℕ) → bit address memory row column < 2
 unfolding bit
 bit-below memory row column = mod-lt _ (omega arith)
 
 inside : (memory : List ℕ) (row column : ℕ) → row < frameRows → column < width → memorySize ≤ length memory → address (row / 8) column < length memory
 inside memory row column l k long = omega arith
 
--- a bit turned round shows otherwise
-differs : (reverse v : ℕ) → v < 2 → turned reverse (1 - v) ≢ turned reverse v
+-- what a place shows is a bijection of the bit, for either value of reverse
+bits-bijection : (reverse : ℕ) → Bijection 2 (turned reverse) (turned reverse)
 unfolding turned
-differs reverse v l e = omega arith
+bits-bijection reverse = record { thereIn = λ v l. mod-lt _ (omega arith); backIn = λ v l. mod-lt _ (omega arith); thereBack = λ v l. omega arith; backThere = λ v l. omega arith }
 
 -- a bit that shows at a place shows at no other
 no-second : (r : Registers) (row column y x y′ x′ : ℕ) → y′ < frameRows → x′ < width → ShowsAt r row column y x → ShowsAt r row column y′ x′ → (y′ ≡ y) × (x′ ≡ x)
@@ -66,46 +64,71 @@ no-second r row column y x y′ x′ l′ k′ here there = either (ℕ-discrete
     either (no n) q = absurd (refused (λ e. n (e .0)))
 
 module _ (r : Registers) (b : Bounds r) where
+  abbrev column : ℕ → ℕ
+  column = columnOf width (r .«column_direction»)
+
+  rows : Bijection frameRows (ramOf r) (rowShowing r)
+  rows = rows-both-ways r
+
+  columns : Bijection width column column
+  columns = columns-bijection width (r .«column_direction»)
+
   -- each place shows the bit that the row rule and the column direction name
-  shows-at : (y x : ℕ) → y < frameRows → x < width → ShowsAt r (ramOf r y) (columnOf width r x) y x
+  shows-at : (y x : ℕ) → y < frameRows → x < width → ShowsAt r (ramOf r y) (column x) y x
   shows-at y x l k = record {
     changes = λ memory long e.
-        differs (r .reverse) (bit memory (ramRow (ramOf r y)) (columnOf width r x)) (bit-below memory _ _)
-        (ap (turned (r .reverse)) (sym (flip-hit memory (ramOf r y) (columnOf width r x) (inside memory _ _ (ram-below r y) (column-below width r x k) long))) ∙
-        sym (place-shows r b (flipped (ramRow (ramOf r y)) (columnOf width r x) memory) y x l k) ∙
+        let v = bit address memory (ramRow (ramOf r y)) (column x) in
+        let small : v < 2 = bit-below memory _ _ in
+        let turns : 1 - v ≡ v = one 2 (turned (r .reverse)) (turned (r .reverse)) (bits-bijection (r .reverse)) (1 - v) v (omega arith) small
+        (ap (turned (r .reverse)) (sym (flip-hit memory (ramOf r y) (column x) (room memory y x l k long))) ∙
+        sym (place-shows r b (flipped (ramRow (ramOf r y)) (column x) memory) y x l k) ∙
         e ∙
-        place-shows r b memory y x l k);
+        place-shows r b memory y x l k) in
+        omega arith;
     noOther = λ memory long y′ x′ l′ k′ n.
-        place-shows r b (flipped (ramRow (ramOf r y)) (columnOf width r x) memory) y′ x′ l′ k′ ∙
-        ap (turned (r .reverse)) (flip-miss memory (ramOf r y) (columnOf width r x) (inside memory _ _ (ram-below r y) (column-below width r x k) long) (ramOf r y′) (columnOf width r x′) (column-below width r x k) (column-below width r x′ k′)
-        (λ e. n (sym (row-of-ram r y′ l′) ∙ ap (rowShowing r) (e .0) ∙ row-of-ram r y l, sym (column-twice width r x′ k′) ∙ ap (columnOf width r) (e .1) ∙ column-twice width r x k))) ∙
+        place-shows r b (flipped (ramRow (ramOf r y)) (column x) memory) y′ x′ l′ k′ ∙
+        ap (turned (r .reverse)) (flip-miss memory (ramOf r y) (column x) (room memory y x l k long) (ramOf r y′) (column x′) (columns .thereIn x k) (columns .thereIn x′ k′)
+        (λ e. n (only-place frameRows width (ramOf r) (rowShowing r) column column rows columns y x y′ x′ l k l′ k′ e))) ∙
         sym (place-shows r b memory y′ x′ l′ k′);
   }
+    where
+      room : (memory : List ℕ) (y x : ℕ) → y < frameRows → x < width → memorySize ≤ length memory → address (ramOf r y / 8) (column x) < length memory
+      room memory y x l k long = inside memory (ramOf r y) (column x) (rows .thereIn y l) (columns .thereIn x k) long
+
+  -- and is lit by it
+  lit-by : (y x : ℕ) → y < frameRows → x < width → LitBy r (ramOf r y) (column x) y x
+  lit-by y x l k memory = (λ e. sym (place-shows r b memory y x l k) ∙ e, λ e. place-shows r b memory y x l k ∙ e)
 
   some-bit : (y x : ℕ) → y < frameRows → x < width → SomeBit r y x
   some-bit y x l k = record {
     row = ramOf r y;
-    column = columnOf width r x;
-    rowIn = ram-below r y;
-    columnIn = column-below width r x k;
+    column = column x;
+    rowIn = rows .thereIn y l;
+    columnIn = columns .thereIn x k;
     shows = shows-at y x l k;
+    lit = lit-by y x l k;
   }
 
-  one-place : (row column : ℕ) → row < frameRows → column < width → OnePlace r row column
-  one-place row column l k =
-      let here = subst₂ (λ a c. ShowsAt r a c (rowShowing r row) (columnOf width r column)) (ram-of-row r row l) (column-twice width r column k) (shows-at (rowShowing r row) (columnOf width r column) (row-below r row) (column-below width r column k)) in
+  one-place : (row c : ℕ) → row < frameRows → c < width → OnePlace r row c
+  one-place row c l k =
+      let y = rowShowing r row in
+      let x = column c in
+      let yIn = rows .backIn row l in
+      let xIn = columns .backIn c k in
+      let here = subst₂ (λ a d. ShowsAt r a d y x) (rows .thereBack row l) (columns .thereBack c k) (shows-at y x yIn xIn) in
       record {
-        y = rowShowing r row;
-        x = columnOf width r column;
-        yIn = row-below r row;
-        xIn = column-below width r column k;
+        y = y;
+        x = x;
+        yIn = yIn;
+        xIn = xIn;
         shows = here;
-        only = λ y′ x′ l′ k′ there. no-second r row column (rowShowing r row) (columnOf width r column) y′ x′ l′ k′ here there;
+        lit = subst₂ (λ a d. LitBy r a d y x) (rows .thereBack row l) (columns .thereBack c k) (lit-by y x yIn xIn);
+        only = λ y′ x′ l′ k′ there. no-second r row c y x y′ x′ l′ k′ here there;
       }
 
 -- a row of the frame is the bits of its RAM row
-row-bits : (r : Registers) → Bounds r → (memory : List ℕ) (y : ℕ) → y < frameRows → rowOf y (frame r memory) ≡ line width (shownBit width r memory (ramRow (ramOf r y)))
-row-bits r b memory y l = frame-row r memory y l ∙ rw (row-shows r b y l) (line-same width _ _ (λ x k. bits-show r memory (ramRow (ramOf r y)) x (b .on) (b .entire)))
+row-bits : (r : Registers) → Bounds r → (memory : List ℕ) (y : ℕ) → y < frameRows → rowOf width y (frame r memory) ≡ line width (shownBit r memory (ramRow (ramOf r y)))
+row-bits r b memory y l = frame-row r memory y l ∙ rw (row-shows r b y) (line-same width _ _ (λ x k. bits-show r memory (ramRow (ramOf r y)) x (b .on) (b .entire)))
 
 raised-bounds : (n : ℕ) (r : Registers) → Bounds r → Bounds (raised n r)
 unfolding raised
@@ -121,9 +144,9 @@ raised-bounds n r b = record {
 }
 
 -- rows that show the same RAM row before and after
-moved : (n : ℕ) (r : Registers) → Bounds r → (memory : List ℕ) (y y′ : ℕ) → y < frameRows → y′ < frameRows → ramOf (raised n r) y ≡ ramOf r y′ → rowOf y (frame (raised n r) memory) ≡ rowOf y′ (frame r memory)
+moved : (n : ℕ) (r : Registers) → Bounds r → (memory : List ℕ) (y y′ : ℕ) → y < frameRows → y′ < frameRows → ramOf (raised n r) y ≡ ramOf r y′ → rowOf width y (frame (raised n r) memory) ≡ rowOf width y′ (frame r memory)
 unfolding shownBit columnOf raised
-moved n r b memory y y′ l l′ e = row-bits (raised n r) (raised-bounds n r b) memory y l ∙ ap (λ row. line width (shownBit width r memory (ramRow row))) e ∙ sym (row-bits r b memory y′ l′)
+moved n r b memory y y′ l l′ e = row-bits (raised n r) (raised-bounds n r b) memory y l ∙ ap (λ row. line width (shownBit r memory (ramRow row))) e ∙ sym (row-bits r b memory y′ l′)
 
 scrolled : (r : Registers) → Bounds r → (n : ℕ) (memory : List ℕ) → Scrolls r n memory
 unfolding raised scroll
@@ -138,9 +161,9 @@ agreeing : (r s : Registers) → Bounds r → Bounds s → Agree r s → (memory
 unfolding frame shownBit columnOf
 agreeing r s b d agree memory =
     grid-same width frameRows _ _ (λ y x l k.
-    rw (row-shows r b y l, row-shows s d y l)
+    rw (row-shows r b y, row-shows s d y)
     (bits-show r memory (ramRow (ramOf r y)) x (b .on) (b .entire) ∙
-    (λ i. turned (agree .reverse i) (bit memory (ramRow (leavingIcons (turnOf height (eqb (agree .rows i) 0) (agree .line i)) y)) (cond (eqb (agree .columns i) 0) x (width - 1 - x)))) ∙
+    (λ i. turned (agree .reverse i) (bit address memory (ramRow (leavingIcons height (turnOf height (eqb (agree .rows i) 0) (agree .line i)) y)) (cond (eqb (agree .columns i) 0) x (width - 1 - x)))) ∙
     sym (bits-show s memory (ramRow (ramOf s y)) x (d .on) (d .entire))))
 
 -- memories with no bit, and with one
@@ -156,7 +179,7 @@ blank-content : Content blank
 unfolding blank
 blank-content = record { size = length-replicate {A = ℕ} memorySize 0; bytes = λ i. omega (arith, blank-at i) }
 
-blank-bit : (row : RamRow) (column : ℕ) → bit blank row column ≡ 0
+blank-bit : (row : RamRow) (column : ℕ) → bit address blank row column ≡ 0
 unfolding bit
 blank-bit row column = rw (blank-at (address (row .0 / 8) column), zero-div)
 
@@ -190,8 +213,8 @@ column-decided false true e = absurd (omega arith)
 
 -- settings that draw the same, from every memory
 module _ (r s : Registers) (b : Bounds r) (d : Bounds s) (same : (memory : List ℕ) → Content memory → frame r memory ≡ frame s memory) where
-  places-agree : (memory : List ℕ) → Content memory → (y x : ℕ) → y < frameRows → x < width → turned (r .reverse) (bit memory (ramRow (ramOf r y)) (columnOf width r x)) ≡ turned (s .reverse) (bit memory (ramRow (ramOf s y)) (columnOf width s x))
-  places-agree memory content y x l k = sym (place-shows r b memory y x l k) ∙ ap (placeOf y x) (same memory content) ∙ place-shows s d memory y x l k
+  places-agree : (memory : List ℕ) → Content memory → (y x : ℕ) → y < frameRows → x < width → turned (r .reverse) (bit address memory (ramRow (ramOf r y)) (columnOf width (r .«column_direction») x)) ≡ turned (s .reverse) (bit address memory (ramRow (ramOf s y)) (columnOf width (s .«column_direction») x))
+  places-agree memory content y x l k = sym (place-shows r b memory y x l k) ∙ ap (placeOf width y x) (same memory content) ∙ place-shows s d memory y x l k
 
   reverse-agrees : r .reverse ≡ s .reverse
   unfolding turned
@@ -200,27 +223,27 @@ module _ (r s : Registers) (b : Bounds r) (d : Bounds s) (same : (memory : List 
       omega (arith, b .reverse, d .reverse)
 
   -- they show the same bit at each place
-  bit-agrees : (y x : ℕ) → y < frameRows → x < width → (ramOf s y ≡ ramOf r y) × (columnOf width s x ≡ columnOf width r x)
+  bit-agrees : (y x : ℕ) → y < frameRows → x < width → (ramOf s y ≡ ramOf r y) × (columnOf width (s .«column_direction») x ≡ columnOf width (r .«column_direction») x)
   unfolding turned
-  bit-agrees y x l k = either (ℕ-discrete (ramOf s y) (ramOf r y)) (ℕ-discrete (columnOf width s x) (columnOf width r x))
+  bit-agrees y x l k = either (ℕ-discrete (ramOf s y) (ramOf r y)) (ℕ-discrete (columnOf width (s .«column_direction») x) (columnOf width (r .«column_direction») x))
     where
       row : ℕ
       row = ramOf r y
 
       column : ℕ
-      column = columnOf width r x
+      column = columnOf width (r .«column_direction») x
 
       room : address (row / 8) column < length blank
-      room = inside blank row column (ram-below r y) (column-below width r x k) blank-long
+      room = inside blank row column (rows-both-ways r .thereIn y l) (columns-bijection width (r .«column_direction») .thereIn x k) blank-long
 
-      refused : ((ramOf s y ≡ row) × (columnOf width s x ≡ column) → ⊥) → ⊥
+      refused : ((ramOf s y ≡ row) × (columnOf width (s .«column_direction») x ≡ column) → ⊥) → ⊥
       refused n =
-          let lit : bit (flipped (ramRow row) column blank) (ramRow row) column ≡ 1 = flip-hit blank row column room ∙ rw (blank-bit (ramRow row) column) in
-          let dark : bit (flipped (ramRow row) column blank) (ramRow (ramOf s y)) (columnOf width s x) ≡ 0 = flip-miss blank row column room (ramOf s y) (columnOf width s x) (column-below width r x k) (column-below width s x k) n ∙ blank-bit (ramRow (ramOf s y)) (columnOf width s x) in
-          let e : (1 + r .reverse) % 2 ≡ (0 + s .reverse) % 2 = rw (lit, dark) at (places-agree (flipped (ramRow row) column blank) (lit-content row column (ram-below r y) (column-below width r x k)) y x l k) in
+          let lit : bit address (flipped (ramRow row) column blank) (ramRow row) column ≡ 1 = flip-hit blank row column room ∙ rw (blank-bit (ramRow row) column) in
+          let dark : bit address (flipped (ramRow row) column blank) (ramRow (ramOf s y)) (columnOf width (s .«column_direction») x) ≡ 0 = flip-miss blank row column room (ramOf s y) (columnOf width (s .«column_direction») x) (columns-bijection width (r .«column_direction») .thereIn x k) (columns-bijection width (s .«column_direction») .thereIn x k) n ∙ blank-bit (ramRow (ramOf s y)) (columnOf width (s .«column_direction») x) in
+          let e : (1 + r .reverse) % 2 ≡ (0 + s .reverse) % 2 = rw (lit, dark) at (places-agree (flipped (ramRow row) column blank) (lit-content row column (rows-both-ways r .thereIn y l) (columns-bijection width (r .«column_direction») .thereIn x k)) y x l k) in
           omega (arith, reverse-agrees)
 
-      either : Dec (ramOf s y ≡ row) → Dec (columnOf width s x ≡ column) → (ramOf s y ≡ row) × (columnOf width s x ≡ column)
+      either : Dec (ramOf s y ≡ row) → Dec (columnOf width (s .«column_direction») x ≡ column) → (ramOf s y ≡ row) × (columnOf width (s .«column_direction») x ≡ column)
       either (yes p) (yes q) = (p, q)
       either (yes p) (no n) = absurd (refused (λ e. n (e .1)))
       either (no n) q = absurd (refused (λ e. n (e .0)))
@@ -238,9 +261,9 @@ module _ (r s : Registers) (b : Bounds r) (d : Bounds s) (same : (memory : List 
         line = turns .1;
       }
 
--- the demand is not empty: after AF from power-on the chip is set so
-pub full-once-on : Full (fromPowerOn (commandByte 0xAF ∷ []) .registers)
-unfolding largestValues powerOn within awaitedCodes legal table commandBy commandOf obeyed command step registersAfter chipAfter after meaningOf
+-- the demand is not empty: power-on with the display on is such a setting
+pub full-once-on : Full (powerOn with on ≔ 1)
+unfolding ranges largestValues powerOn within awaitedCodes legal
 full-once-on = record { inRange = refl; allRows = refl; on = refl; notLit = refl }
 
 pub demand3 : Demand3

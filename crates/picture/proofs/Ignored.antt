@@ -11,14 +11,15 @@ use Rattle.bus.specs.Places.{start, offset, multiplex, columnDirection, rowDire
 use Rattle.bus.specs.Registers.{imageOf, registersOf}
 use Rattle.bus.specs.Memory.{address}
 use Rattle.bus.specs.declared.registers.Registers.{Registers}
-use Rattle.picture.specs.Rows.{panelRow, comOf, used, ramRowOf, panelShows, rowShows}
-use Rattle.picture.specs.Frame.{bit, columnOf, shownBit, whileOn, segment, frame}
-use Rattle.picture.specs.Ignored.{drawNothing, DrawAlike, SameBits}
+use Rattle.picture.specs.Scan.{panelRow, comOf, used, ramRowOf, panelShows, rowShows, columnOf}
+use Rattle.picture.specs.Rows.{scanOf}
+use Rattle.picture.specs.Frame.{bit, shownBit, whileOn, segment, frame}
+use Rattle.picture.specs.Ignored.{drawNothing, DrawAlike, SameBits, Ignored}
 use Rattle.picture.specs.declared.rows.RamRow.{RamRow}
 use Rattle.picture.specs.declared.rows.Shown.{Shown}
 use Rattle.picture.proofs.Lines.{grid-same}
-use Rattle.picture.proofs.RowRule.{ram-within}
-use Rattle.picture.proofs.Full.{column-below}
+use Rattle.picture.proofs.RamRows.{ram-within}
+use Rattle.picture.proofs.AllRows.{columns-bijection}
 
 -- the registers with those that draw nothing cleared
 abbrev cleared : List ℕ → List ℕ → List ℕ
@@ -41,35 +42,38 @@ seen-alike r s a =
     rw (by-start, by-offset, by-multiplex, by-columns, by-rows, by-entire, by-reverse, by-on)
 
 -- drawing asks no other
-segment-seen : (r : Registers) (memory : List ℕ) (shown : Shown) (x : ℕ) → segment width r memory shown x ≡ segment width (seen r) memory shown x
+segment-seen : (r : Registers) (memory : List ℕ) (shown : Shown) (x : ℕ) → segment r memory shown x ≡ segment (seen r) memory shown x
 unfolding segment whileOn shownBit columnOf
 segment-seen r memory Shown.Dark x = refl
 segment-seen r memory (Shown.Ram row) x = refl
 
 frame-seen : (r : Registers) (memory : List ℕ) → frame r memory ≡ frame (seen r) memory
 unfolding frame rowShows panelShows used ramRowOf comOf
-frame-seen r memory = grid-same width frameRows _ _ (λ y x l k. segment-seen r memory (rowShows height r (panelRow y)) x)
+frame-seen r memory = grid-same width frameRows _ _ (λ y x l k. segment-seen r memory (rowShows (scanOf r) (panelRow y)) x)
 
 -- settings that draw alike draw the same frame from every memory
-pub held-draw-nothing : (r s : Registers) → DrawAlike r s → (memory : List ℕ) → frame r memory ≡ frame s memory
+held-draw-nothing : (r s : Registers) → DrawAlike r s → (memory : List ℕ) → frame r memory ≡ frame s memory
 held-draw-nothing r s a memory = frame-seen r memory ∙ ap (λ seen. frame seen memory) (seen-alike r s a) ∙ sym (frame-seen s memory)
 
 -- a RAM row's bit in a column
-bit-same : (memory other : List ℕ) → SameBits memory other → (row : RamRow) (column : ℕ) → row .0 ≤ height → column < width → bit memory row column ≡ bit other row column
+bit-same : (memory other : List ℕ) → SameBits memory other → (row : RamRow) (column : ℕ) → row .0 ≤ height → column < width → bit address memory row column ≡ bit address other row column
 unfolding bit
 bit-same memory other e row column l k = by (decLt (row .0) height)
   where
     by : Dec (row .0 < height) → getD memory (address (row .0 / 8) column) 0 / 2 ^ (row .0 % 8) % 2 ≡ getD other (address (row .0 / 8) column) 0 / 2 ^ (row .0 % 8) % 2
     by (yes m) = ap (λ byte. byte / 2 ^ (row .0 % 8) % 2) (e .pages (address (row .0 / 8) column) (omega arith))
     by (no n) =
-        let icons : row .0 ≡ 64 = omega arith in
+        let icons : row .0 ≡ height = omega arith in
         rw icons (omega (arith, e .icons column k))
 
 -- memories with the same bits are drawn as the same frame by every setting
-pub rest-ignored : (r : Registers) (memory other : List ℕ) → SameBits memory other → frame r memory ≡ frame r other
+rest-ignored : (r : Registers) (memory other : List ℕ) → SameBits memory other → frame r memory ≡ frame r other
 unfolding frame segment whileOn shownBit
-rest-ignored r memory other e = grid-same width frameRows _ _ (λ y x l k. place y x k (rowShows height r (panelRow y)) refl)
+rest-ignored r memory other e = grid-same width frameRows _ _ (λ y x l k. place y x k (rowShows (scanOf r) (panelRow y)) refl)
   where
-    place : (y x : ℕ) → x < width → (shown : Shown) → rowShows height r (panelRow y) ≡ shown → segment width r memory (rowShows height r (panelRow y)) x ≡ segment width r other (rowShows height r (panelRow y)) x
+    place : (y x : ℕ) → x < width → (shown : Shown) → rowShows (scanOf r) (panelRow y) ≡ shown → segment r memory (rowShows (scanOf r) (panelRow y)) x ≡ segment r other (rowShows (scanOf r) (panelRow y)) x
     place y x k Shown.Dark q = rw q
-    place y x k (Shown.Ram row) q = rw (q, bit-same memory other e row (columnOf width r x) (ram-within height r (panelRow y) (omega arith) q) (column-below width r x k))
+    place y x k (Shown.Ram row) q = rw (q, bit-same memory other e row (columnOf width (r .«column_direction») x) (ram-within (scanOf r) (omega arith) (panelRow y) q) (columns-bijection width (r .«column_direction») .thereIn x k))
+
+pub ignored : Ignored
+ignored = record { settings = held-draw-nothing; restOfPage8 = rest-ignored }

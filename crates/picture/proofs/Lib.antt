@@ -1,12 +1,26 @@
-pub mod Samples
-pub mod Demand3
-pub mod Yields
+-- a row of places, and rows one after the other
 pub mod Lines
+-- the frame: its length, its rows and its places
 pub mod Places
-pub mod RowRule
+-- a RAM row that is shown is one of the memory
+pub mod RamRows
+-- a page that is lent on has its RAM rows' bits
+pub mod PageBits
+-- entire on with all rows in use lights every row
+pub mod AllLit
+-- what the call and its frame come to; demand 1 for drawing
+pub mod Drawing
+-- one outcome for each public call
+pub mod Settled
+-- bijections of the numbers below n
+pub mod Bijection
+-- the row rule with all rows in use is a turn of the rows, over any size
 pub mod Turns
-pub mod Full
-pub mod Flip
-pub mod Bits
+-- with all rows in use, which RAM row each row shows, over any scan; rows and columns are bijections
+pub mod AllRows
+-- one bit of the memory flipped
+pub mod Flipped
+-- demand 3
+pub mod Demand3
+-- what drawing does not ask
 pub mod Ignored
-pub mod Lit

@@ -90,15 +90,22 @@ module _ (h : ℕ) where
   abbrev pub amount : Bool → ℕ → ℕ → ℕ
   amount normal start offset = cond normal ((start + offset) % h) ((start + h - offset) % h)
 
-  -- the row rule is a turn by it
-  pub rule : (normal : Bool) (start offset p : ℕ) → start < h → offset < h → p < h → cond normal ((start + (p + offset) % h) % h) ((start + h - 1 - (p + offset) % h) % h) ≡ turnOf h normal (amount normal start offset) p
-  rule true start offset p s o l =
+  pub amount-below : (normal : Bool) (start offset : ℕ) → 0 < h → amount normal start offset < h
+  amount-below true start offset pos = mod-lt _ pos
+  amount-below false start offset pos = mod-lt _ pos
+
+  rule-within : (normal : Bool) (start offset p : ℕ) → start < h → offset < h → p < h → cond normal ((start + (p + offset) % h) % h) ((start + h - 1 - (p + offset) % h) % h) ≡ turnOf h normal (amount normal start offset) p
+  rule-within true start offset p s o l =
       let sum : start + (p + offset) ≡ start + offset + p = omega arith in
       rw (add-mod-mod start (p + offset) h, mod-add-mod (start + offset) h p, sum)
-  rule false start offset p s o l =
+  rule-within false start offset p s o l =
       let below = mod-lt (p + offset) {m = h} (omega arith) in
       let last : start + h - 1 - (p + offset) % h ≡ start + (h - 1) - (p + offset) % h = omega arith in
       rw last (reversed start offset p s o l)
+
+  -- the row rule is a turn by it, for any shift of the COMs
+  pub rule : (normal : Bool) (start shift p : ℕ) → start < h → p < h → cond normal ((start + (p + shift) % h) % h) ((start + h - 1 - (p + shift) % h) % h) ≡ turnOf h normal (amount normal start (shift % h)) p
+  rule normal start shift p s l = rw (← (add-mod-mod p shift h)) (rule-within normal start (shift % h) p s (mod-lt shift (omega arith)) l)
 
   -- the start line raised by n: rows normal show what was n rows below, rows reversed what was n rows above
   pub up : (start offset n p : ℕ) → turnOf h true (amount true ((start + n) % h) offset) p ≡ turnOf h true (amount true start offset) ((p + n) % h)

@@ -13,8 +13,9 @@ use Rattle.bus.specs.Registers.{imageOf, _with_≔_}
 use Rattle.bus.specs.Memory.{address}
 use Rattle.bus.specs.Image.{legal}
 use Rattle.bus.specs.declared.registers.Registers.{Registers}
-use Rattle.picture.specs.Rows.{ramRow, rowsInUse}
-use Rattle.picture.specs.Frame.{frame, rowOf, placeOf}
+use Rattle.picture.specs.Scan.{ramRow}
+use Rattle.picture.specs.Rows.{rowsInUse}
+use Rattle.picture.specs.Frame.{bit, turned, frame, rowOf, placeOf}
 use Rattle.picture.specs.declared.rows.RamRow.{RamRow}
 
 -- A setting with all 64 rows in use, the panel on and not forced all-lit; its registers are in their ranges.
@@ -31,25 +32,31 @@ flipped row column memory =
 
 -- A bit shows in row y at segment x: flipping it changes that place, and no other, in every memory.
 pub record ShowsAt (r : Registers) (row column y x : ℕ) : Type 0 where
-  pub changes : (memory : List ℕ) → memorySize ≤ length memory → placeOf y x (frame r (flipped (ramRow row) column memory)) ≢ placeOf y x (frame r memory)
-  pub noOther : (memory : List ℕ) → memorySize ≤ length memory → (y′ x′ : ℕ) → y′ < frameRows → x′ < width → ((y′ ≡ y) × (x′ ≡ x) → ⊥) → placeOf y′ x′ (frame r (flipped (ramRow row) column memory)) ≡ placeOf y′ x′ (frame r memory)
+  pub changes : (memory : List ℕ) → memorySize ≤ length memory → placeOf width y x (frame r (flipped (ramRow row) column memory)) ≢ placeOf width y x (frame r memory)
+  pub noOther : (memory : List ℕ) → memorySize ≤ length memory → (y′ x′ : ℕ) → y′ < frameRows → x′ < width → ((y′ ≡ y) × (x′ ≡ x) → ⊥) → placeOf width y′ x′ (frame r (flipped (ramRow row) column memory)) ≡ placeOf width y′ x′ (frame r memory)
 
--- A bit shows at exactly one place.
+-- A place is lit exactly when a bit, turned round by reverse, is 1, in every memory.
+abbrev pub LitBy : Registers → ℕ → ℕ → ℕ → ℕ → Type 0
+LitBy r row column y x = (memory : List ℕ) → (placeOf width y x (frame r memory) ≡ 1) ↔ (turned (r .reverse) (bit address memory (ramRow row) column) ≡ 1)
+
+-- A bit shows at exactly one place, which is lit by it.
 pub record OnePlace (r : Registers) (row column : ℕ) : Type 0 where
   pub y : ℕ
   pub x : ℕ
   pub yIn : y < frameRows
   pub xIn : x < width
   pub shows : ShowsAt r row column y x
+  pub lit : LitBy r row column y x
   pub only : (y′ x′ : ℕ) → y′ < frameRows → x′ < width → ShowsAt r row column y′ x′ → (y′ ≡ y) × (x′ ≡ x)
 
--- A place shows a bit.
+-- A place shows a bit, and is lit by it.
 pub record SomeBit (r : Registers) (y x : ℕ) : Type 0 where
   pub row : ℕ
   pub column : ℕ
   pub rowIn : row < frameRows
   pub columnIn : column < width
   pub shows : ShowsAt r row column y x
+  pub lit : LitBy r row column y x
 
 -- The start line raised by n, modulo 64.
 unfoldable pub raised : ℕ → Registers → Registers
@@ -57,9 +64,9 @@ raised n r = r with start ≔ (r .start + n) % height
 
 -- Raising the start line by n moves the dot rows up by n, round the 64, or down where rows are reversed, and the icon line stays.
 pub record Scrolls (r : Registers) (n : ℕ) (memory : List ℕ) : Type 0 where
-  pub up : r .«row_direction» ≡ 0 → (p : ℕ) → p < height → rowOf p (frame (raised n r) memory) ≡ rowOf ((p + n) % height) (frame r memory)
-  pub down : r .«row_direction» ≡ 1 → (p : ℕ) → p < height → rowOf ((p + n) % height) (frame (raised n r) memory) ≡ rowOf p (frame r memory)
-  pub icons : rowOf height (frame (raised n r) memory) ≡ rowOf height (frame r memory)
+  pub up : r .«row_direction» ≡ 0 → (p : ℕ) → p < height → rowOf width p (frame (raised n r) memory) ≡ rowOf width ((p + n) % height) (frame r memory)
+  pub down : r .«row_direction» ≡ 1 → (p : ℕ) → p < height → rowOf width ((p + n) % height) (frame (raised n r) memory) ≡ rowOf width p (frame r memory)
+  pub icons : rowOf width height (frame (raised n r) memory) ≡ rowOf width height (frame r memory)
 
 -- What a display memory can hold: 1,188 bytes.
 pub record Content (memory : List ℕ) : Type 0 where

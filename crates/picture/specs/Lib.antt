@@ -1,6 +1,16 @@
+-- the three countings of rows; scan, start line and columns over numbers
+pub mod Scan
+-- the numbers that this chip's scan goes by
 pub mod Rows
+-- what each place shows, and the frame
 pub mod Frame
+-- the call that draws
 pub mod Draw
-pub mod Samples
-pub mod Demand3
+-- what the call and its frame come to; demand 1 for drawing
+pub mod Drawing
+-- one outcome for each public call
+pub mod Settled
+-- what drawing does not ask
 pub mod Ignored
+-- demand 3
+pub mod Demand3

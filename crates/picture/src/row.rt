@@ -3,26 +3,31 @@ ghost use mathlib.Core.Path.{_≡_};
 ghost use Prim.Native.Nat.{_≤_, _<_, _-_, _/_, _%_, _^_};
 ghost use lib.ListN.{length, getD};
 ghost use Rattle.constants.specs.Sizes.{width, memorySize, height, frameRows};
-ghost use Rattle.picture.specs.Rows.{rowShows};
+ghost use Rattle.picture.specs.Scan.{rowShows};
+ghost use Rattle.picture.specs.Rows.{scanOf};
 ghost use Rattle.picture.specs.Frame.{segment, shownBit, line, turned};
 use crate::rows::PanelRow;
 use crate::rows::RamRow;
 use crate::rows::Shown;
 use crate::rows::row_shows;
 use bus::registers::Registers;
+use constants::sizes::HEIGHT;
 use constants::sizes::WIDTH;
+
+// The multiplex with which all 64 rows are in use.
+const ALL_ROWS: u8 = HEIGHT - 1;
 
 // Draws one row of the frame into its own 132 bytes. Where all 64 rows are in use entire on lights every one, and the rule is not asked (DECISIONS 38).
 pub fn draw_row(registers: Registers, memory: &[u8], row: PanelRow, places: &mut [u8])
     requires { ⌜ (row .0 < frameRows) × (memorySize ≤ length (now memory)) × (length (now places) ≡ width) ⌝ }
-    ensures { λ _. ⌜ now (places .exit) ≡ line width (segment width registers (now (memory .entry)) (rowShows height registers row)) ⌝ }
+    ensures { λ _. ⌜ now (places .exit) ≡ line width (segment registers (now (memory .entry)) (rowShows (scanOf registers) row)) ⌝ }
 {
     if registers.on == 0 {
         fill(places, 0);
         return;
     }
     if registers.entire == 1 {
-        if registers.multiplex == 63 {
+        if registers.multiplex == ALL_ROWS {
             fill(places, 1);
             return;
         }
@@ -42,7 +47,7 @@ pub fn draw_row(registers: Registers, memory: &[u8], row: PanelRow, places: &mut
 // Draws the bits of a RAM row, its columns in the column direction.
 fn draw_bits(registers: Registers, memory: &[u8], row: RamRow, places: &mut [u8])
     requires { ⌜ (row .0 ≤ height) × (memorySize ≤ length (now memory)) × (length (now places) ≡ width) ⌝ }
-    ensures { λ _. ⌜ now (places .exit) ≡ line width (shownBit width registers (now (memory .entry)) row) ⌝ }
+    ensures { λ _. ⌜ now (places .exit) ≡ line width (shownBit registers (now (memory .entry)) row) ⌝ }
 {
     let number = row.0 as usize;
     let bit = row.0 % 8;

@@ -1,8 +1,9 @@
 // The three countings of rows, and the row rule that converts between them.
 ghost use mathlib.Core.Path.{_≡_};
-ghost use Prim.Native.Nat.{_≤_, _%_};
+ghost use Prim.Native.Nat.{_≤_, _<_, _-_, _%_};
 ghost use Rattle.constants.specs.Sizes.{height};
-ghost use Rattle.picture.specs.Rows.{comOf, used, ramRowOf, rowShows};
+ghost use Rattle.picture.specs.Scan.{comNumber, comOf, used, ramRowOf, rowShows};
+ghost use Rattle.picture.specs.Rows.{shift, scanOf};
 use bus::registers::Registers;
 use constants::sizes::HEIGHT;
 
@@ -24,9 +25,9 @@ pub enum Shown {
 impl PanelRow {
     // The COM that the panel row belongs to.
     fn belongs_to(self, registers: Registers) -> Com
-        ensures { λ r. ⌜ r ≡ comOf height registers self ⌝ }
+        ensures { λ r. ⌜ r ≡ comOf (scanOf registers) self ⌝ }
     {
-        let sum = (self.0 as u16) + (registers.offset as u16);
+        let sum = (self.0 as u16) + shifted_by(registers);
         Com(around(sum))
     }
 }
@@ -34,29 +35,37 @@ impl PanelRow {
 impl Com {
     // Whether the COM is in use.
     fn used(self, registers: Registers) -> bool
-        ensures { λ r. ⌜ r ≡ used registers self ⌝ }
+        ensures { λ r. ⌜ r ≡ used (scanOf registers) self ⌝ }
     {
         self.0 <= registers.multiplex
     }
 
     // The RAM row that the COM shows, where it is in use.
     fn shows(self, registers: Registers) -> RamRow
-        requires { ⌜ self .0 ≤ registers .multiplex ⌝ }
-        ensures { λ r. ⌜ r ≡ ramRowOf height registers self ⌝ }
+        requires { ⌜ (self .0 ≤ registers .multiplex) × (self .0 < height) ⌝ }
+        ensures { λ r. ⌜ r ≡ ramRowOf (scanOf registers) self ⌝ }
     {
         if registers.row_direction == 0 {
             let sum = (registers.start as u16) + (self.0 as u16);
             return RamRow(around(sum));
         }
-        let turned = registers.multiplex - self.0;
-        let sum = (registers.start as u16) + (turned as u16);
+        let turned = self.turned_round(registers.multiplex);
+        let sum = (registers.start as u16) + (turned.0 as u16);
         RamRow(around(sum))
+    }
+
+    // The COM counted back from the last, the first and the last changing places.
+    fn turned_round(self, last: u8) -> Com
+        requires { ⌜ self .0 ≤ last ⌝ }
+        ensures { λ r. ⌜ r ≡ comNumber (last - self .0) ⌝ }
+    {
+        Com(last - self.0)
     }
 }
 
 // What a row of the frame shows: a panel row, or the icon line after the last of them.
 pub fn row_shows(registers: Registers, row: PanelRow) -> Shown
-    ensures { λ r. ⌜ r ≡ rowShows height registers row ⌝ }
+    ensures { λ r. ⌜ r ≡ rowShows (scanOf registers) row ⌝ }
 {
     if row.0 < HEIGHT {
         let com = row.belongs_to(registers);
@@ -66,6 +75,13 @@ pub fn row_shows(registers: Registers, row: PanelRow) -> Shown
         return Shown::Dark;
     }
     Shown::Ram(RamRow(HEIGHT))
+}
+
+// The shift from a panel row to its COM.
+fn shifted_by(registers: Registers) -> u16
+    ensures { λ r. ⌜ r ≡ shift registers ⌝ }
+{
+    registers.offset as u16
 }
 
 // A row counted on past the last panel row comes round to the first.

@@ -1,24 +1,55 @@
-pub mod Samples
-pub mod Turn
-pub mod Stretched
-pub mod Fronts
-pub mod Standing
-pub mod ByKind
-pub mod Rest
-pub mod Ran
-pub mod Cases
+-- 1. The bytes of a trace, whatever they are played on.
+-- what stands at an offset, by the tests that tell it
+pub mod WhatStands
+-- the split into records: proves specs/SplitLaws
+pub mod SplitLaws
+-- the reader visits the records of the split: proves specs/ReaderWalk
+pub mod ReaderWalk
+-- 2. A trace played over any machine.
+-- played is what the events give one by one
 pub mod OneByOne
-pub mod Further
-pub mod Written
-pub mod Joined
-pub mod Payloads
-pub mod First
-pub mod Sound
-pub mod Kept
-pub mod Held
-pub mod Runs
-pub mod ByCalls
-pub mod RecordStops
+-- from a later offset on, and by what stands there
+pub mod PlayedFurther
+-- whole records followed by more
+pub mod PlayedJoined
+-- how it ends, after whole records that are taken
+pub mod PlayedStops
+-- what each event keeps is kept
+pub mod PlayedKeeps
+-- the bytes of a payload, one after the other
+pub mod PayloadBytes
+-- proves specs/AnyMachine
+pub mod AnyMachine
+-- 3. The chip as that machine.
+-- what a record of each kind stands for
+pub mod ChipKinds
+-- what headers and events are refused with
+pub mod ChipRefusals
+-- what each event keeps
+pub mod ChipKeeps
+-- a record's events are a stretch on the bus: proves specs/Stretched
+pub mod Stretched
+-- 4. The run on a lent state and memory.
+-- refused first, or played from the image's registers; what it leaves
+pub mod RunOnLent
+-- it is what the event calls give one by one
+pub mod RunByCalls
+-- proves specs/RunLaws
+pub mod RunLaws
+-- how it stops
 pub mod RunStops
-pub mod FirstAsked
-pub mod Exactly
+-- 1 and 2 exactly when
+pub mod GivenAsked
+-- 0 exactly when
+pub mod GivenZero
+-- 3 to 7 and 10 exactly when
+pub mod GivenEvent
+-- 8 and 9 exactly when; proves specs/Given
+pub mod Given
+-- samples, by computing: proves specs/Samples
+pub mod Samples
+-- 5. The code.
+-- how the code's run ends
+pub mod RunCode
+-- one result for each public call: proves specs/Settled
+pub mod Settled

@@ -4,10 +4,15 @@ use mathlib.Core.Path.{_≡_, refl, sym, _∙_, ap, fun-ext}
 use mathlib.Core.List.{List, [], _∷_, _++_}
 use Prim.Native.Nat.{ℕ, _+_}
 use Rattle.constants.specs.Sizes.{headerSize}
-use Rattle.trace.specs.Records.{Trace, ended, cut, _then_}
 use Rattle.trace.specs.Play.{Result, refuses, gives, onResult, Machine, stopped, onEnding, Played, played, playEvents, playRecord, playFrom}
-use Rattle.trace.proofs.Cases.{by-cases}
+use Rattle.trace.specs.Records.{Trace, ended, cut, _then_}
 use Rattle.trace.specs.OneByOne.{Placed, placed, Script, script, scriptFrom, applied, oneByOne}
+
+-- two ways to go by one result, equal where they are equal in each of its cases
+pub by-cases : {A B C : Type 0} (f : B → C) (result : Result A) {stop : ℕ → C} {go : A → C} {stop′ : ℕ → B} {go′ : A → B}
+    → ((number : ℕ) → stop number ≡ f (stop′ number)) → ((a : A) → go a ≡ f (go′ a)) → onResult result stop go ≡ f (onResult result stop′ go′)
+by-cases f (refuses number) p q = p number
+by-cases f (gives a) p q = q a
 
 module _ {S E : Type 0} (machine : Machine S E) where
   -- a record's events, then others

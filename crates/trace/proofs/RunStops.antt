@@ -1,31 +1,57 @@
--- How a run of the chip stops: at a header that is cut or of no kind, or at an event of a record, after whole records that are taken.
+-- How a run stops: at a header that is cut or of no kind, or at a byte of a record whose event is refused, after whole records that are taken.
 -- Assumes nothing.
 use mathlib.Core.Path.{_≡_, refl, sym, _∙_, ap, subst}
 use mathlib.Core.Bool.{true}
 use mathlib.Core.List.{List, []}
-use Prim.Native.Nat.{ℕ, _≤_}
+use Prim.Native.Nat.{ℕ, _+_, _≤_, _<_}
 use native.Mathlib.Omega.{arith}
-use lib.ListN.{length, take, drop}
+use lib.ListN.{length, drop, take}
 use lib.Seq.{length-take-le}
-use Rattle.constants.specs.Numbers.{taken, columnAbove, headerCut, kindUnknown}
-use Rattle.bus.specs.Chip.{Chip}
+use Rattle.constants.specs.Numbers.{kindUnknown, taken, outOfRange, headerCut}
+use Rattle.constants.specs.Sizes.{headerSize}
+use Rattle.bus.specs.Chip.{Chip, resetPulse, step}
+use Rattle.bus.specs.Events.{resetPin}
 use Rattle.bus.specs.Image.{asked}
 use Rattle.bus.specs.declared.registers.Registers.{Registers}
-use Rattle.bus.proofs.Asking.{OneOrTwo, asked-refusal}
-use Rattle.trace.specs.Records.{whole, split}
-use Rattle.trace.specs.Play.{Played, played, playFrom, play}
-use Rattle.trace.specs.Kinds.{chipOf, theChip}
-use Rattle.trace.specs.Run.{Ran, ranOf, run}
-use Rattle.trace.specs.Given.{HeaderAt, HeaderCut, KindUnknown}
-use Rattle.trace.proofs.Rest.{rest}
-use Rattle.trace.proofs.Joined.{taken-offset}
-use Rattle.trace.proofs.First.{Reached, First, all, cutAt, stopAt, first, from-there}
-use Rattle.trace.proofs.Payloads.{by-kind}
-use Rattle.trace.proofs.Sound.{the-chip-sound}
-use Rattle.trace.proofs.Runs.{run-found, by-asking, refused-run, refused-taken}
-use Rattle.trace.proofs.Fronts.{tests-cut}
-use Rattle.trace.proofs.RecordStops.{ReadStop, RecordStop, atHeader, atEvent, atRead, record-stop}
 use Rattle.bus.specs.declared.image.Asked.{Asked}
+use Rattle.bus.proofs.Asking.{OneOrTwo, asked-refusal}
+use Rattle.trace.specs.Records.{lengthOf, kindOf, payloadOf, whole, recordAt, split}
+use Rattle.trace.specs.Play.{Result, stopped, playRecord, Played, played, playFrom, play}
+use Rattle.trace.specs.Kinds.{Recorded, event, happened, replay, theChip, chipOf}
+use Rattle.trace.specs.Given.{Unknown, recordedBy, HeaderAt, HeaderCut, KindUnknown}
+use Rattle.trace.specs.Run.{Ran, ranOf, run}
+use Rattle.trace.specs.AnyMachine.{Reached}
+use Rattle.trace.proofs.ChipKinds.{kind-4, Kind, commands, writes, reads, reset, none, by-kind, front, its-bytes, unknown-stops}
+use Rattle.trace.proofs.WhatStands.{within-trace, payload-length, tests-cut}
+use Rattle.trace.proofs.PayloadBytes.{never, StopsAt, stops-at, one-given}
+use Rattle.trace.proofs.SplitLaws.{rest}
+use Rattle.trace.proofs.PlayedJoined.{taken-offset}
+use Rattle.trace.proofs.PlayedStops.{First, all, cutAt, stopAt, first, from-there}
+use Rattle.trace.proofs.ChipRefusals.{the-chip-sound}
+use Rattle.trace.proofs.RunOnLent.{run-found, by-asking, refused-run, refused-taken}
+
+module _ (trace : List ℕ) where
+  data RecordStop (at : ℕ) (c : Chip) (number offset : ℕ) (d : Chip) : Type 0 where
+    atHeader : Unknown (kindOf (drop at trace)) (lengthOf (drop at trace)) → number ≡ kindUnknown → offset ≡ at → RecordStop at c number offset d
+    atByte : 1 ≤ kindOf (drop at trace) → kindOf (drop at trace) ≤ 3 → StopsAt theChip (recordedBy (kindOf (drop at trace))) trace (at + headerSize) (at + headerSize + lengthOf (drop at trace)) c number offset d → RecordStop at c number offset d
+
+  module _ (at : ℕ) (c : Chip) (number offset : ℕ) (d : Chip) (w : whole (drop at trace) ≡ true) (h : playRecord theChip (recordAt at (drop at trace)) c ≡ stopped number offset d) where
+    byte-stop : 1 ≤ kindOf (drop at trace) → kindOf (drop at trace) ≤ 3 → RecordStop at c number offset d
+    byte-stop p q =
+        atByte p q (stops-at theChip (recordedBy (kindOf (drop at trace))) trace (lengthOf (drop at trace)) (at + headerSize) _ c number offset d refl (within-trace trace at _ (front trace at c w)) (sym (its-bytes trace at c w p q) ∙ h))
+
+    record-stop : {result : Result (List Recorded)} → Kind (kindOf (drop at trace)) (payloadOf (drop at trace)) result → RecordStop at c number offset d
+    unfolding replay happened step resetPin
+    record-stop (commands k) = byte-stop (omega arith) (omega arith)
+    record-stop (writes k) = byte-stop (omega arith) (omega arith)
+    record-stop (reads k) = byte-stop (omega arith) (omega arith)
+    record-stop (reset k e) =
+        absurd (never (sym (one-given theChip (event resetPulse) (at + headerSize) c _ refl) ∙ sym (kind-4 trace at _ (front trace at c w) c k (sym (payload-length trace at w) ∙ e)) ∙ h))
+    record-stop (none u) =
+        let here : stopped kindUnknown at c ≡ stopped number offset d = sym (unknown-stops trace at (front trace at c w) c (rw (payload-length trace at w) at u)) ∙ h in
+        let its-number : kindUnknown ≡ number = cc in
+        let its-offset : at ≡ offset = cc in
+        atHeader (rw (payload-length trace at w) at u) (sym its-number) (sym its-offset)
 
 as-played : {S : Type 0} (p : Played S) {number offset : ℕ} → p .number ≡ number → p .offset ≡ offset → p ≡ played number offset (p .count) (p .state)
 as-played p a b = rw (← a, ← b)
@@ -62,10 +88,12 @@ module _ (state memory trace : List ℕ) where
 
   -- how a run stops
   pub data RunStop (number offset : ℕ) : Type 0 where
-    small : number ≤ columnAbove → RunStop number offset
+    notAsked : taken < number → number ≤ outOfRange → RunStop number offset
+    nowhere : number ≡ taken → RunStop number offset
     whereCut : HeaderCut state memory trace offset → number ≡ headerCut → RunStop number offset
     atItsKind : KindUnknown state memory trace offset → number ≡ kindUnknown → RunStop number offset
-    atItsRead : (at : ℕ) (here : Standing at) (d : Chip) → whole (drop at trace) ≡ true → ReadStop trace at (here .chip) number offset d → RunStop number offset
+    atItsByte : (at : ℕ) (here : Standing at) (d : Chip) → whole (drop at trace) ≡ true → 1 ≤ kindOf (drop at trace) → kindOf (drop at trace) ≤ 3
+        → StopsAt theChip (recordedBy (kindOf (drop at trace))) trace (at + headerSize) (at + headerSize + lengthOf (drop at trace)) (here .chip) number offset d → RunStop number offset
 
   pub header-at : (at : ℕ) → Standing at → HeaderAt state memory trace at
   unfolding ranOf
@@ -73,11 +101,10 @@ module _ (state memory trace : List ℕ) where
 
   from-record : (at : ℕ) (here : Standing at) (number offset : ℕ) (d : Chip) → whole (drop at trace) ≡ true → RecordStop trace at (here .chip) number offset d → RunStop number offset
   from-record at here number offset d w (atHeader u n o) = atItsKind (rw o (record { header = header-at at here; complete = w; unknown = u })) n
-  from-record at here number offset d w (atEvent p q) = small q
-  from-record at here number offset d w (atRead s) = atItsRead at here d w s
+  from-record at here number offset d w (atByte p q s) = atItsByte at here d w p q s
 
   from-first : (r : Registers) → asked state memory ≡ Asked.Found r → {p : Played Chip} → First theChip trace (chipOf r memory) p → RunStop (p .number) (p .offset)
-  from-first r e (all n) = small (omega arith)
+  from-first r e (all n) = nowhere n
   from-first r e (cutAt at count c reached some cut q) =
       let here : Standing at = record { registers = r; found = e; count = count; chip = c; reached = reached } in
       rw q (whereCut (record { header = header-at at here; cut = tests-cut (drop at trace) some cut }) refl)
@@ -90,4 +117,4 @@ module _ (state memory trace : List ℕ) where
   run-stop =
       by-asking state memory _
       (λ r e. rw (run-found state memory r e trace) (from-first r e (first theChip the-chip-sound trace (chipOf r memory))))
-      (λ number e. rw (refused-run state memory trace number e) (small (omega (arith, subst OneOrTwo e (asked-refusal state memory) .1))))
+      (λ number e. rw (refused-run state memory trace number e) (let p = subst OneOrTwo e (asked-refusal state memory) in notAsked (p .0) (p .1)))

@@ -11,10 +11,9 @@ use lib.Seq.{slice, drop-at, take-add, length-take-le}
 use Rattle.constants.specs.Numbers.{taken}
 use Rattle.bus.specs.Chip.{Chip}
 use Rattle.bus.specs.Stretch.{stretched, after, stretch, stretchOf}
-use Rattle.bus.specs.Stretches.{NeverZero}
 use Rattle.bus.specs.declared.stretch.Stretch.{Stretch}
 use Rattle.bus.proofs.Stretches.{stretches, the-chip-never-zero}
-use Rattle.trace.specs.Play.{Result, refuses, gives, onResult, Machine, Ending, stopped, playEvents}
+use Rattle.trace.specs.Play.{Result, refuses, gives, onResult, Machine, stopped, playEvents}
 use Rattle.trace.specs.Kinds.{Recorded, replay, theChip}
 use Rattle.trace.specs.Code.{endingOf}
 use Rattle.trace.specs.Stretched.{endingAt, AreStretches}

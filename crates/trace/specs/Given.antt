@@ -1,31 +1,35 @@
--- Document 01, "Numbers given": when a run gives 8, 9 and 10, and where. Exactly.antt proves it.
+-- Document 01, "Numbers given": when a run gives each number, at which offset, with which count, and what it leaves. proofs/Given.antt proves `NumbersGiven`.
 use Prim.Native.Nat.{ℕ, _+_, _≤_, _<_}
 use mathlib.Core.Path.{_≡_}
-use mathlib.Core.Logic.{_≢_}
-use mathlib.Core.Bool.{true, false}
-use mathlib.Core.List.{List, _++_}
+use mathlib.Core.Logic.{_≢_, _↔_}
+use mathlib.Core.Bool.{true, false, cond}
+use mathlib.Core.List.{List, [], _∷_, _++_}
+use lib.Dec.{eqb}
 use lib.ListN.{length, getD, take, drop}
 use lib.Seq.{slice}
-use Rattle.constants.specs.Numbers.{taken}
-use Rattle.bus.specs.Chip.{dataRead}
-use Rattle.bus.specs.Calls.{call}
-use Rattle.bus.specs.declared.calls.Reply.{Reply}
+use Rattle.constants.specs.Numbers.{taken, tooShort, outOfRange, outsideTable, noPage, notAllowed, codeAwaited, columnAbove, headerCut, kindUnknown, readDiffers}
 use Rattle.constants.specs.Sizes.{headerSize}
-use Rattle.trace.specs.Records.{lengthOf, kindOf, whole, recordBytes}
-use Rattle.trace.specs.Run.{Ran, ran, stopOf, run}
+use Rattle.codes.specs.OneOf.{oneOf}
+use Rattle.bus.specs.Image.{short, legal}
+use Rattle.bus.specs.Calls.{call}
+use Rattle.bus.specs.Bytes.{Bytes}
+use Rattle.trace.specs.Records.{Trace, ended, cut, _then_, lengthOf, kindOf, whole, CutShort, recordBytes, split, recordsIn}
+use Rattle.trace.specs.Kinds.{Recorded, command, write, readAs, theChip}
+use Rattle.trace.specs.OneByOne.{Placed, scriptFrom}
+use Rattle.trace.specs.ByCalls.{calledBy, meets, byCalls}
+use Rattle.trace.specs.Run.{Ran, ran, stopOf, run, Accepted}
 
--- A header should stand at an offset: the bytes before it run, and all are taken.
-abbrev pub HeaderAt : List ℕ → List ℕ → List ℕ → ℕ → Type 0
-HeaderAt state memory trace offset = run state memory (take offset trace) .stop .number ≡ taken
+-- A run gives a number at an offset.
+abbrev pub GivesAt : Ran → ℕ → ℕ → Type 0
+GivesAt outcome number offset = (outcome .stop .number ≡ number) × (outcome .stop .offset ≡ offset)
 
 -- A run that stops with a number at an offset, and leaves the count, state and memory that another left.
 abbrev pub stoppedAfter : ℕ → ℕ → Ran → Ran
 stoppedAfter number offset before = ran (stopOf number offset (before .stop .count)) (before .state) (before .memory)
 
--- One to three bytes are left, or the payload is past the end.
-pub data CutShort (left : List ℕ) : Type 0 where
-  fewBytes : 0 < length left → length left < headerSize → CutShort left
-  pastEnd : headerSize ≤ length left → length left < headerSize + lengthOf left → CutShort left
+-- A header should stand at an offset: the bytes before it run, and all are taken.
+abbrev pub HeaderAt : List ℕ → List ℕ → List ℕ → ℕ → Type 0
+HeaderAt state memory trace offset = run state memory (take offset trace) .stop .number ≡ taken
 
 -- The kind is not 1 to 4, or 4 with a payload.
 pub data Unknown (kind size : ℕ) : Type 0 where
@@ -43,25 +47,82 @@ pub record KindUnknown (state memory trace : List ℕ) (offset : ℕ) : Type 0 w
   pub complete : whole (drop offset trace) ≡ true
   pub unknown : Unknown (kindOf (drop offset trace)) (lengthOf (drop offset trace))
 
--- The run of what stands before an offset in the payload of a record of reads: the bytes before the record, and the record as if its payload ended there.
+-- What a byte of a payload stands for by its record's kind, 1 to 3.
+abbrev pub recordedBy : ℕ → ℕ → Recorded
+recordedBy kind byte = cond (eqb kind 1) (command byte) (cond (eqb kind 2) (write byte) (readAs byte))
+
+-- The run of what stands before an offset in the payload of the record at a place: the bytes before the record, and the record as if its payload ended there.
 abbrev pub ranBefore : List ℕ → List ℕ → List ℕ → ℕ → ℕ → Ran
-ranBefore state memory trace place offset = run state memory (take place trace ++ recordBytes 3 (slice (place + headerSize) offset trace))
+ranBefore state memory trace place offset = run state memory (take place trace ++ recordBytes (kindOf (drop place trace)) (slice (place + headerSize) offset trace))
 
--- What a read replies then.
-abbrev pub readThere : List ℕ → List ℕ → List ℕ → ℕ → ℕ → Reply
-readThere state memory trace place offset =
+-- The number that the byte at an offset of that record meets then, by the reply of its event's call: its own, or 10 for a read that differs.
+abbrev pub metThere : List ℕ → List ℕ → List ℕ → ℕ → ℕ → ℕ
+metThere state memory trace place offset =
     let before = ranBefore state memory trace place offset in
-    call dataRead (before .state) (before .memory) .reply
+    let recorded = recordedBy (kindOf (drop place trace)) (getD trace offset 0) in
+    meets recorded (call (calledBy recorded) (before .state) (before .memory) .reply)
 
--- 10, at the byte: the reads before it in its record are taken, it is taken too and is no dummy read, which is not compared, and it answers another byte.
-pub record ReadDiffers (state memory trace : List ℕ) (offset : ℕ) : Type 0 where
+-- 3 to 7 and 10, at the refused byte: a whole record of kind 1 to 3 stands at a place, the bytes of its payload before this one are taken, and the event that this one stands
+-- for meets the number.
+pub record EventRefused (state memory trace : List ℕ) (number offset : ℕ) : Type 0 where
   pub place : ℕ
   pub header : HeaderAt state memory trace place
   pub complete : whole (drop place trace) ≡ true
-  pub reads : kindOf (drop place trace) ≡ 3
+  pub kindFrom : 1 ≤ kindOf (drop place trace)
+  pub kindTo : kindOf (drop place trace) ≤ 3
   pub after : place + headerSize ≤ offset
   pub inside : offset < place + headerSize + lengthOf (drop place trace)
   pub before : ranBefore state memory trace place offset .stop .number ≡ taken
-  pub happens : readThere state memory trace place offset .number ≡ taken
-  pub compared : readThere state memory trace place offset .dummy ≡ false
-  pub differs : readThere state memory trace place offset .byte ≢ getD trace offset 0
+  pub refused : number ≢ taken
+  pub met : metThere state memory trace place offset ≡ number
+
+-- The numbers that events are refused with in a run.
+abbrev pub eventNumbers : List ℕ
+eventNumbers = outsideTable ∷ noPage ∷ notAllowed ∷ codeAwaited ∷ columnAbove ∷ readDiffers ∷ []
+
+-- Every record is whole and of a kind that is known.
+abbrev pub KnownRecords : Trace → Type 0
+KnownRecords (ended offset) = Unit {0}
+KnownRecords (cut offset) = ⊥
+KnownRecords (r then rest) = (Unknown (r .kind) (length (r .payload)) → ⊥) × KnownRecords rest
+
+-- The events of a trace, in order.
+abbrev pub eventsIn : List ℕ → List (Placed Recorded)
+eventsIn trace = scriptFrom theChip (split trace) 0 .events
+
+-- Every event meets 0, by the reply of its call on what the calls before it left.
+abbrev pub EachTaken : List (Placed Recorded) → List ℕ → List ℕ → Type 0
+EachTaken [] state memory = Unit {0}
+EachTaken (p ∷ rest) state memory =
+    let called = call (calledBy (p .event)) state memory in
+    (meets (p .event) (called .reply) ≡ taken) × EachTaken rest (called .state) (called .memory)
+
+-- 0: every record and every event is taken.
+pub record AllTaken (state memory trace : List ℕ) : Type 0 where
+  pub accepted : Accepted state memory
+  pub records : KnownRecords (split trace)
+  pub events : EachTaken (eventsIn trace) state memory
+
+-- The table, for a run on any lent state and memory.
+pub record NumbersGiven (state memory trace : List ℕ) : Type 0 where
+  -- 0: all is taken. The offset is the trace's length, the count is of all its records, and what is left is what the calls of its events leave one by one.
+  pub zero : Bytes trace → run state memory trace .stop .number ≡ taken ↔ AllTaken state memory trace
+  pub zeroLeaves : Bytes trace → AllTaken state memory trace → run state memory trace ≡ byCalls (eventsIn trace) (stopOf taken (length trace) (recordsIn (split trace))) state memory
+  -- 1: a lent state or memory is too short. Offset and count are 0, and nothing changes.
+  pub one : Bytes trace → run state memory trace .stop .number ≡ tooShort ↔ short state memory ≡ true
+  pub oneLeaves : short state memory ≡ true → run state memory trace ≡ ran (stopOf tooShort 0 0) state memory
+  -- 2: the state image is out of its ranges, where 1 does not go first. Offset and count are 0, and nothing changes.
+  pub two : Bytes trace → run state memory trace .stop .number ≡ outOfRange ↔ (short state memory ≡ false) × (legal state ≡ false)
+  pub twoLeaves : short state memory ≡ false → legal state ≡ false → run state memory trace ≡ ran (stopOf outOfRange 0 0) state memory
+  -- 3 to 7 and 10: an event is refused, at its byte. It has not happened: the count is of the records before its own, and what is left is what the run of the bytes before it leaves.
+  pub event : Bytes trace → (number offset : ℕ) → oneOf eventNumbers number ≡ true → GivesAt (run state memory trace) number offset ↔ EventRefused state memory trace number offset
+  pub eventLeaves : Bytes trace → (number offset : ℕ) (h : EventRefused state memory trace number offset) → run state memory trace ≡
+      ran (stopOf number offset (run state memory (take (h .place) trace) .stop .count)) (ranBefore state memory trace (h .place) offset .state) (ranBefore state memory trace (h .place) offset .memory)
+  -- 8: one to three bytes left where a header should stand, or payload past the end, at the record's first byte. What the records before it left stands.
+  pub eight : (offset : ℕ) → GivesAt (run state memory trace) headerCut offset ↔ HeaderCut state memory trace offset
+  pub eightLeaves : (offset : ℕ) → HeaderCut state memory trace offset → run state memory trace ≡ stoppedAfter headerCut offset (run state memory (take offset trace))
+  -- 9: kind not 1 to 4, or kind 4 with a payload, at the record's first byte. What the records before it left stands.
+  pub nine : (offset : ℕ) → GivesAt (run state memory trace) kindUnknown offset ↔ KindUnknown state memory trace offset
+  pub nineLeaves : (offset : ℕ) → KindUnknown state memory trace offset → run state memory trace ≡ stoppedAfter kindUnknown offset (run state memory (take offset trace))
+  -- No other number is given.
+  pub noOther : run state memory trace .stop .number ≤ readDiffers

@@ -1,5 +1,5 @@
 -- Document 01, "The trace": a trace's bytes split into records. It knows nothing of the chip.
-use Prim.Native.Nat.{ℕ, zero, suc, _+_, _-_, _*_, _/_, _%_}
+use Prim.Native.Nat.{ℕ, zero, suc, _+_, _-_, _*_, _/_, _%_, _≤_, _<_}
 use mathlib.Core.Bool.{Bool, cond, _&&_}
 use mathlib.Core.List.{List, [], _∷_}
 use lib.Dec.{leb}
@@ -42,6 +42,11 @@ recordBytes kind payload = length payload % 256 ∷ length payload / 256 ∷ kin
 abbrev pub whole : List ℕ → Bool
 whole bytes = leb headerSize (length bytes) && leb (headerSize + lengthOf bytes) (length bytes)
 
+-- One to three bytes are left, or the payload is past the end.
+pub data CutShort (left : List ℕ) : Type 0 where
+  fewBytes : 0 < length left → length left < headerSize → CutShort left
+  pastEnd : headerSize ≤ length left → length left < headerSize + lengthOf left → CutShort left
+
 -- The record that stands first among the bytes, which begin at an offset of the trace.
 abbrev pub recordAt : ℕ → List ℕ → Record
 recordAt offset bytes = record { kind = kindOf bytes; payload = payloadOf bytes; place = offset }
@@ -57,3 +62,9 @@ splitFrom zero offset (byte ∷ bytes) =
 -- The records of a trace.
 unfoldable pub split : List ℕ → Trace
 split trace = splitFrom 0 0 trace
+
+-- The count of a trace's records.
+abbrev pub recordsIn : Trace → ℕ
+recordsIn (ended offset) = 0
+recordsIn (cut offset) = 0
+recordsIn (r then rest) = 1 + recordsIn rest

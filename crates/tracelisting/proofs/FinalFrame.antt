@@ -15,8 +15,8 @@ use Rattle.trace.specs.Records.{split}
 use Rattle.trace.specs.Play.{play}
 use Rattle.trace.specs.Kinds.{chipOf, theChip}
 use Rattle.trace.specs.Run.{ranOf, runOn, run}
-use Rattle.trace.proofs.Kept.{Bytes}
-use Rattle.trace.proofs.Runs.{run-legal}
+use Rattle.bus.specs.Bytes.{Bytes}
+use Rattle.trace.proofs.RunOnLent.{run-legal}
 use Rattle.picture.specs.Frame.{frame}
 use Rattle.picture.specs.Draw.{drawOn, draw}
 use Rattle.tracelisting.specs.TraceListing.{ranFromStart, frameAfter}

@@ -7,9 +7,10 @@ use Prim.Native.Nat.{ℕ, zero, suc, _<_}
 use lib.Dec.{ltb}
 use borrow.Author.Tests.{ltb-true}
 use Rattle.codes.proofs.Tests.{both}
-use Rattle.constants.specs.Sizes.{width, height, frameRows}
+use Rattle.constants.specs.Sizes.{width, frameRows}
 use Rattle.bus.specs.declared.registers.Registers.{Registers}
-use Rattle.picture.specs.Rows.{panelRow, rowShows}
+use Rattle.picture.specs.Scan.{panelRow, rowShows}
+use Rattle.picture.specs.Rows.{scanOf}
 use Rattle.picture.specs.Frame.{segment, line, frame, placeOf}
 use Rattle.picture.proofs.Places.{frame-place}
 
@@ -20,14 +21,14 @@ below (suc n) others = below n (n ∷ others)
 
 -- column x of a frame, from its first row to the icon line
 abbrev pub down : ℕ → List ℕ → List ℕ
-down x places = map (λ y. placeOf y x places) (below frameRows [])
+down x places = map (λ y. placeOf width y x places) (below frameRows [])
 
 -- row y and column x by what each place shows
 abbrev pub rowShown : ℕ → Registers → List ℕ → List ℕ
-rowShown y r memory = line width (segment width r memory (rowShows height r (panelRow y)))
+rowShown y r memory = line width (segment r memory (rowShows (scanOf r) (panelRow y)))
 
 abbrev pub downShown : ℕ → Registers → List ℕ → List ℕ
-downShown x r memory = map (λ y. segment width r memory (rowShows height r (panelRow y)) x) (below frameRows [])
+downShown x r memory = map (λ y. segment r memory (rowShows (scanOf r) (panelRow y)) x) (below frameRows [])
 
 abbrev pub every : {A : Type 0} → (A → Bool) → List A → Bool
 every test [] = true

@@ -6,7 +6,7 @@ pub mod FinalFrame
 pub mod Sample
 -- What a listing leaves in a lent buffer.
 pub mod LentBuffer
--- The call's statement settles it.
+-- What the call states has one result.
 pub mod Settled
 -- A column of a frame by what each of its places shows, for the table that follows.
 pub mod FrameColumns

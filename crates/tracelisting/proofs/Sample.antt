@@ -16,8 +16,8 @@ use Rattle.trace.specs.Records.{splitFrom, split}
 use Rattle.trace.specs.Play.{playEvents, playRecord, playFrom}
 use Rattle.trace.specs.Kinds.{eventsOf, happened, replay}
 use Rattle.trace.specs.Run.{Ran, ran, stopOf, ranOf, runOn, run}
-use Rattle.picture.specs.Rows.{comOf, used, ramRowOf, panelShows, rowShows}
-use Rattle.picture.specs.Frame.{bit, columnOf, turned, shownBit, whileOn, segment, line as Frame·line, grid, frame}
+use Rattle.picture.specs.Scan.{comOf, used, ramRowOf, panelShows, rowShows, columnOf}
+use Rattle.picture.specs.Frame.{bit, turned, shownBit, whileOn, segment, line as Frame·line, grid, frame}
 use Rattle.picture.specs.Draw.{drawOn, draw}
 use Rattle.framelisting.specs.Ascii.{ascii}
 use Rattle.framelisting.specs.Decimal.{digits, decimal}

@@ -1,7 +1,8 @@
--- The statement of the public call settles it.
+-- What the public call states has one result.
 -- Assumes nothing.
 use mathlib.Core.Path.{_∙_, sym, ap}
+use Rattle.tracelisting.specs.TraceListing.{Printed}
 use Rattle.tracelisting.specs.Settled.{Settled}
 
 pub settled : Settled
-settled = record { listInput = λ input text r s later later′ p q. (ap (λ o. o .size) (p ∙ sym q), ap (λ o. o .text) (p ∙ sym q)) }
+settled = record { «list_input» = λ input text a b p q. ap (λ (o : Printed). (o .size, o .text)) (p ∙ sym q) }

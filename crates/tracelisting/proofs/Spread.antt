@@ -20,8 +20,8 @@ use Rattle.trace.specs.Records.{splitFrom, split}
 use Rattle.trace.specs.Play.{playEvents, playRecord, playFrom}
 use Rattle.trace.specs.Kinds.{eventsOf, happened, compared, replay}
 use Rattle.trace.specs.Run.{Ran, ran, stopOf, ranOf, runOn, run}
-use Rattle.picture.specs.Rows.{comOf, used, ramRowOf, panelShows, rowShows}
-use Rattle.picture.specs.Frame.{bit, columnOf, turned, shownBit, whileOn, segment, line as Frame·line, frame, rowOf as Frame·rowOf}
+use Rattle.picture.specs.Scan.{comOf, used, ramRowOf, panelShows, rowShows, columnOf}
+use Rattle.picture.specs.Frame.{bit, turned, shownBit, whileOn, segment, line as Frame·line, frame, rowOf as Frame·rowOf}
 use Rattle.picture.specs.Draw.{drawOn, draw}
 use Rattle.framelisting.specs.Ascii.{ascii}
 use Rattle.framelisting.specs.Decimal.{digits, decimal}
@@ -98,7 +98,7 @@ abbrev downwards : List ℕ → ℕ → ℕ → Drawing
 downwards lent x shown = record { state = lent; at = x; outcome = places frameRows shown }
 
 abbrev Rows : List Drawing → Type 0
-Rows cases = map (λ d. Frame·rowOf (d .at) (frame (registersOf (d .state)) busy)) cases ≡ map (λ d. d .outcome) cases
+Rows cases = map (λ d. Frame·rowOf width (d .at) (frame (registersOf (d .state)) busy)) cases ≡ map (λ d. d .outcome) cases
 
 abbrev Columns : List Drawing → Type 0
 Columns cases = map (λ d. down (d .at) (frame (registersOf (d .state)) busy)) cases ≡ map (λ d. d .outcome) cases

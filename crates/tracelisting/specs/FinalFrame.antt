@@ -12,7 +12,7 @@ use Rattle.trace.specs.Records.{split}
 use Rattle.trace.specs.Play.{play}
 use Rattle.trace.specs.Kinds.{chipOf, theChip}
 use Rattle.trace.specs.Run.{Ran}
-use Rattle.trace.proofs.Kept.{Bytes}
+use Rattle.bus.specs.Bytes.{Bytes}
 use Rattle.picture.specs.Frame.{frame}
 use Rattle.picture.specs.Draw.{draw}
 use Rattle.tracelisting.specs.TraceListing.{ranFromStart, frameAfter}

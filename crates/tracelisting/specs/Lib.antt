@@ -6,5 +6,5 @@ pub mod FinalFrame
 pub mod Sample
 -- what a buffer has then, by its length
 pub mod LentBuffer
--- the call's statement settles it
+-- one result for the call's statement
 pub mod Settled

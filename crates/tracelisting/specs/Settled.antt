@@ -1,9 +1,9 @@
--- The statement of the public call settles it: two outcomes on the same inputs are equal.
+-- Any two results that satisfy what the public call of this crate states are equal: its answer, and what it leaves of the buffer.
 use Prim.Native.Nat.{ℕ}
 use mathlib.Core.Path.{_≡_}
 use mathlib.Core.List.{List}
+use Rattle.codes.specs.Settled.{Settles}
 use Rattle.tracelisting.specs.TraceListing.{textFor, printed, printedOf}
 
 pub record Settled : Type 0 where
-  -- `list_input`
-  pub listInput : (input text : List ℕ) (r s : ℕ) (later later′ : List ℕ) → printed r later ≡ printedOf (textFor input) text → printed s later′ ≡ printedOf (textFor input) text → (r ≡ s) × (later ≡ later′)
+  pub «list_input» : (input text : List ℕ) → Settles (λ (o : ℕ × List ℕ). printed (o .0) (o .1) ≡ printedOf (textFor input) text)

@@ -8,21 +8,22 @@ use Prim.Native.Nat.{ℕ, _+_, _*_, _-_, _≤_}
 use native.Mathlib.Omega.{arith}
 use denote.Ref.{now}
 use lib.ListN.{drop, length-take, length-drop}
-use Rattle.constants.specs.Sizes.{width, height}
+use Rattle.constants.specs.Sizes.{width, frameRows}
 use Rattle.bus.specs.declared.registers.Registers.{Registers}
 use Rattle.picture.proofs.Lines.{grid-kept, grid-turn}
-use Rattle.picture.specs.Rows.{panelRow, rowShows}
+use Rattle.picture.specs.Scan.{panelRow, rowShows}
+use Rattle.picture.specs.Rows.{scanOf}
 use Rattle.picture.specs.Frame.{segment, grid, frame}
 
 -- what each place shows
 abbrev shown : Registers → List ℕ → ℕ → ℕ → ℕ
-shown r memory y = segment width r memory (rowShows height r (panelRow y))
+shown r memory y = segment r memory (rowShows (scanOf r) (panelRow y))
 
 abbrev Inv-loop : tie.InvT-loop
-Inv-loop registers memory places₀ y₀ places y = (y ≤ 65) × (places ≡ grid width y (shown registers memory) ++ drop (y * width) places₀)
+Inv-loop registers memory places₀ y₀ places y = (y ≤ frameRows) × (places ≡ grid width y (shown registers memory) ++ drop (y * width) places₀)
 
 abbrev μ-loop : tie.MeasureT-loop
-μ-loop registers memory places₀ y₀ places y = 65 - y
+μ-loop registers memory places₀ y₀ places y = frameRows - y
 
 loop-holds : tie.Need-loop-holds Inv-loop μ-loop
 unfolding grid
@@ -64,7 +65,7 @@ loop-again : tie.Need-loop-again Inv-loop μ-loop
 loop-again c =
     let a = c .before .before .before .before .before .before .before .before .args in
     let y = c .before .before .before .before .before .loop .y in
-    (omega arith, rw (c .before .before .before .before .before .loop .inv .1) (grid-turn width y (y * 132 + 132 - y * 132) (shown (a .registers) (now (a .memory))) (now (a .places)) (c .before .before .draw-row .last .1 .1 .1 .0) (omega arith) (c .before .before .draw-row .ensures)))
+    (omega arith, rw (c .before .before .before .before .before .loop .inv .1) (grid-turn width y (y * width + width - y * width) (shown (a .registers) (now (a .memory))) (now (a .places)) (c .before .before .draw-row .last .1 .1 .1 .0) (omega arith) (c .before .before .draw-row .ensures)))
 
 same-length : tie.Need-same-length Inv-loop μ-loop
 same-length c =
@@ -74,7 +75,7 @@ same-length c =
 returns : tie.Need-returns Inv-loop μ-loop
 unfolding frame
 returns c =
-    let e : c .before .loop .y ≡ 65 = omega arith in
+    let e : c .before .loop .y ≡ frameRows = omega arith in
     c .before .loop .inv .1 ∙ rw e
 
 pub draw-rows-spec : {M : Type 1} → statement M

@@ -8,9 +8,11 @@ use Prim.Native.Nat.{_+_, _-_, _*_, _/_}
 use native.Mathlib.Omega.{arith}
 use borrow.Author.Tests.{eq-eqb, ne-eqb}
 use denote.Ref.{now}
-use Rattle.picture.specs.Frame.{shownBit, columnOf}
+use Rattle.constants.specs.Sizes.{width}
+use Rattle.picture.specs.Scan.{columnOf}
+use Rattle.picture.specs.Frame.{shownBit}
 use Rattle.picture.proofs.Lines.{line-same}
-use Rattle.picture.proofs.Bits.{page-bit}
+use Rattle.picture.proofs.PageBits.{page-bit}
 
 cast-number : tie.Need-cast-number
 cast-number c = search needs
@@ -52,7 +54,7 @@ returns : tie.Need-returns
 unfolding shownBit columnOf
 returns c =
     let a = c .before .before .before .before .before .before .before .before .before .before .before .before .args in
-    c .before .before .straight .ensures ∙ line-same 132 _ _ (λ x h. rw (eq-eqb _ _ (c .before .before .before .before .before .if1 .taken)) (page-bit (now (a .memory)) (a .row) (a .row .0 / 8 * 132 + 132 - a .row .0 / 8 * 132) x (a .registers .reverse) (omega arith)))
+    c .before .before .straight .ensures ∙ line-same width _ _ (λ x h. rw (eq-eqb _ _ (c .before .before .before .before .before .if1 .taken)) (page-bit (now (a .memory)) (a .row) (a .row .0 / 8 * width + width - a .row .0 / 8 * width) x (a .registers .reverse) (omega arith)))
 
 same-length-2 : tie.Need-same-length-2
 same-length-2 c = search needs
@@ -61,7 +63,7 @@ returns-2 : tie.Need-returns-2
 unfolding shownBit columnOf
 returns-2 c =
     let a = c .before .before .before .before .before .before .before .before .before .before .before .before .args in
-    c .before .before .mirrored .ensures ∙ line-same 132 _ _ (λ x h. rw (ne-eqb _ _ (c .before .before .before .before .before .if1 .left)) (page-bit (now (a .memory)) (a .row) (a .row .0 / 8 * 132 + 132 - a .row .0 / 8 * 132) (131 - x) (a .registers .reverse) (omega arith)))
+    c .before .before .mirrored .ensures ∙ line-same width _ _ (λ x h. rw (ne-eqb _ _ (c .before .before .before .before .before .if1 .left)) (page-bit (now (a .memory)) (a .row) (a .row .0 / 8 * width + width - a .row .0 / 8 * width) (width - 1 - x) (a .registers .reverse) (omega arith)))
 
 pub draw-bits-spec : {M : Type 1} → statement M
 draw-bits-spec =

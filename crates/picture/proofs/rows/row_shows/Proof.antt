@@ -5,8 +5,10 @@ use Rattle.picture.proofs.rows.row_shows.Statement.{statement}
 use Rattle.picture.proofs.rows.row_shows.Tie as tie
 use mathlib.Core.Path.{sym, _∙_}
 use native.Mathlib.Omega.{arith}
+use native.Mathlib.Nat.{mod-lt}
 use borrow.Author.Tests.{lt-ltb, le-ltb, ltb-true}
-use Rattle.picture.specs.Rows.{rowsInUse, used, panelShows, rowShows}
+use Rattle.picture.specs.Scan.{comOf, used, panelShows, rowShows}
+use Rattle.picture.specs.Rows.{rowsInUse}
 
 belongs-to-requires : tie.Need-belongs-to-requires
 belongs-to-requires c κs = search needs
@@ -15,11 +17,11 @@ used-requires : tie.Need-used-requires
 used-requires c κs = search needs
 
 shows-requires : tie.Need-shows-requires
-unfolding used
+unfolding used comOf
 shows-requires c κs =
     let k = c .before .before .belongs-to .result .0 in
     let r = c .before .before .before .before .before .args .registers in
-    omega (arith, ltb-true k (rowsInUse r) (sym (c .before .used .ensures) ∙ c .if2 .taken))
+    (omega (arith, ltb-true k (rowsInUse r) (sym (c .before .used .ensures) ∙ c .if2 .taken)), rw (c .before .before .belongs-to .ensures) (mod-lt _ (omega arith)))
 
 returns : tie.Need-returns
 unfolding rowShows panelShows

@@ -7,9 +7,9 @@ use native.Mathlib.Omega.{arith}
 use denote.Ref.{now}
 use Rattle.trace.specs.Kinds.{command, write, readAs}
 use Rattle.trace.specs.Code.{endingOf}
-use Rattle.trace.proofs.Standing.{within-trace}
+use Rattle.trace.proofs.WhatStands.{within-trace}
 use Rattle.trace.proofs.Stretched.{ends, takes, reaches, ends-there}
-use Rattle.trace.proofs.ByKind.{kind-1, kind-2, kind-3, kind-4, kind-4-loaded, kind-unknown}
+use Rattle.trace.proofs.ChipKinds.{kind-1, kind-2, kind-3, kind-4, kind-4-loaded, kind-unknown}
 use Rattle.trace.proofs.record.obey.Statement.{statement}
 use Rattle.trace.proofs.record.obey.Tie as tie
 

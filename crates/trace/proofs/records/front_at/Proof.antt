@@ -6,7 +6,7 @@ use Rattle.trace.proofs.records.front_at.Tie as tie
 use mathlib.Core.Path.{sym}
 use native.Mathlib.Omega.{arith}
 use denote.Ref.{now}
-use Rattle.trace.proofs.Fronts.{at-end, header-cut, payload-cut, whole-there}
+use Rattle.trace.proofs.WhatStands.{at-end, header-cut, payload-cut, whole-there}
 
 returns : tie.Need-returns
 returns c = sym (at-end _ _ (c .if1 .taken))

@@ -15,8 +15,9 @@ use Rattle.trace.specs.Front.{frontOf}
 use Rattle.trace.specs.Play.{play, playFrom}
 use Rattle.trace.specs.Kinds.{theChip, chipOf}
 use Rattle.trace.specs.Code.{endingOf, playedOf}
-use Rattle.trace.proofs.Standing.{within-trace}
-use Rattle.trace.proofs.Rest.{rest, plays-nothing, plays-cut, plays-on, plays-stop}
+use Rattle.trace.proofs.WhatStands.{within-trace}
+use Rattle.trace.proofs.SplitLaws.{rest}
+use Rattle.trace.proofs.PlayedFurther.{plays-nothing, plays-cut, plays-on, plays-stop}
 use Rattle.trace.specs.declared.records.Front.{Front}
 
 abbrev Inv-loop : tie.InvT-loop

@@ -3,7 +3,7 @@
 use borrow.Author.Needs.{needs}
 use Rattle.trace.proofs.run.run.Statement.{statement}
 use Rattle.trace.proofs.run.run.Tie as tie
-use Rattle.trace.proofs.Ran.{plays, refuses}
+use Rattle.trace.proofs.RunCode.{plays, refuses}
 
 ask-requires : tie.Need-ask-requires
 ask-requires c κs = search needs

@@ -7,7 +7,7 @@ use mathlib.Core.Path.{_≡_}
 use Prim.Native.Nat.{_+_, _-_}
 use native.Mathlib.Omega.{arith}
 use borrow.Author.Tests.{eq-eqb, ne-eqb}
-use Rattle.picture.specs.Rows.{ramRowOf}
+use Rattle.picture.specs.Scan.{ramRowOf}
 
 cast-sum : tie.Need-cast-sum
 cast-sum c = search needs
@@ -25,8 +25,8 @@ returns : tie.Need-returns
 unfolding ramRowOf
 returns c = rw (eq-eqb _ _ (c .before .before .before .if1 .taken), c .around .ensures)
 
-sub-turned : tie.Need-sub-turned
-sub-turned c = search needs
+turned-round-requires : tie.Need-turned-round-requires
+turned-round-requires c κs = search needs
 
 cast-sum-3 : tie.Need-cast-sum-3
 cast-sum-3 c = search needs
@@ -47,7 +47,7 @@ returns-2 c =
     let r = a .registers in
     let k = a .self .0 in
     let e : r .start + (r .multiplex + 1) - 1 - k ≡ r .start + (r .multiplex - k) = omega arith in
-    rw (ne-eqb _ _ (c .before .before .before .before .if1 .left), e, c .around2 .ensures)
+    rw (ne-eqb _ _ (c .before .before .before .before .if1 .left), e, c .around2 .ensures, c .before .before .before .turned-round .ensures)
 
 pub shows-spec : {M : Type 1} → statement M
 shows-spec =
@@ -58,7 +58,7 @@ shows-spec =
     add-sum
     around-requires
     returns
-    sub-turned
+    turned-round-requires
     cast-sum-3
     cast-sum-4
     add-sum-2

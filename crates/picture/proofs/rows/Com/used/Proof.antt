@@ -5,7 +5,7 @@ use Rattle.picture.proofs.rows.Com.used.Tie as tie
 use native.Mathlib.Numerals.{add-one}
 use mathlib.Core.Path.{sym}
 use lib.Dec.{leb·suc-suc}
-use Rattle.picture.specs.Rows.{used}
+use Rattle.picture.specs.Scan.{used}
 
 returns : tie.Need-returns
 unfolding used

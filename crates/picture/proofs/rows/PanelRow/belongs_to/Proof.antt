@@ -3,13 +3,13 @@
 use borrow.Author.Needs.{needs}
 use Rattle.picture.proofs.rows.PanelRow.belongs_to.Statement.{statement}
 use Rattle.picture.proofs.rows.PanelRow.belongs_to.Tie as tie
-use Rattle.picture.specs.Rows.{comOf}
+use Rattle.picture.specs.Scan.{comOf}
 
 cast-sum : tie.Need-cast-sum
 cast-sum c = search needs
 
-cast-sum-2 : tie.Need-cast-sum-2
-cast-sum-2 c = search needs
+shifted-by-requires : tie.Need-shifted-by-requires
+shifted-by-requires c κs = search needs
 
 add-sum : tie.Need-add-sum
 add-sum c = search needs
@@ -19,7 +19,7 @@ around-requires c κs = search needs
 
 returns : tie.Need-returns
 unfolding comOf
-returns c = rw (c .around .ensures)
+returns c = rw (c .around .ensures, c .before .shifted-by .ensures)
 
 pub belongs-to-spec : {M : Type 1} → statement M
-belongs-to-spec = tie.close (tie.spec cast-sum cast-sum-2 add-sum around-requires returns)
+belongs-to-spec = tie.close (tie.spec cast-sum shifted-by-requires add-sum around-requires returns)

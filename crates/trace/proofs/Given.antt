@@ -1,0 +1,86 @@
+-- Document 01, "Numbers given": a run gives each number exactly when the table says so, at the offset that it says, and leaves what it says.
+-- Assumes nothing.
+use mathlib.Core.Path.{_≡_, refl, sym, _∙_, subst}
+use mathlib.Core.Bool.{true}
+use mathlib.Core.List.{List}
+use Prim.Native.Nat.{ℕ, _≤_}
+use native.Mathlib.Omega.{arith}
+use lib.ListN.{take, drop}
+use Rattle.codes.specs.OneOf.{oneOf}
+use Rattle.constants.specs.Numbers.{headerCut, kindUnknown, readDiffers}
+use Rattle.bus.specs.Bytes.{Bytes}
+use Rattle.trace.specs.Records.{cut}
+use Rattle.trace.specs.Play.{played, playFrom}
+use Rattle.trace.specs.Kinds.{theChip}
+use Rattle.trace.specs.Run.{ranOf, run}
+use Rattle.trace.specs.Given.{stoppedAfter, HeaderCut, KindUnknown, EventRefused, eventNumbers, NumbersGiven}
+use Rattle.trace.proofs.SplitLaws.{rest}
+use Rattle.trace.proofs.PlayedFurther.{plays-cut, plays-stop}
+use Rattle.trace.proofs.ChipRefusals.{refused-event}
+use Rattle.trace.proofs.WhatStands.{cut-tests, front-cut, front-whole, where-left, whole-left}
+use Rattle.trace.proofs.ChipKinds.{unknown-stops}
+use Rattle.trace.proofs.RunStops.{Standing, standing, ran-there, ran-on, RunStop, notAsked, nowhere, whereCut, atItsKind, atItsByte, run-stop}
+use Rattle.trace.proofs.GivenAsked.{one, two, one-leaves, two-leaves}
+use Rattle.trace.proofs.GivenZero.{zero-given, zero-leaves}
+use Rattle.trace.proofs.GivenEvent.{of-event, event-leaves, is-event}
+
+module _ (state memory trace : List ℕ) where
+  -- a run that stops where a header should stand leaves what the records before it left
+  stops-there : (at : ℕ) (here : Standing state memory trace at) (number : ℕ) → playFrom theChip (rest trace at) (here .count) (here .chip) ≡ played number at (here .count) (here .chip) → run state memory trace ≡ stoppedAfter number at (run state memory (take at trace))
+  unfolding ranOf
+  stops-there at here number e = ran-on state memory trace at here e ∙ rw (ran-there state memory trace at here)
+
+  eight-leaves : (offset : ℕ) → HeaderCut state memory trace offset → run state memory trace ≡ stoppedAfter headerCut offset (run state memory (take offset trace))
+  eight-leaves at h =
+      let tests = cut-tests (drop at trace) (h .cut) in
+      let here = standing state memory trace at (where-left trace at (tests .0)) (h .header) in
+      stops-there at here headerCut (plays-cut trace at theChip (here .count) (here .chip) (front-cut (drop at trace) (tests .0) (tests .1)))
+
+  nine-leaves : (offset : ℕ) → KindUnknown state memory trace offset → run state memory trace ≡ stoppedAfter kindUnknown offset (run state memory (take offset trace))
+  nine-leaves at h =
+      let here = standing state memory trace at (where-left trace at (whole-left trace at (h .complete))) (h .header) in
+      let front = front-whole (drop at trace) (h .complete) in
+      stops-there at here kindUnknown (plays-stop trace at theChip (here .count) (here .chip) _ front kindUnknown at (here .chip) (unknown-stops trace at front (here .chip) (h .unknown)))
+
+  is-cut : {number offset : ℕ} → RunStop state memory trace number offset → number ≡ headerCut → HeaderCut state memory trace offset
+  is-cut (notAsked p q) n = absurd (omega arith)
+  is-cut (nowhere p) n = absurd (omega arith)
+  is-cut (whereCut h m) n = h
+  is-cut (atItsKind h m) n = absurd (omega arith)
+  is-cut (atItsByte at here d w p q s) n = absurd (of-event (refused-event _ d _ (s .refused)) .notCut n)
+
+  is-unknown : {number offset : ℕ} → RunStop state memory trace number offset → number ≡ kindUnknown → KindUnknown state memory trace offset
+  is-unknown (notAsked p q) n = absurd (omega arith)
+  is-unknown (nowhere p) n = absurd (omega arith)
+  is-unknown (whereCut h m) n = absurd (omega arith)
+  is-unknown (atItsKind h m) n = h
+  is-unknown (atItsByte at here d w p q s) n = absurd (of-event (refused-event _ d _ (s .refused)) .notKind n)
+
+  at-most : {number offset : ℕ} → RunStop state memory trace number offset → number ≤ readDiffers
+  at-most (notAsked p q) = omega arith
+  at-most (nowhere p) = omega arith
+  at-most (whereCut h m) = omega arith
+  at-most (atItsKind h m) = omega arith
+  at-most (atItsByte at here d w p q s) = of-event (refused-event _ d _ (s .refused)) .most
+
+-- the table
+pub numbers-given : (state memory trace : List ℕ) → NumbersGiven state memory trace
+numbers-given state memory trace =
+    record {
+      zero = zero-given state memory trace;
+      zeroLeaves = zero-leaves state memory trace;
+      one = one state memory trace;
+      oneLeaves = one-leaves state memory trace;
+      two = two state memory trace;
+      twoLeaves = two-leaves state memory trace;
+      event = λ bytes number offset n. (λ e. subst (EventRefused state memory trace number) (e .1) (is-event-as bytes number n (e .0)), λ h. rw (event-leaves state memory trace bytes number offset h) (refl, refl));
+      eventLeaves = event-leaves state memory trace;
+      eight = λ offset. (λ e. subst (HeaderCut state memory trace) (e .1) (is-cut state memory trace (run-stop state memory trace) (e .0)), λ h. rw (eight-leaves state memory trace offset h) (refl, refl));
+      eightLeaves = eight-leaves state memory trace;
+      nine = λ offset. (λ e. subst (KindUnknown state memory trace) (e .1) (is-unknown state memory trace (run-stop state memory trace) (e .0)), λ h. rw (nine-leaves state memory trace offset h) (refl, refl));
+      nineLeaves = nine-leaves state memory trace;
+      noOther = at-most state memory trace (run-stop state memory trace);
+    }
+  where
+    is-event-as : Bytes trace → (number : ℕ) → oneOf eventNumbers number ≡ true → run state memory trace .stop .number ≡ number → EventRefused state memory trace number (run state memory trace .stop .offset)
+    is-event-as bytes number n e = subst (λ (m : ℕ). EventRefused state memory trace m (run state memory trace .stop .offset)) e (is-event state memory trace bytes (run-stop state memory trace) (subst (λ (m : ℕ). oneOf eventNumbers m ≡ true) (sym e) n))

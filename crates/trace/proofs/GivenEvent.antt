@@ -1,0 +1,159 @@
+-- A run gives 3 to 7 and 10 exactly when an event is refused, at its byte, and leaves what the bytes before it leave.
+-- Assumes nothing.
+use mathlib.Core.Path.{_≡_, refl, sym, _∙_, ap, subst}
+use mathlib.Core.Bool.{Bool, true, false, false≢true}
+use mathlib.Core.List.{List, [], _++_, map, append-nil}
+use Prim.Native.Nat.{ℕ, _+_, _-_, _≤_}
+use native.Mathlib.Omega.{arith}
+use borrow.Author.Tests.{eqb-true, eqb-false}
+use lib.Dec.{eqb}
+use lib.ListN.{length, getD, take, drop}
+use lib.Seq.{slice}
+use Rattle.codes.specs.OneOf.{oneOf}
+use Rattle.constants.specs.Numbers.{taken, headerCut, kindUnknown, readDiffers}
+use Rattle.constants.specs.Sizes.{headerSize}
+use Rattle.bus.specs.Chip.{Chip, step}
+use Rattle.bus.specs.Calls.{Called, replyOf, concluded, call}
+use Rattle.bus.specs.Bytes.{All, Bytes}
+use Rattle.bus.proofs.Stored.{call-stored}
+use Rattle.trace.specs.Records.{lengthOf, kindOf, recordBytes, recordAt, splitFrom, split}
+use Rattle.trace.specs.Play.{refuses, Ending, stopped, done, played, onEnding, playEvents, playRecord, playFrom, play}
+use Rattle.trace.specs.Kinds.{Recorded, replay, chipOf, theChip}
+use Rattle.trace.specs.ByCalls.{calledBy, meets}
+use Rattle.trace.specs.Run.{Ran, ran, stopOf, ranOf, run}
+use Rattle.trace.specs.Given.{recordedBy, ranBefore, EventRefused, eventNumbers}
+use Rattle.trace.specs.AnyMachine.{Gives, further}
+use Rattle.trace.proofs.PlayedFurther.{plays-stop, endingFurther, events-further, is-done}
+use Rattle.trace.proofs.PlayedJoined.{Stops, events-stop, joined}
+use Rattle.trace.proofs.SplitLaws.{split-written}
+use Rattle.trace.proofs.PlayedKeeps.{Leaves, all-drop, all-take, events-keep}
+use Rattle.trace.proofs.ChipKeeps.{Held, Brings, brings, replay-held}
+use Rattle.trace.proofs.WhatStands.{within-trace, front-whole, where-left, whole-left}
+use Rattle.trace.proofs.PayloadBytes.{playBytes, turn-refused, then-bytes}
+use Rattle.trace.proofs.ChipRefusals.{Refusal, own, differing, refused-event, the-chip-sound, refused-met, met-refused}
+use Rattle.trace.proofs.RunOnLent.{fits, run-found, left-held}
+use Rattle.trace.proofs.ChipKinds.{each-byte, its-bytes}
+use Rattle.trace.proofs.RunStops.{Standing, standing, ran-there, ran-on, RunStop, notAsked, nowhere, whereCut, atItsKind, atItsByte, header-at}
+
+-- the number that an event is refused with is no header's, and at most 10
+pub record OfEvent (number : ℕ) : Type 0 where
+  pub notTaken : number ≡ taken → ⊥
+  pub notCut : number ≡ headerCut → ⊥
+  pub notKind : number ≡ kindUnknown → ⊥
+  pub most : number ≤ readDiffers
+
+pub of-event : {recorded : Recorded} {c : Chip} {number : ℕ} → Refusal recorded c number → OfEvent number
+of-event (own p q) = record { notTaken = λ e. omega arith; notCut = λ e. omega arith; notKind = λ e. omega arith; most = omega arith }
+of-event (differing byte after r a d b n) = record { notTaken = λ e. omega arith; notCut = λ e. omega arith; notKind = λ e. omega arith; most = omega arith }
+
+module _ (state memory trace : List ℕ) where
+  -- the bytes of a record that stands at a place, up to an offset
+  record AreDone (at offset : ℕ) (here : Standing state memory trace at) : Type 0 where
+    chip : Chip
+    bytes : playBytes theChip (recordedBy (kindOf (drop at trace))) trace (at + headerSize) offset (here .chip) ≡ done chip
+
+  module _ (at offset : ℕ) (here : Standing state memory trace at) (from : 1 ≤ kindOf (drop at trace)) (to : kindOf (drop at trace) ≤ 3) where
+    abbrev kind : ℕ
+    kind = kindOf (drop at trace)
+
+    abbrev part : List ℕ
+    part = slice (at + headerSize) offset trace
+
+    abbrev early : Ending Chip
+    early = playEvents theChip (map (recordedBy kind) part) headerSize (here .chip)
+
+    -- the record cut there, alone
+    alone : play theChip (split (recordBytes kind part)) (here .chip) ≡ onEnding early (λ n o t. played n o 0 t) (λ t. played taken (headerSize + length part + 0) 1 t)
+    unfolding split splitFrom playFrom playRecord
+    alone =
+        ap (λ b. play theChip (split b) (here .chip)) (sym (append-nil (recordBytes kind part))) ∙
+        ap (λ trace. play theChip trace (here .chip)) (split-written kind part []) ∙
+        rw (each-byte kind part from to)
+
+    before-is : ranBefore state memory trace at offset ≡ ranOf (further at (here .count) (onEnding early (λ n o t. played n o 0 t) (λ t. played taken (headerSize + length part + 0) 1 t))) state
+    before-is =
+        run-found state memory (here .registers) (here .found) (take at trace ++ recordBytes kind part) ∙
+        ap (λ p. ranOf p state) (joined theChip the-chip-sound (take at trace) (recordBytes kind part) (chipOf (here .registers) memory) (ap (λ p. p .number) (here .reached)) ∙ rw (here .reached, alone))
+
+    same-bytes : playBytes theChip (recordedBy kind) trace (at + headerSize) offset (here .chip) ≡ endingFurther at early
+    same-bytes = events-further theChip at (map (recordedBy kind) part) headerSize (here .chip)
+
+    -- they are done: what the run of the bytes before leaves
+    module _ (d : Chip) (h : playBytes theChip (recordedBy kind) trace (at + headerSize) offset (here .chip) ≡ done d) where
+      before-ran : ranBefore state memory trace at offset ≡ ranOf (further at (here .count) (played taken (headerSize + length part + 0) 1 d)) state
+      before-ran = before-is ∙ rw (is-done at early (sym same-bytes ∙ h))
+
+      module _ (bytes : Bytes trace) where
+        -- the chip that they leave is legal
+        before-held : Held memory d
+        before-held =
+            let first : Held memory (here .chip) = rw (here .reached) at (left-held state memory (here .registers) (here .found) (take at trace) (all-take _ at trace bytes)) in
+            let brought : All Brings (map (recordedBy kind) part) = subst (Gives (All Brings)) (each-byte kind part from to) (brings kind part (all-drop _ (at + headerSize) _ (all-take _ offset trace bytes))) in
+            subst (Leaves (Held memory)) h (events-keep theChip _ (Held memory) Brings brings (replay-held memory) (map (recordedBy kind) part) (at + headerSize) (here .chip) brought first)
+
+        -- what the call of an event replies there is what its step answers
+        reply-there : (recorded : Recorded) → call (calledBy recorded) (ranBefore state memory trace at offset .state) (ranBefore state memory trace at offset .memory) .reply ≡ replyOf (step (calledBy recorded) (d .registers) (d .memory) .answer)
+        unfolding ranOf concluded
+        reply-there recorded =
+            let size = fits state memory (here .registers) (here .found) in
+            ap (λ (before : Ran). call (calledBy recorded) (before .state) (before .memory) .reply) before-ran ∙
+            ap (λ (c : Called). c .reply) (call-stored state (size .image) (calledBy recorded) (d .registers) (d .memory) (before-held .registers) (omega (arith, before-held .size, size .display)))
+
+    -- and where that run is taken, they are done
+    before-done : ranBefore state memory trace at offset .stop .number ≡ taken → AreDone at offset here
+    unfolding ranOf
+    before-done n = by early refl
+      where
+        by : (ending : Ending Chip) → early ≡ ending → AreDone at offset here
+        by (done d) e = record { chip = d; bytes = same-bytes ∙ rw e }
+        by (stopped number o t) e = absurd (subst (Stops theChip the-chip-sound) e (events-stop theChip the-chip-sound (map (recordedBy kind) part) headerSize (here .chip)) (rw (before-is, e) at n))
+
+  -- a number of no event
+  no-event : {number : ℕ} (n : ℕ) → number ≡ n → oneOf eventNumbers n ≡ false → oneOf eventNumbers number ≡ true → ⊥
+  no-event n e p q = false≢true (sym p ∙ rw e at q)
+
+  pub is-event : Bytes trace → {number offset : ℕ} → RunStop state memory trace number offset → oneOf eventNumbers number ≡ true → EventRefused state memory trace number offset
+  unfolding ranOf
+  is-event bytes {number} (notAsked p q) n = absurd (by (eqb number 1) refl)
+    where
+      by : (b : Bool) → eqb number 1 ≡ b → ⊥
+      by true e = no-event 1 (eqb-true number 1 e) refl n
+      by false e = no-event {number = number} 2 (omega (arith, eqb-false number 1 e)) refl n
+  is-event bytes (nowhere p) n = absurd (no-event taken p refl n)
+  is-event bytes (whereCut h m) n = absurd (no-event headerCut m refl n)
+  is-event bytes (atItsKind h m) n = absurd (no-event kindUnknown m refl n)
+  is-event bytes {number} {offset} (atItsByte at here d w p q s) n =
+      let recorded = recordedBy (kindOf (drop at trace)) (getD trace offset 0) in
+      record {
+        place = at;
+        header = header-at state memory trace at here;
+        complete = w;
+        kindFrom = p;
+        kindTo = q;
+        after = s .after;
+        inside = s .inside;
+        before = ap (λ (r : Ran). r .stop .number) (before-ran at offset here p q d (s .before));
+        refused = of-event (refused-event recorded d number (s .refused)) .notTaken;
+        met = ap (meets recorded) (reply-there at offset here p q d (s .before) bytes recorded) ∙ refused-met recorded d number (s .refused);
+      }
+
+  -- the event has not happened: the run leaves what the bytes before it leave
+  pub event-leaves : Bytes trace → (number offset : ℕ) (h : EventRefused state memory trace number offset) → run state memory trace ≡ ran (stopOf number offset (run state memory (take (h .place) trace) .stop .count)) (ranBefore state memory trace (h .place) offset .state) (ranBefore state memory trace (h .place) offset .memory)
+  unfolding ranOf
+  event-leaves bytes number offset h =
+      let at = h .place in
+      let here = standing state memory trace at (where-left trace at (whole-left trace at (h .complete))) (h .header) in
+      let early = before-done at offset here (h .kindFrom) (h .kindTo) (h .before) in
+      let d = early .chip in
+      let means = recordedBy (kindOf (drop at trace)) in
+      let recorded = means (getD trace offset 0) in
+      let front = front-whole (drop at trace) (h .complete) in
+      let fit = within-trace trace at _ front in
+      let end = at + headerSize + lengthOf (drop at trace) in
+      let refusal : replay recorded d ≡ refuses number =
+      met-refused recorded d number (sym (ap (meets recorded) (reply-there at offset here (h .kindFrom) (h .kindTo) d (early .bytes) bytes recorded)) ∙ h .met) (h .refused) in
+      let stop : playRecord theChip (recordAt at (drop at trace)) (here .chip) ≡ stopped number offset d =
+      its-bytes trace at (here .chip) (h .complete) (h .kindFrom) (h .kindTo) ∙
+      then-bytes theChip means trace (offset - (at + headerSize)) (at + headerSize) offset end (here .chip) d (omega (arith, h .after)) (omega (arith, h .inside)) fit (early .bytes) ∙
+      turn-refused theChip means trace offset end d number (h .inside) fit refusal in
+      ran-on state memory trace at here (plays-stop trace at theChip (here .count) (here .chip) _ front number offset d stop) ∙ rw (ran-there state memory trace at here, before-ran at offset here (h .kindFrom) (h .kindTo) d (early .bytes))
