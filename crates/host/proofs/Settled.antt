@@ -13,7 +13,6 @@ use Rattle.host.specs.Settled.{Settled}
 pub settled : Settled
 settled = record {
   «ssd1815b_start» = λ state memory a b p q. ap (λ (o : Started). (o .number, o .state, o .memory)) (p ∙ sym q);
-  «ssd1815b_command» = λ state memory byte a b p q. ap (λ (o : HeldState). (o .number, o .state)) (p ∙ sym q);
   «ssd1815b_write» = λ state memory byte a b p q. ap (λ (o : HeldBoth). (o .number, o .state, o .memory)) (p ∙ sym q);
   «ssd1815b_read» = λ state memory a b p q. ap (λ (o : HeldRead). (o .number, o .byte, o .dummy, o .state)) (p ∙ sym q);
   «ssd1815b_reset» = λ state memory a b p q. ap (λ (o : HeldState). (o .number, o .state)) (p ∙ sym q);

@@ -1,4 +1,4 @@
--- the four events
+-- the events but for a command byte's
 pub mod Events
 -- the power state
 pub mod PowerState

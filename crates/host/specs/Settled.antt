@@ -4,7 +4,7 @@ use mathlib.Core.Path.{_≡_}
 use mathlib.Core.List.{List}
 use lib.ListN.{drop}
 use Rattle.codes.specs.Settled.{Settles}
-use Rattle.bus.specs.Chip.{commandByte, dataWritten, dataRead, resetPulse}
+use Rattle.bus.specs.Chip.{dataWritten, dataRead, resetPulse}
 use Rattle.bus.specs.Calls.{call}
 use Rattle.bus.specs.Start.{started, startOf}
 use Rattle.trace.specs.Front.{frontOf}
@@ -19,8 +19,6 @@ use Rattle.host.specs.List.{heldText, ofListed}
 pub record Settled : Type 0 where
   -- number, state, memory
   pub «ssd1815b_start» : (state memory : List ℕ) → Settles (λ (o : ℕ × List ℕ × List ℕ). started (o .0) (o .1) (o .2) ≡ startOf state memory)
-  -- number, state
-  pub «ssd1815b_command» : (state memory : List ℕ) (byte : ℕ) → Settles (λ (o : ℕ × List ℕ). heldState (o .0) (o .1) ≡ ofState (call (commandByte byte) state memory))
   -- number, state, memory
   pub «ssd1815b_write» : (state memory : List ℕ) (byte : ℕ) → Settles (λ (o : ℕ × List ℕ × List ℕ). heldBoth (o .0) (o .1) (o .2) ≡ ofBoth (call (dataWritten byte) state memory))
   -- number, byte, dummy mark, state

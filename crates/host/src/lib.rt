@@ -1,5 +1,5 @@
 // What the rig's C host calls: document 01's calls on numbers, images and byte slices, exported under one prefix. host/ssd1815b.h
-// declares them. Each has the statement of the call below it.
+// declares them; a command byte's stands apart, in hostcommand. Each has the statement of the call below it.
 pub mod draw;
 pub mod events;
 pub mod list;

@@ -1,0 +1,2 @@
+-- the exported call has one result
+pub mod Settled
