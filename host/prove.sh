@@ -23,10 +23,10 @@ TEXT
   exit 1
 fi
 
-# The library's two crates and those that they stand on. A command byte's call is
-# compiled apart from the run: each object then has one call of what both use,
-# and the compiler puts it into the run's loop.
-crates=$(sed -nE 's/^(host|hostcommand): *//p' crates.txt | tr ' ' '\n' | sort -u | wc -l)
+# The library's two crates and those that they stand on. The calls of single
+# events are compiled apart from the run: each object then has one call of what
+# both use, and the compiler puts it into the run's loop (DECISIONS 58).
+crates=$(sed -nE 's/^(host|hostbus): *//p' crates.txt | tr ' ' '\n' | sort -u | wc -l)
 mkdir -p target
 log=target/staticlib.log
 
@@ -54,7 +54,7 @@ join() {
   "${AR:-ar}" -M <<SCRIPT
 CREATE $made/joined.a
 ADDLIB $made/libhost.a
-ADDLIB $made/libhostcommand.a
+ADDLIB $made/libhostbus.a
 SAVE
 END
 SCRIPT
@@ -62,7 +62,7 @@ SCRIPT
 }
 
 echo "proving the library's $((crates + 2)) crates: some minutes where none is proved yet; $log has how far it is"
-if ! { rt staticlib host && rt staticlib hostcommand; } 2>&1 | tee "$log" | each_crate; then
+if ! { rt staticlib host && rt staticlib hostbus; } 2>&1 | tee "$log" | each_crate; then
   [ -n "${V:-}" ] || cat "$log"
   exit 1
 fi

@@ -1,7 +1,3 @@
--- the events but for a command byte's
-pub mod Events
--- the power state
-pub mod PowerState
 -- the record at an offset of a trace
 pub mod Record
 -- records visited one after the other by that call

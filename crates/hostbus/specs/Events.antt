@@ -1,4 +1,4 @@
--- The events as C sees them, but for a command byte's (crates/hostcommand): of a call's outcome, what can differ at that event.
+-- The four events as C sees them: of a call's outcome, what can differ at that event.
 use Prim.Native.Nat.{ℕ}
 use mathlib.Core.Bool.{Bool, true, false}
 use mathlib.Core.List.{List}

@@ -1,8 +1,17 @@
-// The events, but for a command byte's (crates/hostcommand).
+// The four events.
 ghost use mathlib.Core.Path.{_≡_};
-ghost use Rattle.bus.specs.Chip.{dataWritten, dataRead, resetPulse};
+ghost use Rattle.bus.specs.Chip.{commandByte, dataWritten, dataRead, resetPulse};
 ghost use Rattle.bus.specs.Calls.{call};
-ghost use Rattle.host.specs.Events.{flag, heldState, heldBoth, heldRead, ofState, ofBoth, ofRead};
+ghost use Rattle.hostbus.specs.Events.{flag, heldState, heldBoth, heldRead, ofState, ofBoth, ofRead};
+
+// A command byte.
+#[no_mangle]
+pub extern "C" fn ssd1815b_command(state: &mut [u8], memory: &[u8], byte: u8) -> u8
+    ensures { λ r. ⌜ heldState r (now (state .exit)) ≡ ofState (call (commandByte byte) (now (state .entry)) (now (memory .entry))) ⌝ }
+{
+    let reply = bus::calls::command(state, memory, byte);
+    reply.number
+}
 
 // A data byte written.
 #[no_mangle]

@@ -1,9 +1,10 @@
--- `hostcommand::ssd1815b_command` meets its contract by that of the call below it.
+-- `hostbus::events::ssd1815b_command` meets its contract by that of the call below it.
 -- Assumes nothing.
 use borrow.Author.Needs.{needs}
+use Rattle.hostbus.proofs.events.ssd1815b_command.Statement.{statement}
+use Rattle.hostbus.proofs.events.ssd1815b_command.Tie as tie
 use mathlib.Core.Path.{ap}
-use Rattle.hostcommand.proofs.ssd1815b_command.Statement.{statement}
-use Rattle.hostcommand.proofs.ssd1815b_command.Tie as tie
+use Rattle.hostbus.specs.Events.{ofState}
 
 command-requires : tie.Need-command-requires
 command-requires c κs = search needs
@@ -12,7 +13,7 @@ same-length : tie.Need-same-length
 same-length c = search needs
 
 returns : tie.Need-returns
-returns c = let e = c .before .before .command .ensures in (ap (λ outcome. outcome .reply .number) e, ap (λ outcome. outcome .state) e)
+returns c = ap ofState (c .before .before .command .ensures)
 
 pub ssd1815b-command-spec : {M : Type 1} → statement M
 ssd1815b-command-spec = tie.close (tie.spec command-requires same-length returns)

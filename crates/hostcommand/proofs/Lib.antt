@@ -1,2 +1,0 @@
--- What the exported call states has one result.
-pub mod Settled

@@ -1,2 +1,0 @@
--- the exported call has one result
-pub mod Settled
