@@ -15,6 +15,7 @@ pub mod Exactly
 pub mod Given
 pub mod Stored
 pub mod Awaiting
+pub mod Moves
 pub mod StaysLegal
 pub mod CallsOnChip
 pub mod Tests

@@ -28,6 +28,8 @@ pub mod ThereAndBack
 pub mod TablesAgree
 -- the two readings of a command byte
 pub mod Awaiting
+-- the registers that a taken event leaves: column, fresh, read-modify-write, E2
+pub mod Moves
 -- what is legal stays legal
 pub mod StaysLegal
 -- each number exactly when, with its byte and dummy mark
