@@ -18,4 +18,5 @@ pub mod Awaiting
 pub mod Moves
 pub mod StaysLegal
 pub mod CallsOnChip
+pub mod TheStart
 pub mod Tests

@@ -38,6 +38,8 @@ pub mod Given
 pub mod Untouched
 -- a call on lent images is the event on the chip
 pub mod CallsOnChip
+-- what the start gives and leaves
+pub mod TheStart
 -- a stretch event by event
 pub mod Stretches
 -- one result for each statement
