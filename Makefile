@@ -1,6 +1,6 @@
 # The C side of the model: the tool, the tests, the bench.  `make help`.
 #
-# MODEL=proved  links the proved library, made by `rt staticlib host`
+# MODEL=proved  links the proved library, made by host/prove.sh
 # MODEL=plain   links plain C in its place (bench/plain.c)
 #
 # V=1           shows the compiler's command lines, and all that the prover says
@@ -194,8 +194,8 @@ clean:
 
 # ---- how things are built ----
 
-$(LIBRARY): crates.txt $(wildcard crates/*/src/*.rt)
-	@GOALS='$(MAKECMDGOALS)' V='$(V)' host/prove.sh
+$(LIBRARY): crates.txt $(wildcard crates/*/src/*.rt) | cross
+	@AR='$(CROSS)ar' GOALS='$(MAKECMDGOALS)' V='$(V)' host/prove.sh
 
 $(TOOL): $(call objects,host/tool/*.c) $(LINKED)
 $(COMPARE): $(call objects,host/compare/*.c) $(LINKED) \

@@ -2,7 +2,7 @@
 # Makes the proved library, target/staticlib/libhost.a, and says each crate as
 # it is proved.  target/staticlib.log has all that the prover says; V=1 shows it.
 #
-#   GOALS=GOALS V=V prove.sh      for a `make GOALS`, in the repository's folder
+#   AR=AR GOALS=GOALS V=V prove.sh      for a `make GOALS`, in the repository's folder
 set -euo pipefail
 
 if ! command -v rt > /dev/null; then
@@ -23,28 +23,47 @@ TEXT
   exit 1
 fi
 
-# The library's crate and those that it stands on.
-crates=$(sed -n 's/^host: *//p' crates.txt | wc -w)
+# The library's two crates and those that they stand on. The calls of single
+# events are compiled apart from the run: each object then has one call of what
+# both use, and the compiler puts it into the run's loop (DECISIONS 58).
+crates=$(sed -nE 's/^(host|hostbus): *//p' crates.txt | tr ' ' '\n' | sort -u | wc -l)
 mkdir -p target
 log=target/staticlib.log
 
-# each_crate: a line for each crate, from what rt says as it goes; the library
-# itself is the last of them, and rt tells it by the archive.
+# each_crate: a line for each crate, from what rt says as it goes; rt tells the
+# library's own two by their archives.
 each_crate() {
   local line
+  local -A said
   while IFS= read -r line; do
     [ -z "${V:-}" ] || printf '%s\n' "$line"
     if [[ $line =~ ^rt:\ ([a-z]+)\ proved\ (\(.*\))$ ]]; then
-      echo "proved ${BASH_REMATCH[1]} ${BASH_REMATCH[2]}"
+      [ -n "${said[${BASH_REMATCH[1]}]:-}" ] || echo "proved ${BASH_REMATCH[1]} ${BASH_REMATCH[2]}"
+      said[${BASH_REMATCH[1]}]=yes
       SECONDS=0
-    elif [[ $line = 'rt: target/staticlib/libhost.a has'* ]]; then
-      echo "proved host ($SECONDS s)"
+    elif [[ $line =~ ^rt:\ target/staticlib/lib([a-z]+)\.a\ has ]]; then
+      echo "proved ${BASH_REMATCH[1]} ($SECONDS s)"
+      SECONDS=0
     fi
   done
 }
 
-echo "proving the library's $((crates + 1)) crates: some minutes where none is proved yet; $log has how far it is"
-if ! rt staticlib host 2>&1 | tee "$log" | each_crate; then
+# Both archives in one, libhost.a.
+join() {
+  local made=target/staticlib
+  "${AR:-ar}" -M <<SCRIPT
+CREATE $made/joined.a
+ADDLIB $made/libhost.a
+ADDLIB $made/libhostbus.a
+SAVE
+END
+SCRIPT
+  mv "$made/joined.a" "$made/libhost.a"
+}
+
+echo "proving the library's $((crates + 2)) crates: some minutes where none is proved yet; $log has how far it is"
+if ! { rt staticlib host && rt staticlib hostbus; } 2>&1 | tee "$log" | each_crate; then
   [ -n "${V:-}" ] || cat "$log"
   exit 1
 fi
+join

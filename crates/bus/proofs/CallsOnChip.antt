@@ -5,19 +5,18 @@ use mathlib.Core.Bool.{false}
 use mathlib.Core.List.{List, [], _∷_, _++_}
 use Prim.Native.Nat.{ℕ, _≤_}
 use native.Mathlib.Omega.{arith}
-use borrow.Author.Tests.{le-ltb}
 use lib.ListN.{length, drop, length-append, length-replicate}
 use Rattle.constants.specs.Sizes.{imageSize, memorySize}
-use Rattle.bus.specs.Registers.{imageOf, registersOf, powerOn}
+use Rattle.bus.specs.Registers.{registersOf, powerOn}
 use Rattle.bus.specs.Events.{numberOf, byteOf, dummyOf, resetPin}
-use Rattle.bus.specs.Chip.{Chip, Event, resetPulse, step, registersAfter, chipAfter, after}
+use Rattle.bus.specs.Chip.{Event, resetPulse, step, registersAfter, chipAfter, after}
 use Rattle.bus.specs.Recorded.{chipOf}
 use Rattle.bus.specs.Image.{short, stored}
 use Rattle.bus.specs.Start.{registersAtStart, memoryAtStart, startOf}
 use Rattle.bus.specs.Calls.{called, replyOf, stateAfter, concluded, askedBefore, callOn, call}
 use Rattle.bus.specs.Bytes.{All, IsByte}
 use Rattle.bus.specs.StaysLegal.{LegalRegisters, Keeps, Accepted}
-use Rattle.bus.specs.CallsOnChip.{chipIn, imagedIn, Lent, lent, afterCalls, CallsOnChip}
+use Rattle.bus.specs.CallsOnChip.{chipIn, imagedIn, lent, afterCalls, CallsOnChip}
 use Rattle.bus.specs.declared.registers.Registers.{Registers}
 use Rattle.bus.specs.declared.answer.Answer.{Answer}
 use Rattle.bus.proofs.Legal.{long}

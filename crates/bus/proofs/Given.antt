@@ -26,7 +26,7 @@ use Rattle.bus.specs.declared.registers.Registers.{Registers}
 use Rattle.bus.proofs.Legal.{long}
 use Rattle.bus.proofs.Kept.{state-facts}
 use Rattle.bus.proofs.Answers.{numberOfCommand, numberOfEvent, isRead}
-use Rattle.bus.proofs.Exactly.{asksRanges, numberGiven, replyGiven, reply-given, number-given, isOther, namesNoPage, first-number, allows, second-number}
+use Rattle.bus.proofs.Replies.{asksRanges, numberGiven, replyGiven, reply-given, number-given, isOther, namesNoPage, first-number, allows, second-number}
 
 -- an n that is not allowed fails its code's test, and one that fails it is not allowed
 not-allowed : (code n : ℕ) → allows code n ≡ false → NotAllowed code n

@@ -8,7 +8,7 @@ use native.Mathlib.Nat.{le-of-suc-le-suc, not-suc-le-zero}
 use native.Mathlib.Omega.{arith}
 use lib.Dec.{leb, eqb, lit≤}
 use lib.ListN.{length, getD, drop, set}
-use borrow.Author.Tests.{le-leb, leb-true, eqb-true}
+use borrow.Author.Tests.{le-leb, leb-true, eq-eqb, eqb-true}
 use Rattle.codes.specs.OneOf.{oneOf}
 use Rattle.codes.specs.Table.{table, meaningOf}
 use Rattle.codes.specs.Values.{codesOf, CommandInRange}
@@ -23,8 +23,8 @@ use Rattle.bus.specs.Memory.{onward}
 use Rattle.bus.specs.Events.{commandTaken, enter, leave, softwareReset, obeyed, command, access, moved, write, read, resetPin}
 use Rattle.bus.specs.Chip.{Event, commandByte, dataWritten, dataRead, resetPulse, step}
 use Rattle.bus.specs.Image.{within, awaitedCodes, legal, asked}
-pub use Rattle.bus.specs.Bytes.{IsByte}
-pub use Rattle.bus.specs.StaysLegal.{LegalRegisters, Keeps}
+use Rattle.bus.specs.Bytes.{IsByte}
+use Rattle.bus.specs.StaysLegal.{LegalRegisters, Keeps}
 use Rattle.bus.proofs.Legal.{long}
 use Rattle.bus.specs.declared.registers.Registers.{Registers}
 use Rattle.bus.specs.declared.answer.Answer.{Answer}
@@ -33,16 +33,23 @@ use Rattle.bus.proofs.Asking.{found-legal}
 use Rattle.bus.proofs.ThereAndBack.{image-registers, image-with}
 use Rattle.bus.specs.declared.image.Asked.{Asked}
 
+-- the saved column is 0 while read-modify-write is 0, as a fact and as the test
+saved-fact : (modify saved : ℕ) → cond (eqb modify 0) (eqb saved 0) true ≡ true → modify ≡ 0 → saved ≡ 0
+saved-fact modify saved e z = eqb-true saved 0 (rw (eq-eqb modify 0 z) at e)
+
+saved-test : (modify saved : ℕ) → (modify ≡ 0 → saved ≡ 0) → cond (eqb modify 0) (eqb saved 0) true ≡ true
+saved-test modify saved h = chosen (λ t. t ≡ true) (eqb modify 0) _ _ (λ e. eq-eqb saved 0 (h (eqb-true modify 0 e))) (λ e. refl)
+
 pub legal-facts : (r : Registers) → legal (imageOf r) ≡ true → LegalRegisters r
 unfolding legal
 legal-facts r e =
     let outer = both (within largestValues (imageOf r) && oneOf awaitedCodes (r .awaited)) (cond (eqb (r .modify) 0) (eqb (r .saved) 0) true) e in
     let inner = both (within largestValues (imageOf r)) (oneOf awaitedCodes (r .awaited)) (outer .0) in
-    record { inRanges = inner .0; code = inner .1; savedZero = outer .1 }
+    record { inRanges = inner .0; code = inner .1; savedZero = saved-fact (r .modify) (r .saved) (outer .1) }
 
 pub facts-legal : (r : Registers) → LegalRegisters r → legal (imageOf r) ≡ true
 unfolding legal
-facts-legal r l = rw (l .inRanges, l .code, l .savedZero)
+facts-legal r l = rw (l .inRanges, l .code, saved-test (r .modify) (r .saved) (l .savedZero))
 
 -- a byte of an image within its ranges is at most its largest value
 within-at : (largest image : List ℕ) (i : ℕ) → within largest image ≡ true → i < length largest → getD image i 0 ≤ getD largest i 0
@@ -79,7 +86,7 @@ state-facts state h e =
     record {
       inRanges = sym (within-front largestValues front (drop imageSize state) (lit≤ tt)) ∙ ap (within largestValues) (image-registers state h) ∙ inner .0;
       code = inner .1;
-      savedZero = outer .1;
+      savedZero = saved-fact (getD state modify 0) (getD state saved 0) (outer .1);
     }
 
 -- the ranges after a register is set to a value in its own
@@ -117,7 +124,7 @@ enter-keeps : (r : Registers) → LegalRegisters r → LegalRegisters (enter r)
 unfolding largestValues
 enter-keeps r l =
     chosen LegalRegisters (eqb (r .modify) 1) r _ (λ e. l)
-    (λ e. record { inRanges = put _ saved (r .column) (put r modify 1 (l .inRanges) (lit≤ tt)) (bound r l column (lit≤ tt)); code = l .code; savedZero = refl })
+    (λ e. record { inRanges = put _ saved (r .column) (put r modify 1 (l .inRanges) (lit≤ tt)) (bound r l column (lit≤ tt)); code = l .code; savedZero = λ e. absurd (omega (arith, e)) })
 
 leave-keeps : (r : Registers) → LegalRegisters r → LegalRegisters (leave r)
 unfolding largestValues
@@ -126,7 +133,7 @@ leave-keeps r l =
     (λ e. record {
       inRanges = put _ saved 0 (put _ column (r .saved) (put r modify 0 (l .inRanges) (lit≤ tt)) (bound r l saved (lit≤ tt))) (lit≤ tt);
       code = l .code;
-      savedZero = refl;
+      savedZero = λ e. refl;
     })
     (λ e. l)
 
@@ -154,7 +161,7 @@ resets =
 
 software-reset-keeps : (r : Registers) → LegalRegisters r → LegalRegisters (softwareReset r)
 unfolding largestValues
-software-reset-keeps r l = record { inRanges = within-sets resets (imageOf r) (l .inRanges) refl; code = l .code; savedZero = refl }
+software-reset-keeps r l = record { inRanges = within-sets resets (imageOf r) (l .inRanges) refl; code = l .code; savedZero = λ e. refl }
 
 obeyed-keeps : (named : Command) (r : Registers) → CommandInRange named → LegalRegisters r → Keeps (obeyed named r)
 unfolding obeyed largestValues codesOf table
@@ -219,7 +226,7 @@ read-keeps r memory l =
 
 pub power-on-legal : LegalRegisters powerOn
 unfolding powerOn largestValues within awaitedCodes
-power-on-legal = record { inRanges = refl; code = refl; savedZero = refl }
+power-on-legal = record { inRanges = refl; code = refl; savedZero = λ e. refl }
 
 pub step-keeps : (event : Event) (r : Registers) (memory : List ℕ) → IsByte event → LegalRegisters r → Keeps (step event r memory .answer)
 unfolding step resetPin

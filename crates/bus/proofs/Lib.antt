@@ -1,22 +1,48 @@
-pub mod Access
-pub mod Concluded
-pub mod Legal
-pub mod ThereAndBack
-pub mod Asking
-pub mod Kept
-pub mod Answers
-pub mod Untouched
-pub mod Replayed
-pub mod Stretches
-pub mod Alone
-pub mod Settled
-pub mod TablesAgree
-pub mod Exactly
-pub mod Given
-pub mod Stored
-pub mod Awaiting
-pub mod Moves
-pub mod StaysLegal
-pub mod CallsOnChip
-pub mod TheStart
+-- laws on tests, for the layers above
 pub mod Tests
+-- 1. A lent state and memory.
+-- what it says that they are long enough, and that an image is within its ranges
+pub mod Legal
+-- what they are asked first, and with what they are refused
+pub mod Asking
+-- image and registers convert without loss
+pub mod ThereAndBack
+-- the image's order and the awaited codes, listed twice
+pub mod TablesAgree
+-- 2. Events.
+-- what it says of registers and memory that a data write or read is taken
+pub mod Access
+-- the number that an answer stands for, and what is silent
+pub mod Answers
+-- the two readings of a command byte
+pub mod Awaiting
+-- the registers that a taken event leaves: column, fresh, read-modify-write, E2
+pub mod Moves
+-- a taken event leaves legal registers, command by command
+pub mod Kept
+-- 3. Calls.
+-- how a call ends
+pub mod Concluded
+-- a lent state that legal registers were stored in
+pub mod Stored
+-- what a call leaves as it was, and the one byte that a write changes
+pub mod Untouched
+-- the reply that a call gives, by number, byte and dummy mark
+pub mod Replies
+-- each number exactly when
+pub mod Given
+-- what a call accepted, the next accepts
+pub mod StaysLegal
+-- a call on lent images is the event on the chip
+pub mod CallsOnChip
+-- what the start gives and leaves
+pub mod TheStart
+-- 4. Stretches.
+-- what was recorded, replayed on the chip
+pub mod Replayed
+-- one event more, how many are taken, two stretches in a row
+pub mod Stretches
+-- a command byte by itself is a stretch of one
+pub mod Alone
+-- 5. One result for each statement.
+pub mod Settled

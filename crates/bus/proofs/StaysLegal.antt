@@ -1,6 +1,6 @@
 -- What a taken event leaves is legal where what it found was, and so is what a call leaves.
 -- Assumes nothing.
-use mathlib.Core.Path.{_≡_, subst, sym, ap}
+use mathlib.Core.Path.{_≡_, subst}
 use mathlib.Core.Bool.{false}
 use mathlib.Core.List.{List, _++_}
 use Prim.Native.Nat.{ℕ, _≤_}

@@ -14,7 +14,8 @@ use Rattle.bus.specs.Calls.{concluded, askedBefore, callOn, call}
 use Rattle.bus.specs.declared.registers.Registers.{Registers}
 use Rattle.bus.proofs.Legal.{long}
 use Rattle.bus.proofs.Asking.{found-legal}
-use Rattle.bus.proofs.Kept.{LegalRegisters, facts-legal}
+use Rattle.bus.specs.StaysLegal.{LegalRegisters}
+use Rattle.bus.proofs.Kept.{facts-legal}
 use Rattle.bus.proofs.ThereAndBack.{image-registers}
 use Rattle.bus.specs.declared.image.Asked.{Asked}
 

@@ -20,8 +20,7 @@ use Rattle.bus.specs.Image.{asked, stored}
 use Rattle.bus.specs.Places.{fresh}
 use Rattle.bus.specs.Registers.{imageOf, registersOf, _with_≔_}
 use Rattle.bus.specs.Calls.{replyOf, stateAfter, concluded, refused, askedBefore, callOn, call}
-use Rattle.bus.specs.Given.{numberFrom}
-use Rattle.bus.specs.Untouched.{addressIn, Untouched, OneByteWritten}
+use Rattle.bus.specs.Untouched.{pointedAt, Untouched, OneByteWritten}
 use Rattle.bus.specs.declared.registers.Registers.{Registers}
 use Rattle.bus.specs.declared.answer.After.{After}
 use Rattle.bus.specs.declared.answer.Answer.{Answer}
@@ -151,23 +150,23 @@ module _ (b : ℕ) (state memory : List ℕ) where
   unfolding written
   written-here r e = rw (eq-eqb (access r (length memory)) taken e) (getD-set-same memory (address (r .page) (r .column)) (kept (r .page) b) 0 (omega (arith, address-inside r (length memory) e, opened r (length memory) e .enough)))
 
-  inside : call (dataWritten b) state memory .reply .number ≡ taken → addressIn state < memorySize
+  inside : call (dataWritten b) state memory .reply .number ≡ taken → pointedAt state < memorySize
   unfolding call callOn concluded refused askedBefore step replyOf numberOf
   inside = on (asked state memory) refl
     where
-      on : (asking : Asked) → asked state memory ≡ asking → callOn asking (dataWritten b) state memory .reply .number ≡ taken → addressIn state < memorySize
+      on : (asking : Asked) → asked state memory ≡ asking → callOn asking (dataWritten b) state memory .reply .number ≡ taken → pointedAt state < memorySize
       on (Asked.Found r) e n = address-inside (registersOf state) (length memory) (rw (← (found-legal state memory e .2)) at (write-open r (length memory) n))
       on (Asked.Refused number) e n = absurd (omega (arith, n, subst OneOrTwo e (asked-refusal state memory) .0))
 
-  here : call (dataWritten b) state memory .reply .number ≡ taken → getD (call (dataWritten b) state memory .memory) (addressIn state) 0 ≡ kept (registersOf state .page) b
+  here : call (dataWritten b) state memory .reply .number ≡ taken → getD (call (dataWritten b) state memory .memory) (pointedAt state) 0 ≡ kept (registersOf state .page) b
   unfolding call callOn concluded refused askedBefore step replyOf numberOf
   here = on (asked state memory) refl
     where
-      on : (asking : Asked) → asked state memory ≡ asking → callOn asking (dataWritten b) state memory .reply .number ≡ taken → getD (callOn asking (dataWritten b) state memory .memory) (addressIn state) 0 ≡ kept (registersOf state .page) b
+      on : (asking : Asked) → asked state memory ≡ asking → callOn asking (dataWritten b) state memory .reply .number ≡ taken → getD (callOn asking (dataWritten b) state memory .memory) (pointedAt state) 0 ≡ kept (registersOf state .page) b
       on (Asked.Found r) e n = rw (← (found-legal state memory e .2)) (written-here (registersOf state) (rw (← (found-legal state memory e .2)) at (write-open r (length memory) n)))
       on (Asked.Refused number) e n = absurd (omega (arith, n, subst OneOrTwo e (asked-refusal state memory) .0))
 
-  elsewhere : (place : ℕ) → place ≢ addressIn state → getD (call (dataWritten b) state memory .memory) place 0 ≡ getD memory place 0
+  elsewhere : (place : ℕ) → place ≢ pointedAt state → getD (call (dataWritten b) state memory .memory) place 0 ≡ getD memory place 0
   unfolding call callOn concluded refused askedBefore step
   elsewhere place h = on (asked state memory) refl
     where

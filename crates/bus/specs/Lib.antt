@@ -1,3 +1,4 @@
+-- 1. Definitions.
 -- the place of each register in the image
 pub mod Places
 -- the image, the ranges, power-on, one register set
@@ -8,19 +9,20 @@ pub mod Memory
 pub mod Events
 -- the chip as a machine: registers and memory, a step for each event
 pub mod Chip
--- a refusal number, or what was asked for
-pub mod Result
--- what a record's payload stands for, and the chip after it
-pub mod Recorded
--- a stretch of events over any step: how far it came
-pub mod Stretch
 -- when a lent image is legal; refusals 1 and 2
 pub mod Image
 -- the starting state and memory
 pub mod Start
 -- the whole outcome of a call
 pub mod Calls
--- why some laws take bytes below 256
+-- a refusal number, or what was asked for
+pub mod Result
+-- what a record's payload stands for, and the chip after it
+pub mod Recorded
+-- a stretch of events over any step: how far it came
+pub mod Stretch
+-- 2. Laws, each proved in the file of that name in proofs/.
+-- why some of them take bytes below 256
 pub mod Bytes
 -- image and registers convert without loss
 pub mod ThereAndBack

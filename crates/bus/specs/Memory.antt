@@ -4,9 +4,13 @@ use mathlib.Core.Bool.{cond}
 use lib.Dec.{eqb}
 use Rattle.constants.specs.Sizes.{width, lastColumn, iconPage}
 
+-- Of pages w wide, page p, column c lies at w p + c.
+abbrev pub addressIn : ℕ → ℕ → ℕ → ℕ
+addressIn w page column = page * w + column
+
 -- Page p, column c lies at 132 p + c.
 abbrev pub address : ℕ → ℕ → ℕ
-address page column = page * width + column
+address = addressIn width
 
 -- Page 8 has bit 0 only.
 unfoldable pub kept : ℕ → ℕ → ℕ

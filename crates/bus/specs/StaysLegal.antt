@@ -1,9 +1,9 @@
 -- Document 01's legal ranges are kept: what a taken event leaves is legal where what it found was.
 use Prim.Native.Nat.{ℕ}
 use mathlib.Core.Path.{_≡_}
-use mathlib.Core.Bool.{true, false, cond}
+use mathlib.Core.Bool.{true, false}
 use mathlib.Core.List.{List}
-use lib.Dec.{eqb}
+use mathlib.Core.Logic.{_↔_}
 use Rattle.codes.specs.OneOf.{oneOf}
 use Rattle.bus.specs.Registers.{largestValues, imageOf, powerOn}
 use Rattle.bus.specs.Chip.{Event, resetPulse, step, Leaves}
@@ -18,7 +18,7 @@ use Rattle.bus.specs.declared.answer.Answer.{Answer}
 pub record LegalRegisters (r : Registers) : Type 0 where
   pub inRanges : within largestValues (imageOf r) ≡ true
   pub code : oneOf awaitedCodes (r .awaited) ≡ true
-  pub savedZero : cond (eqb (r .modify) 0) (eqb (r .saved) 0) true ≡ true
+  pub savedZero : r .modify ≡ 0 → r .saved ≡ 0
 
 -- A taken event leaves legal registers.
 abbrev pub Keeps : Answer → Type 0
@@ -31,7 +31,7 @@ pub record Accepted (state memory : List ℕ) : Type 0 where
 
 pub record StaysLegal : Type 0 where
   -- Legal registers are those whose image is in its ranges.
-  pub theImage : (r : Registers) → (LegalRegisters r → legal (imageOf r) ≡ true) × (legal (imageOf r) ≡ true → LegalRegisters r)
+  pub theImage : (r : Registers) → LegalRegisters r ↔ legal (imageOf r) ≡ true
   -- The registers at power-on are legal.
   pub atPowerOn : LegalRegisters powerOn
   -- A taken event leaves legal registers where it found them.

@@ -13,8 +13,8 @@ use Rattle.bus.specs.Calls.{call}
 use Rattle.bus.specs.Given.{numberFrom}
 
 -- Where page and column of a lent state lie in the memory.
-abbrev pub addressIn : List ℕ → ℕ
-addressIn state = address (registersOf state .page) (registersOf state .column)
+abbrev pub pointedAt : List ℕ → ℕ
+pointedAt state = address (registersOf state .page) (registersOf state .column)
 
 pub record Untouched (event : Event) (state memory : List ℕ) : Type 0 where
   -- A refused event changes no register and no display memory.
@@ -28,8 +28,8 @@ pub record Untouched (event : Event) (state memory : List ℕ) : Type 0 where
 
 pub record OneByteWritten (b : ℕ) (state memory : List ℕ) : Type 0 where
   -- Page and column lie in the memory's 1,188 bytes.
-  pub inside : numberFrom (dataWritten b) state memory ≡ taken → addressIn state < memorySize
+  pub inside : numberFrom (dataWritten b) state memory ≡ taken → pointedAt state < memorySize
   -- A write stores one byte there; on page 8 its bit 0 is kept.
-  pub here : numberFrom (dataWritten b) state memory ≡ taken → getD (call (dataWritten b) state memory .memory) (addressIn state) 0 ≡ kept (registersOf state .page) b
+  pub here : numberFrom (dataWritten b) state memory ≡ taken → getD (call (dataWritten b) state memory .memory) (pointedAt state) 0 ≡ kept (registersOf state .page) b
   -- It changes no other.
-  pub elsewhere : (place : ℕ) → place ≢ addressIn state → getD (call (dataWritten b) state memory .memory) place 0 ≡ getD memory place 0
+  pub elsewhere : (place : ℕ) → place ≢ pointedAt state → getD (call (dataWritten b) state memory .memory) place 0 ≡ getD memory place 0

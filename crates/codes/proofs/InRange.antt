@@ -32,7 +32,7 @@ unfolding table codesOf
 sound =
     (λ b low high. omega arith, (λ b low high. omega arith, (λ b low high. omega arith, (λ b low high. omega arith, (λ b low high. omega arith, (refl, (λ b low high. omega arith, (λ b low high. omega arith, (λ b low high. omega arith, (λ b low high. omega arith, (refl, (refl, (λ b low high. omega arith, (λ b low high. tt, (refl, (λ b low high. omega arith, (λ b low high. omega arith, (λ b low high. tt, (λ b low high. omega arith, (λ b low high. omega arith, (refl, (refl, (λ b low high. tt, (λ b low high. tt, (λ b low high. tt, (λ b low high. tt, tt))))))))))))))))))))))))))
 
-command-in-range : (b : ℕ) → CommandInRange (commandOf b)
+pub command-in-range : (b : ℕ) → CommandInRange (commandOf b)
 unfolding commandOf
 command-in-range b = carried-by table b sound
 

@@ -1,4 +1,4 @@
--- For the code: a whole record at an offset of a trace ends within it.
-pub mod WholeRecord
+-- The record call visits the records of a trace's split.
+pub mod RecordWalk
 -- What each exported call states has one result.
 pub mod Settled

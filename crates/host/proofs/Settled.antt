@@ -1,23 +1,14 @@
 -- What each exported call states has one result: both results are of the one outcome.
 -- Assumes nothing.
 use mathlib.Core.Path.{_∙_, sym, ap}
-use Rattle.bus.specs.Start.{Started}
 use Rattle.trace.specs.Run.{Ran}
 use Rattle.picture.specs.Draw.{Drawn}
-use Rattle.host.specs.Events.{HeldState, HeldBoth, HeldRead}
-use Rattle.host.specs.PowerState.{HeldPower}
 use Rattle.host.specs.Record.{HeldRecord}
 use Rattle.host.specs.List.{HeldText}
 use Rattle.host.specs.Settled.{Settled}
 
 pub settled : Settled
 settled = record {
-  «ssd1815b_start» = λ state memory a b p q. ap (λ (o : Started). (o .number, o .state, o .memory)) (p ∙ sym q);
-  «ssd1815b_command» = λ state memory byte a b p q. ap (λ (o : HeldState). (o .number, o .state)) (p ∙ sym q);
-  «ssd1815b_write» = λ state memory byte a b p q. ap (λ (o : HeldBoth). (o .number, o .state, o .memory)) (p ∙ sym q);
-  «ssd1815b_read» = λ state memory a b p q. ap (λ (o : HeldRead). (o .number, o .byte, o .dummy, o .state)) (p ∙ sym q);
-  «ssd1815b_reset» = λ state memory a b p q. ap (λ (o : HeldState). (o .number, o .state)) (p ∙ sym q);
-  «ssd1815b_power_state» = λ state a b p q. ap (λ (o : HeldPower). (o .number, o .power)) (p ∙ sym q);
   «ssd1815b_record» = λ bytes at a b p q. ap (λ (o : HeldRecord). (o .number, o .kind, o .next)) (p ∙ sym q);
   «ssd1815b_run» = λ state memory bytes a b p q. ap (λ (o : Ran). (o .stop .number, o .stop .offset, o .stop .count, o .state, o .memory)) (p ∙ sym q);
   «ssd1815b_draw» = λ state memory frame a b p q. ap (λ (o : Drawn). (o .number, o .frame)) (p ∙ sym q);

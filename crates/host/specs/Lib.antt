@@ -1,9 +1,7 @@
--- the four events
-pub mod Events
--- the power state
-pub mod PowerState
 -- the record at an offset of a trace
 pub mod Record
+-- records visited one after the other by that call
+pub mod RecordWalk
 -- a frame listed as text
 pub mod List
 -- one result for each statement

@@ -4,31 +4,14 @@ use mathlib.Core.Path.{_≡_}
 use mathlib.Core.List.{List}
 use lib.ListN.{drop}
 use Rattle.codes.specs.Settled.{Settles}
-use Rattle.bus.specs.Chip.{commandByte, dataWritten, dataRead, resetPulse}
-use Rattle.bus.specs.Calls.{call}
-use Rattle.bus.specs.Start.{started, startOf}
 use Rattle.trace.specs.Front.{frontOf}
 use Rattle.trace.specs.Run.{ran, stopOf, run}
 use Rattle.picture.specs.Draw.{drawn, draw}
 use Rattle.framelisting.specs.Listing.{listed}
-use Rattle.host.specs.Events.{heldState, heldBoth, heldRead, ofState, ofBoth, ofRead}
-use Rattle.host.specs.PowerState.{heldPower, powerStateOf}
 use Rattle.host.specs.Record.{heldRecord, recordOf}
 use Rattle.host.specs.List.{heldText, ofListed}
 
 pub record Settled : Type 0 where
-  -- number, state, memory
-  pub «ssd1815b_start» : (state memory : List ℕ) → Settles (λ (o : ℕ × List ℕ × List ℕ). started (o .0) (o .1) (o .2) ≡ startOf state memory)
-  -- number, state
-  pub «ssd1815b_command» : (state memory : List ℕ) (byte : ℕ) → Settles (λ (o : ℕ × List ℕ). heldState (o .0) (o .1) ≡ ofState (call (commandByte byte) state memory))
-  -- number, state, memory
-  pub «ssd1815b_write» : (state memory : List ℕ) (byte : ℕ) → Settles (λ (o : ℕ × List ℕ × List ℕ). heldBoth (o .0) (o .1) (o .2) ≡ ofBoth (call (dataWritten byte) state memory))
-  -- number, byte, dummy mark, state
-  pub «ssd1815b_read» : (state memory : List ℕ) → Settles (λ (o : ℕ × ℕ × ℕ × List ℕ). heldRead (o .0) (o .1) (o .2) (o .3) ≡ ofRead (call dataRead state memory))
-  -- number, state
-  pub «ssd1815b_reset» : (state memory : List ℕ) → Settles (λ (o : ℕ × List ℕ). heldState (o .0) (o .1) ≡ ofState (call resetPulse state memory))
-  -- number, power state
-  pub «ssd1815b_power_state» : (state : List ℕ) → Settles (λ (o : ℕ × ℕ). heldPower (o .0) (o .1) ≡ powerStateOf state)
   -- number, kind, offset after the record
   pub «ssd1815b_record» : (bytes : List ℕ) (at : ℕ) → Settles (λ (o : ℕ × ℕ × ℕ). heldRecord (o .0) (o .1) (o .2) ≡ recordOf (frontOf (drop at bytes)) at)
   -- number, offset, count, state, memory

@@ -1,9 +1,6 @@
-// What the rig's C host calls: document 01's calls on numbers, images and byte slices, exported under one prefix. host/ssd1815b.h
-// declares them. Each has the statement of the call below it.
+// What the rig's C host calls of traces, frames and listings, on numbers, images and byte slices; crates/hostbus has the events. host/ssd1815b.h declares
+// them under one prefix, and each has the statement of the call below it.
 pub mod draw;
-pub mod events;
 pub mod list;
-pub mod power_state;
 pub mod record;
 pub mod run;
-pub mod start;

@@ -1,30 +1,24 @@
--- With all rows in use: which RAM row each row of the frame shows, and where a RAM row shows, over any scan; then of this chip's frame.
+-- With all rows in use: which RAM row each row of the frame shows, and where a RAM row shows, over any scan; rows and columns are bijections.
 -- Assumes nothing.
-use mathlib.Core.Path.{_≡_, refl, _∙_, ap}
+use mathlib.Core.Path.{_≡_, refl, ap}
 use mathlib.Core.Bool.{Bool, true, false, cond}
-use mathlib.Core.List.{List}
 use Prim.Native.Nat.{ℕ, _+_, _-_, _%_, _<_}
 use native.Mathlib.Omega.{arith}
-use native.Mathlib.Nat.{mod-eq-of-lt}
+use native.Mathlib.Nat.{mod-lt}
 use native.Mathlib.Decide.{decLt}
 use lib.Dec.{ltb, eqb}
 use borrow.Author.Tests.{lt-ltb, le-ltb}
-use Rattle.constants.specs.Sizes.{width, height, frameRows}
-use Rattle.bus.specs.Places
-use Rattle.bus.specs.Registers.{largestValues}
-use Rattle.bus.specs.Memory.{address}
-use Rattle.bus.proofs.Kept.{legal-facts, bound}
-use Rattle.bus.specs.declared.registers.Registers.{Registers}
-use Rattle.picture.specs.Scan.{Scan, panelRow, ramRow, comOf, ramRowOf, panelShows, rowShows, columnOf}
-use Rattle.picture.specs.Rows.{rowsInUse, scanOf}
-use Rattle.picture.specs.Frame.{bit, turned, shownBit, frame, placeOf}
-use Rattle.picture.specs.Demand3.{Full, scroll}
+use Rattle.picture.specs.Scan.{Scan, panelRow, ramRow, comOf, used, ramRowOf, panelShows, rowShows, columnOf}
 use Rattle.bus.proofs.Tests.{chosen}
 use Rattle.picture.proofs.Bijection.{Bijection}
-use Rattle.picture.proofs.Turns.{turnOf, backOf, amount, amount-below, turn-below, back-below, turn-back, back-turn, rule}
-use Rattle.picture.proofs.AllLit.{all-used}
-use Rattle.picture.proofs.Places.{frame-place, bits-show}
+use Rattle.picture.proofs.Turns.{turnOf, backOf, amount, turn-below, back-below, turn-back, back-turn, rule}
+use Rattle.picture.specs.declared.rows.PanelRow.{PanelRow}
 use Rattle.picture.specs.declared.rows.Shown.{Shown}
+
+-- with all rows in use each COM is
+pub all-used : (s : Scan) (row : PanelRow) → 0 < s .size → s .inUse ≡ s .size → used s (comOf s row) ≡ true
+unfolding used comOf
+all-used s row pos all = rw all (lt-ltb ((row .0 + s .shift) % s .size) (s .size) (mod-lt _ pos))
 
 -- a turn of h panel rows that leaves the icon line
 abbrev pub leavingIcons : ℕ → (ℕ → ℕ) → ℕ → ℕ
@@ -71,7 +65,7 @@ either-row false n m = refl
 abbrev pub scrollOf : Scan → ℕ
 scrollOf s = amount (s .size) (eqb (s .direction) 0) (s .start) (s .shift % s .size)
 
-abbrev ramBy : Scan → ℕ → ℕ
+abbrev pub ramBy : Scan → ℕ → ℕ
 ramBy s = leavingIcons (s .size) (turnOf (s .size) (eqb (s .direction) 0) (scrollOf s))
 
 -- any scan with all rows in use shows by that turn
@@ -89,57 +83,3 @@ module _ (s : Scan) (all : s .inUse ≡ s .size) (startIn : s .start < s .size) 
       either : Dec (y < s .size) → cond (ltb y (s .size)) (panelShows s (panelRow y)) (Shown.Ram (ramRow (s .size))) ≡ Shown.Ram (ramRow (ramBy s y))
       either (yes k) = rw (lt-ltb y (s .size) k) (panel-shows y k)
       either (no n) = rw (le-ltb y (s .size) (omega arith))
-
--- what demand 3's settings hold of the registers that a frame depends on
-pub record Bounds (r : Registers) : Type 0 where
-  pub start : r .start < height
-  pub offset : r .offset < height
-  pub columns : r .«column_direction» < 2
-  pub rows : r .«row_direction» < 2
-  pub reverse : r .reverse < 2
-  pub allRows : rowsInUse r ≡ height
-  pub on : r .on ≡ 1
-  pub entire : r .entire ≡ 0
-
-pub bounds : (r : Registers) → Full r → Bounds r
-unfolding largestValues
-bounds r full =
-    let held = bound r (legal-facts r (full .inRange)) in
-    record {
-      start = omega (arith, held Places.start (omega arith));
-      offset = omega (arith, held Places.offset (omega arith));
-      columns = omega (arith, held Places.columnDirection (omega arith));
-      rows = omega (arith, held Places.rowDirection (omega arith));
-      reverse = omega (arith, held Places.reverse (omega arith));
-      allRows = full .allRows;
-      on = full .on;
-      entire = full .notLit;
-    }
-
-pub scroll-below : (r : Registers) → scroll r < height
-unfolding scroll
-scroll-below r = amount-below height (eqb (r .«row_direction») 0) (r .start) (r .offset) (omega arith)
-
--- the RAM row that a row of the frame shows, and the row of the frame that shows a RAM row
-abbrev pub ramOf : Registers → ℕ → ℕ
-ramOf r = leavingIcons height (turnOf height (eqb (r .«row_direction») 0) (scroll r))
-
-abbrev pub rowShowing : Registers → ℕ → ℕ
-rowShowing r = leavingIcons height (backOf height (eqb (r .«row_direction») 0) (scroll r))
-
-pub rows-both-ways : (r : Registers) → Bijection frameRows (ramOf r) (rowShowing r)
-rows-both-ways r = rows-bijection height (eqb (r .«row_direction») 0) (scroll r) (scroll-below r)
-
-module _ (r : Registers) (b : Bounds r) where
-  -- this chip's shift, with all rows in use, is the offset
-  full-scroll : scrollOf (scanOf r) ≡ scroll r
-  unfolding scroll
-  full-scroll = ap (amount height (eqb (r .«row_direction») 0) (r .start)) (mod-eq-of-lt (b .offset))
-
-  pub row-shows : (y : ℕ) → rowShows (scanOf r) (panelRow y) ≡ Shown.Ram (ramRow (ramOf r y))
-  row-shows y = rows-shown (scanOf r) (b .allRows) (b .start) y ∙ ap (λ c. Shown.Ram (ramRow (leavingIcons height (turnOf height (eqb (r .«row_direction») 0) c) y))) full-scroll
-
-  -- what stands at a place
-  pub place-shows : (memory : List ℕ) (y x : ℕ) → y < frameRows → x < width → placeOf width y x (frame r memory) ≡ turned (r .reverse) (bit address memory (ramRow (ramOf r y)) (columnOf width (r .«column_direction») x))
-  unfolding shownBit
-  place-shows memory y x l k = frame-place r memory y x l k ∙ rw (row-shows y) (bits-show r memory (ramRow (ramOf r y)) x (b .on) (b .entire))

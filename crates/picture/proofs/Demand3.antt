@@ -27,9 +27,9 @@ use Rattle.picture.proofs.Lines.{line-same, grid-same}
 use Rattle.picture.proofs.Flipped.{flip-hit, flip-miss}
 use Rattle.picture.proofs.Places.{frame-row, bits-show}
 use Rattle.picture.proofs.Turns.{turnOf, up, down, decided}
-use Rattle.picture.proofs.Bijection.{Bijection, one}
-use Rattle.picture.proofs.Bijection.{one-place as only-place}
-use Rattle.picture.proofs.AllRows.{Bounds, bounds, leavingIcons, ramOf, rowShowing, scroll-below, rows-both-ways, columns-bijection, row-shows, place-shows}
+use Rattle.picture.proofs.Bijection.{Bijection, changed, unchanged}
+use Rattle.picture.proofs.AllRows.{leavingIcons, columns-bijection}
+use Rattle.picture.proofs.FullSettings.{Bounds, bounds, scroll-below, ramOf, rowShowing, rows-both-ways, row-shows, place-shows}
 
 -- a memory of zeros
 blank : List ℕ
@@ -73,27 +73,35 @@ module _ (r : Registers) (b : Bounds r) where
   columns : Bijection width column column
   columns = columns-bijection width (r .«column_direction»)
 
+  abbrev bitAt : List ℕ → ℕ → ℕ → ℕ
+  bitAt memory row c = bit address memory (ramRow row) c
+
+  abbrev shownAt : ℕ → ℕ → List ℕ → ℕ
+  shownAt y x memory = placeOf width y x (frame r memory)
+
   -- each place shows the bit that the row rule and the column direction name
   shows-at : (y x : ℕ) → y < frameRows → x < width → ShowsAt r (ramOf r y) (column x) y x
   shows-at y x l k = record {
-    changes = λ memory long e.
-        let v = bit address memory (ramRow (ramOf r y)) (column x) in
-        let small : v < 2 = bit-below memory _ _ in
-        let turns : 1 - v ≡ v = one 2 (turned (r .reverse)) (turned (r .reverse)) (bits-bijection (r .reverse)) (1 - v) v (omega arith) small
-        (ap (turned (r .reverse)) (sym (flip-hit memory (ramOf r y) (column x) (room memory y x l k long))) ∙
-        sym (place-shows r b (flipped (ramRow (ramOf r y)) (column x) memory) y x l k) ∙
-        e ∙
-        place-shows r b memory y x l k) in
-        omega arith;
-    noOther = λ memory long y′ x′ l′ k′ n.
-        place-shows r b (flipped (ramRow (ramOf r y)) (column x) memory) y′ x′ l′ k′ ∙
-        ap (turned (r .reverse)) (flip-miss memory (ramOf r y) (column x) (room memory y x l k long) (ramOf r y′) (column x′) (columns .thereIn x k) (columns .thereIn x′ k′)
-        (λ e. n (only-place frameRows width (ramOf r) (rowShowing r) column column rows columns y x y′ x′ l k l′ k′ e))) ∙
-        sym (place-shows r b memory y′ x′ l′ k′);
+    changes = λ memory long.
+        changed frameRows width 2 (ramOf r) (rowShowing r) column column (turned (r .reverse)) (turned (r .reverse)) rows columns (bits-bijection (r .reverse)) bitAt bit-small shownAt (place-shows r b) memory (flip memory) y x l k
+        (λ e.
+        let v = bitAt memory (ramOf r y) (column x) in
+        let small : v < 2 = bit-small memory _ _ in
+        let turns : 1 - v ≡ v = sym (flip-hit memory (ramOf r y) (column x) (room memory long)) ∙ e in
+        omega arith);
+    noOther = λ memory long.
+        unchanged frameRows width 2 (ramOf r) (rowShowing r) column column (turned (r .reverse)) (turned (r .reverse)) rows columns (bits-bijection (r .reverse)) bitAt bit-small shownAt (place-shows r b) memory (flip memory) y x l k
+        (λ row c k′ n. flip-miss memory (ramOf r y) (column x) (room memory long) row c (columns .thereIn x k) k′ n);
   }
     where
-      room : (memory : List ℕ) (y x : ℕ) → y < frameRows → x < width → memorySize ≤ length memory → address (ramOf r y / 8) (column x) < length memory
-      room memory y x l k long = inside memory (ramOf r y) (column x) (rows .thereIn y l) (columns .thereIn x k) long
+      flip : List ℕ → List ℕ
+      flip memory = flipped (ramRow (ramOf r y)) (column x) memory
+
+      bit-small : (memory : List ℕ) (row c : ℕ) → bitAt memory row c < 2
+      bit-small memory row c = bit-below memory (ramRow row) c
+
+      room : (memory : List ℕ) → memorySize ≤ length memory → address (ramOf r y / 8) (column x) < length memory
+      room memory long = inside memory (ramOf r y) (column x) (rows .thereIn y l) (columns .thereIn x k) long
 
   -- and is lit by it
   lit-by : (y x : ℕ) → y < frameRows → x < width → LitBy r (ramOf r y) (column x) y x
@@ -261,13 +269,13 @@ module _ (r s : Registers) (b : Bounds r) (d : Bounds s) (same : (memory : List 
         line = turns .1;
       }
 
--- the demand is not empty: power-on with the display on is such a setting
-pub full-once-on : Full (powerOn with on ≔ 1)
+full-once-on : Full (powerOn with on ≔ 1)
 unfolding ranges largestValues powerOn within awaitedCodes legal
 full-once-on = record { inRange = refl; allRows = refl; on = refl; notLit = refl }
 
 pub demand3 : Demand3
 demand3 = record {
+  onceOn = full-once-on;
   eachBit = λ r full row column l k. one-place r (bounds r full) row column l k;
   eachPlace = λ r full y x l k. some-bit r (bounds r full) y x l k;
   scrolls = λ r full n memory. scrolled r (bounds r full) n memory;

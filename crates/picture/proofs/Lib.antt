@@ -6,6 +6,12 @@ pub mod Places
 pub mod RamRows
 -- a page that is lent on has its RAM rows' bits
 pub mod PageBits
+-- bijections of the numbers below n
+pub mod Bijection
+-- the row rule with all rows in use is a turn of the rows, over any size
+pub mod Turns
+-- with all rows in use, which RAM row each row shows, over any scan; rows and columns are bijections
+pub mod AllRows
 -- entire on with all rows in use lights every row
 pub mod AllLit
 -- what the call and its frame come to; demand 1 for drawing
@@ -14,15 +20,11 @@ pub mod Drawing
 pub mod FrameRules
 -- one outcome for each public call
 pub mod Settled
--- bijections of the numbers below n
-pub mod Bijection
--- the row rule with all rows in use is a turn of the rows, over any size
-pub mod Turns
--- with all rows in use, which RAM row each row shows, over any scan; rows and columns are bijections
-pub mod AllRows
+-- what drawing does not ask
+pub mod Ignored
+-- demand 3's settings of this chip, and what each place then shows
+pub mod FullSettings
 -- one bit of the memory flipped
 pub mod Flipped
 -- demand 3
 pub mod Demand3
--- what drawing does not ask
-pub mod Ignored

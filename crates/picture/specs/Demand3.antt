@@ -8,8 +8,8 @@ use lib.Dec.{eqb}
 use lib.Bits.{bitXor}
 use lib.ListN.{length, getD, set}
 use Rattle.constants.specs.Sizes.{width, memorySize, height, frameRows}
-use Rattle.bus.specs.Places.{start}
-use Rattle.bus.specs.Registers.{imageOf, _with_≔_}
+use Rattle.bus.specs.Places.{start, on}
+use Rattle.bus.specs.Registers.{imageOf, powerOn, _with_≔_}
 use Rattle.bus.specs.Memory.{address}
 use Rattle.bus.specs.Image.{legal}
 use Rattle.bus.specs.declared.registers.Registers.{Registers}
@@ -86,6 +86,8 @@ pub record Agree (r s : Registers) : Type 0 where
 
 -- The demand.
 pub record Demand3 : Type 0 where
+  -- There is such a setting: power-on with the display on.
+  pub onceOn : Full (powerOn with on ≔ 1)
   -- Each of the 8,580 memory bits shows at exactly one place of the frame, and each place shows a bit.
   pub eachBit : (r : Registers) → Full r → (row column : ℕ) → row < frameRows → column < width → OnePlace r row column
   pub eachPlace : (r : Registers) → Full r → (y x : ℕ) → y < frameRows → x < width → SomeBit r y x

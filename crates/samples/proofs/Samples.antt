@@ -13,14 +13,15 @@ use Rattle.picture.specs.Frame.{whileOn, segment, grid, frame}
 use Rattle.picture.specs.declared.rows.RamRow.{RamRow}
 use Rattle.picture.proofs.Lines.{grid-same}
 use Rattle.codes.specs.Table.{table, offsetOf, framePhasesOf, commandBy, operandBy, commandOf, operandOf, meaningOf}
-use Rattle.bus.specs.Registers.{ranges, powerOn}
+use Rattle.bus.specs.Registers.{ranges, largestValues, powerOn}
 use Rattle.bus.specs.Memory.{kept, onward}
 use Rattle.bus.specs.Events.{numberOf, obeyed, command, access, write, written}
+use Rattle.bus.specs.Image.{within, awaitedCodes, legal}
 use Rattle.bus.specs.Chip.{step, registersAfter, chipAfter, after}
 use native.Mathlib.Omega.{arith}
 use Rattle.picture.specs.Scan.{panelRow, ramRow, comOf, used, ramRowOf, panelShows, rowShows}
 use Rattle.picture.specs.Rows.{scanOf}
-use Rattle.samples.specs.Samples.{Samples, numberFor, picture}
+use Rattle.samples.specs.Samples.{Samples, numberFor, picture, Reached}
 use Rattle.picture.proofs.Places.{row-plain, off-dark}
 use Rattle.picture.specs.declared.rows.Shown.{Shown}
 
@@ -61,3 +62,7 @@ samples = record {
   sample11 = λ memory. row-plain _ memory 0 15 (omega arith) refl refl refl refl refl;
   sample12 = off-dark _ _ refl;
 }
+
+pub reached : Reached
+unfolding ranges largestValues powerOn within awaitedCodes legal table commandBy commandOf meaningOf obeyed command step registersAfter chipAfter after
+reached = record { inRange = refl; allRows = refl; on = refl; notLit = refl }

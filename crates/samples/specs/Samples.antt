@@ -12,6 +12,7 @@ use Rattle.bus.specs.Events.{numberOf}
 use Rattle.bus.specs.Chip.{Chip, Event, commandByte, dataWritten, step, after}
 use Rattle.picture.specs.Scan.{ramRow}
 use Rattle.picture.specs.Frame.{bit, line, grid, frame, rowOf}
+use Rattle.picture.specs.Demand3.{Full}
 
 -- The chip at power-on, with a memory.
 abbrev pub started : List ℕ → Chip
@@ -79,3 +80,7 @@ pub record Samples : Type 0 where
   pub sample11 : Shows (commands (0xA8 ∷ 0x0F ∷ 0xC8 ∷ 0xAF ∷ [])) 0 15
   -- 12. A5 with display off: all dark.
   pub sample12 : picture (fromPowerOn (commands (0xA5 ∷ []))) ≡ replicate frameSize 0
+
+-- Demand 3 speaks of a setting that the chip reaches: AF from power-on.
+abbrev pub Reached : Type 0
+Reached = Full (fromPowerOn (commands (0xAF ∷ [])) .registers)

@@ -10,8 +10,9 @@ use Rattle.codes.proofs.Tests.{chosen}
 use Rattle.constants.specs.Sizes.{memorySize}
 use Rattle.bus.specs.Chip.{Chip, dataRead}
 use Rattle.bus.specs.declared.answer.Answer.{Answer}
-use Rattle.bus.specs.Bytes.{All, Bytes}
-use Rattle.bus.proofs.Kept.{LegalRegisters, Keeps, IsByte, step-keeps}
+use Rattle.bus.specs.Bytes.{All, Bytes, IsByte}
+use Rattle.bus.specs.StaysLegal.{LegalRegisters, Keeps}
+use Rattle.bus.proofs.Kept.{step-keeps}
 use Rattle.bus.proofs.Untouched.{step-length, memory-past}
 use Rattle.trace.specs.Play.{Result, refuses, gives}
 use Rattle.trace.specs.Kinds.{Recorded, event, readAs, command, write, happened, compared, replay, eventsOf}

@@ -1,7 +1,8 @@
 -- A run gives 3 to 7 and 10 exactly when an event is refused, at its byte, and leaves what the bytes before it leave.
 -- Assumes nothing.
 use mathlib.Core.Path.{_≡_, refl, sym, _∙_, ap, subst}
-use mathlib.Core.Bool.{Bool, true, false, false≢true}
+use mathlib.Core.Logic.{_≢_}
+use mathlib.Core.Bool.{Bool, true, false, cond, not, _&&_, _||_, false≢true}
 use mathlib.Core.List.{List, [], _++_, map, append-nil}
 use Prim.Native.Nat.{ℕ, _+_, _-_, _≤_}
 use native.Mathlib.Omega.{arith}
@@ -10,18 +11,24 @@ use lib.Dec.{eqb}
 use lib.ListN.{length, getD, take, drop}
 use lib.Seq.{slice}
 use Rattle.codes.specs.OneOf.{oneOf}
-use Rattle.constants.specs.Numbers.{taken, headerCut, kindUnknown, readDiffers}
+use Rattle.constants.specs.Numbers.{taken, columnAbove, headerCut, kindUnknown, readDiffers}
 use Rattle.constants.specs.Sizes.{headerSize}
-use Rattle.bus.specs.Chip.{Chip, step}
-use Rattle.bus.specs.Calls.{Called, replyOf, concluded, call}
+use Rattle.bus.specs.Chip.{Chip, Event, step}
+use Rattle.bus.specs.Events.{numberOf}
+use Rattle.bus.specs.Calls.{Called, replyOf, refused, concluded, askedBefore, callOn, call}
 use Rattle.bus.specs.Bytes.{All, Bytes}
+use Rattle.bus.specs.declared.answer.Answer.{Answer}
+use Rattle.bus.specs.declared.image.Asked.{Asked}
+use Rattle.bus.specs.declared.calls.Reply.{Reply}
+use Rattle.bus.proofs.Answers.{StandsFor, step-answers}
+use Rattle.bus.proofs.Asking.{OneOrTwo, before-refusal}
 use Rattle.bus.proofs.Stored.{call-stored}
 use Rattle.trace.specs.Records.{lengthOf, kindOf, recordBytes, recordAt, splitFrom, split}
 use Rattle.trace.specs.Play.{refuses, Ending, stopped, done, played, onEnding, playEvents, playRecord, playFrom, play}
-use Rattle.trace.specs.Kinds.{Recorded, replay, chipOf, theChip}
+use Rattle.trace.specs.Kinds.{Recorded, readAs, command, write, replay, chipOf, theChip}
 use Rattle.trace.specs.ByCalls.{calledBy, meets}
 use Rattle.trace.specs.Run.{Ran, ran, stopOf, ranOf, run}
-use Rattle.trace.specs.Given.{recordedBy, ranBefore, EventRefused, eventNumbers}
+use Rattle.trace.specs.Given.{recordedBy, ranBefore, replyThere, EventRefused, ReadDiffers, eventNumbers}
 use Rattle.trace.specs.AnyMachine.{Gives, further}
 use Rattle.trace.proofs.PlayedFurther.{plays-stop, endingFurther, events-further, is-done}
 use Rattle.trace.proofs.PlayedJoined.{Stops, events-stop, joined}
@@ -157,3 +164,46 @@ module _ (state memory trace : List ℕ) where
       then-bytes theChip means trace (offset - (at + headerSize)) (at + headerSize) offset end (here .chip) d (omega (arith, h .after)) (omega (arith, h .inside)) fit (early .bytes) ∙
       turn-refused theChip means trace offset end d number (h .inside) fit refusal in
       ran-on state memory trace at here (plays-stop trace at theChip (here .count) (here .chip) _ front number offset d stop) ∙ rw (ran-there state memory trace at here, before-ran at offset here (h .kindFrom) (h .kindTo) d (early .bytes))
+
+-- no call replies 10
+call-most : (e : Event) (state memory : List ℕ) → call e state memory .reply .number ≤ columnAbove
+unfolding call callOn concluded refused replyOf numberOf
+call-most e state memory = on (askedBefore e state memory) (before-refusal e state memory)
+  where
+    after : (met : ℕ) (answer : Answer) → StandsFor met answer → numberOf answer ≤ columnAbove
+    after met (Answer.Taken t) s = omega arith
+    after met (Answer.Refused number) s = s .2
+
+    on : (asking : Asked) → OneOrTwo asking → callOn asking e state memory .reply .number ≤ columnAbove
+    on (Asked.Found r) h = after _ (step e r memory .answer) (step-answers e r memory)
+    on (Asked.Refused number) h = omega (arith, h .1)
+
+-- an event that meets 10 is a read that is taken, no dummy, and answers another byte
+record Differing (kind byte : ℕ) (reply : Reply) : Type 0 where
+  reads : kind ≡ 3
+  happens : reply .number ≡ taken
+  compared : reply .dummy ≡ false
+  differs : reply .byte ≢ byte
+
+differing-read : (byte : ℕ) (reply : Reply) (t d b : Bool) → eqb (reply .number) taken ≡ t → reply .dummy ≡ d → eqb (reply .byte) byte ≡ b → reply .number ≤ columnAbove → cond (t && not (d || b)) readDiffers (reply .number) ≡ readDiffers
+    → (reply .number ≡ taken) × (reply .dummy ≡ false) × (reply .byte ≢ byte)
+differing-read byte reply true false false t d b m e = (eqb-true (reply .number) taken t, d, eqb-false (reply .byte) byte b)
+differing-read byte reply true false true t d b m e = absurd (omega arith)
+differing-read byte reply true true b t d u m e = absurd (omega arith)
+differing-read byte reply false d b t u v m e = absurd (omega arith)
+
+meets-ten : (kind byte : ℕ) (reply : Reply) → 1 ≤ kind → kind ≤ 3 → reply .number ≤ columnAbove → meets (recordedBy kind byte) reply ≡ readDiffers → Differing kind byte reply
+meets-ten kind byte reply p q m e = by (eqb kind 1) (eqb kind 2) refl refl e
+  where
+    by : (a b : Bool) → eqb kind 1 ≡ a → eqb kind 2 ≡ b → meets (cond a (command byte) (cond b (write byte) (readAs byte))) reply ≡ readDiffers → Differing kind byte reply
+    by true b k l e = absurd (omega arith)
+    by false true k l e = absurd (omega arith)
+    by false false k l e =
+        let third : kind ≡ 3 = omega (arith, eqb-false kind 1 k, eqb-false kind 2 l) in
+        let read = differing-read byte reply _ _ _ refl refl refl m e in
+        record { reads = third; happens = read .0; compared = read .1; differs = read .2 }
+
+pub is-differing : (state memory trace : List ℕ) (offset : ℕ) (h : EventRefused state memory trace readDiffers offset) → ReadDiffers state memory trace (h .place) offset
+is-differing state memory trace offset h =
+    let d = meets-ten (kindOf (drop (h .place) trace)) (getD trace offset 0) (replyThere state memory trace (h .place) offset) (h .kindFrom) (h .kindTo) (call-most _ _ _) (h .met) in
+    record { reads = d .reads; happens = d .happens; compared = d .compared; differs = d .differs }

@@ -27,6 +27,8 @@ pub mod ChipKinds
 pub mod ChipRefusals
 -- what each event keeps
 pub mod ChipKeeps
+-- no event meets 1 or 2, whatever numbers a trace holds
+pub mod ChipNotOneOrTwo
 -- a record's events are a stretch on the bus: proves specs/Stretched
 pub mod Stretched
 -- 4. The run on a lent state and memory.

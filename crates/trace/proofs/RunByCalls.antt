@@ -19,7 +19,8 @@ use Rattle.bus.specs.declared.answer.Answer.{Answer}
 use Rattle.bus.specs.Bytes.{All, Bytes}
 use Rattle.bus.specs.declared.image.Asked.{Asked}
 use Rattle.bus.proofs.Answers.{StandsFor, step-answers}
-use Rattle.bus.proofs.Kept.{LegalRegisters, Keeps, step-keeps, asked-legal}
+use Rattle.bus.specs.StaysLegal.{LegalRegisters, Keeps}
+use Rattle.bus.proofs.Kept.{step-keeps, asked-legal}
 use Rattle.bus.proofs.Untouched.{step-length}
 use Rattle.bus.proofs.Stored.{stored-own, stored-again, call-stored}
 use Rattle.trace.specs.Records.{Trace, ended, cut, _then_, split}
@@ -87,7 +88,7 @@ header-brings : (header : Result (List Recorded)) (place count : ℕ) (later : S
 header-brings (refuses number) place count later g h = tt
 header-brings (gives events) place count later g h = all-append _ (placed events (place + headerSize) count) (later .events) (all-placed events (place + headerSize) count g) h
 
-pub script-brings : (trace : Trace) (count : ℕ) → Carries (λ (b : ℕ). b < 256) trace → All (λ (p : Placed Recorded). Brings (p .event)) (scriptFrom theChip trace count .events)
+script-brings : (trace : Trace) (count : ℕ) → Carries (λ (b : ℕ). b < 256) trace → All (λ (p : Placed Recorded). Brings (p .event)) (scriptFrom theChip trace count .events)
 unfolding scriptFrom
 script-brings (ended offset) count h = tt
 script-brings (cut offset) count h = tt

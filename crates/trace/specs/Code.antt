@@ -1,12 +1,10 @@
 -- What the code's own types stand for.
-use Prim.Native.Nat.{ℕ, _+_}
+use Prim.Native.Nat.{ℕ}
 use mathlib.Core.Bool.{cond}
 use mathlib.Core.List.{List}
 use lib.Dec.{eqb}
 use Rattle.constants.specs.Numbers.{taken}
 use Rattle.bus.specs.Chip.{Chip}
-use Rattle.bus.specs.Stretch.{Stretched}
-use Rattle.bus.specs.declared.stretch.Stretch.{Stretch}
 use Rattle.trace.specs.Play.{stopped, done, played}
 use Rattle.trace.specs.Play as play
 use Rattle.trace.specs.Kinds.{chipOf}

@@ -12,6 +12,7 @@ use Rattle.constants.specs.Sizes.{headerSize}
 use Rattle.codes.specs.OneOf.{oneOf}
 use Rattle.bus.specs.Image.{short, legal}
 use Rattle.bus.specs.Calls.{call}
+use Rattle.bus.specs.declared.calls.Reply.{Reply}
 use Rattle.bus.specs.Bytes.{Bytes}
 use Rattle.trace.specs.Records.{Trace, ended, cut, _then_, lengthOf, kindOf, whole, CutShort, recordBytes, split, recordsIn}
 use Rattle.trace.specs.Kinds.{Recorded, command, write, readAs, theChip}
@@ -55,12 +56,19 @@ recordedBy kind byte = cond (eqb kind 1) (command byte) (cond (eqb kind 2) (writ
 abbrev pub ranBefore : List ℕ → List ℕ → List ℕ → ℕ → ℕ → Ran
 ranBefore state memory trace place offset = run state memory (take place trace ++ recordBytes (kindOf (drop place trace)) (slice (place + headerSize) offset trace))
 
--- The number that the byte at an offset of that record meets then, by the reply of its event's call: its own, or 10 for a read that differs.
-abbrev pub metThere : List ℕ → List ℕ → List ℕ → ℕ → ℕ → ℕ
-metThere state memory trace place offset =
+-- What was recorded by the byte at an offset of that record.
+abbrev pub recordedThere : List ℕ → ℕ → ℕ → Recorded
+recordedThere trace place offset = recordedBy (kindOf (drop place trace)) (getD trace offset 0)
+
+-- What the call of its event replies then.
+abbrev pub replyThere : List ℕ → List ℕ → List ℕ → ℕ → ℕ → Reply
+replyThere state memory trace place offset =
     let before = ranBefore state memory trace place offset in
-    let recorded = recordedBy (kindOf (drop place trace)) (getD trace offset 0) in
-    meets recorded (call (calledBy recorded) (before .state) (before .memory) .reply)
+    call (calledBy (recordedThere trace place offset)) (before .state) (before .memory) .reply
+
+-- The number that it meets by that reply: its own, or 10 for a read that differs.
+abbrev pub metThere : List ℕ → List ℕ → List ℕ → ℕ → ℕ → ℕ
+metThere state memory trace place offset = meets (recordedThere trace place offset) (replyThere state memory trace place offset)
 
 -- 3 to 7 and 10, at the refused byte: a whole record of kind 1 to 3 stands at a place, the bytes of its payload before this one are taken, and the event that this one stands
 -- for meets the number.
@@ -75,6 +83,13 @@ pub record EventRefused (state memory trace : List ℕ) (number offset : ℕ) : 
   pub before : ranBefore state memory trace place offset .stop .number ≡ taken
   pub refused : number ≢ taken
   pub met : metThere state memory trace place offset ≡ number
+
+-- What makes 10 of it: the record is of reads, the read is taken and no dummy, which is not compared, and it answers another byte. 6 and 7 go before it.
+pub record ReadDiffers (state memory trace : List ℕ) (place offset : ℕ) : Type 0 where
+  pub reads : kindOf (drop place trace) ≡ 3
+  pub happens : replyThere state memory trace place offset .number ≡ taken
+  pub compared : replyThere state memory trace place offset .dummy ≡ false
+  pub differs : replyThere state memory trace place offset .byte ≢ getD trace offset 0
 
 -- The numbers that events are refused with in a run.
 abbrev pub eventNumbers : List ℕ
@@ -109,15 +124,17 @@ pub record NumbersGiven (state memory trace : List ℕ) : Type 0 where
   pub zero : Bytes trace → run state memory trace .stop .number ≡ taken ↔ AllTaken state memory trace
   pub zeroLeaves : Bytes trace → AllTaken state memory trace → run state memory trace ≡ byCalls (eventsIn trace) (stopOf taken (length trace) (recordsIn (split trace))) state memory
   -- 1: a lent state or memory is too short. Offset and count are 0, and nothing changes.
-  pub one : Bytes trace → run state memory trace .stop .number ≡ tooShort ↔ short state memory ≡ true
+  pub one : run state memory trace .stop .number ≡ tooShort ↔ short state memory ≡ true
   pub oneLeaves : short state memory ≡ true → run state memory trace ≡ ran (stopOf tooShort 0 0) state memory
   -- 2: the state image is out of its ranges, where 1 does not go first. Offset and count are 0, and nothing changes.
-  pub two : Bytes trace → run state memory trace .stop .number ≡ outOfRange ↔ (short state memory ≡ false) × (legal state ≡ false)
+  pub two : run state memory trace .stop .number ≡ outOfRange ↔ (short state memory ≡ false) × (legal state ≡ false)
   pub twoLeaves : short state memory ≡ false → legal state ≡ false → run state memory trace ≡ ran (stopOf outOfRange 0 0) state memory
   -- 3 to 7 and 10: an event is refused, at its byte. It has not happened: the count is of the records before its own, and what is left is what the run of the bytes before it leaves.
   pub event : Bytes trace → (number offset : ℕ) → oneOf eventNumbers number ≡ true → GivesAt (run state memory trace) number offset ↔ EventRefused state memory trace number offset
   pub eventLeaves : Bytes trace → (number offset : ℕ) (h : EventRefused state memory trace number offset) → run state memory trace ≡
       ran (stopOf number offset (run state memory (take (h .place) trace) .stop .count)) (ranBefore state memory trace (h .place) offset .state) (ranBefore state memory trace (h .place) offset .memory)
+  -- 10: a compared read differs.
+  pub ten : (offset : ℕ) (h : EventRefused state memory trace readDiffers offset) → ReadDiffers state memory trace (h .place) offset
   -- 8: one to three bytes left where a header should stand, or payload past the end, at the record's first byte. What the records before it left stands.
   pub eight : (offset : ℕ) → GivesAt (run state memory trace) headerCut offset ↔ HeaderCut state memory trace offset
   pub eightLeaves : (offset : ℕ) → HeaderCut state memory trace offset → run state memory trace ≡ stoppedAfter headerCut offset (run state memory (take offset trace))

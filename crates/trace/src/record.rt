@@ -17,6 +17,7 @@ use bus::stretch::reads;
 use bus::stretch::reset_pin;
 use bus::stretch::writes;
 use constants::refusal::KIND_UNKNOWN;
+use constants::sizes::HEADER_SIZE;
 
 // How a record ends: the registers that it leaves, and the number and offset of what is refused; TAKEN where all is done, and then the offset says nothing.
 pub struct Ending {
@@ -38,7 +39,7 @@ pub fn obey(
 {
     let kind = header.kind;
     let length = header.length;
-    let from = at + 4;
+    let from = at + HEADER_SIZE;
     let to = from + length;
     match kind {
         1 => ended(commands(registers, &trace[from..to]), from),

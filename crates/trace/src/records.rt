@@ -4,6 +4,7 @@ ghost use Prim.Native.Nat.{_+_, _<_};
 ghost use lib.ListN.{length, drop};
 ghost use Rattle.trace.specs.Records.{number};
 ghost use Rattle.trace.specs.Front.{frontOf};
+use constants::sizes::HEADER_SIZE;
 
 // What a record's header says: its kind, and the length of its payload.
 pub struct Header {
@@ -26,12 +27,12 @@ pub fn front_at(trace: &[u8], at: usize) -> Front
         return Front::Nothing;
     }
     let left = trace.len() - at;
-    if left < 4 {
+    if left < HEADER_SIZE {
         return Front::Cut;
     }
     let length = number_at(trace, at);
     let kind = number_at(trace, at + 2);
-    if length <= left - 4 {
+    if length <= left - HEADER_SIZE {
         return Front::Whole(Header { kind, length });
     }
     Front::Cut

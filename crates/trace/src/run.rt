@@ -13,6 +13,7 @@ use bus::image::ask;
 use bus::registers::Registers;
 use constants::refusal::HEADER_CUT;
 use constants::refusal::TAKEN;
+use constants::sizes::HEADER_SIZE;
 
 // Where a run stopped: the number, the offset and the count of whole records done.
 pub struct Stop {
@@ -61,7 +62,7 @@ pub fn play(mut registers: Registers, memory: &mut [u8], trace: &[u8]) -> Played
                 let left = ending.registers;
                 if ending.number == TAKEN {
                     registers = left;
-                    at = at + 4 + header.length;
+                    at = at + HEADER_SIZE + header.length;
                     count += 1;
                 } else {
                     return end(ending.number, ending.offset, count, left);

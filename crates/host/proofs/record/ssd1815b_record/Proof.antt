@@ -7,7 +7,7 @@ use mathlib.Core.Path.{sym, _∙_}
 use native.Mathlib.Omega.{arith}
 use denote.Ref.{now}
 use Rattle.host.specs.Record.{recordOf}
-use Rattle.host.proofs.WholeRecord.{inside}
+use Rattle.trace.proofs.WhatStands.{within-trace}
 
 front-at-requires : tie.Need-front-at-requires
 front-at-requires c κs = search needs
@@ -25,13 +25,13 @@ add-next : tie.Need-add-next
 add-next c =
     let found = c .before in
     let start = found .before .before .before .before in
-    omega (arith, inside (now (start .args .bytes)) (start .args .at) (sym (found .before .before .front-at .ensures) ∙ found .header .given .1))
+    omega (arith, within-trace (now (start .args .bytes)) (start .args .at) (found .header .given .0 .0) (sym (found .before .before .front-at .ensures) ∙ found .header .given .1))
 
 add-next-2 : tie.Need-add-next-2
 add-next-2 c =
     let found = c .before .before in
     let start = found .before .before .before .before in
-    omega (arith, inside (now (start .args .bytes)) (start .args .at) (sym (found .before .before .front-at .ensures) ∙ found .header .given .1))
+    omega (arith, within-trace (now (start .args .bytes)) (start .args .at) (found .header .given .0 .0) (sym (found .before .before .front-at .ensures) ∙ found .header .given .1))
 
 returns : tie.Need-returns
 unfolding recordOf

@@ -1,7 +1,7 @@
 -- `bus::registers::Registers::store` meets its contract: the image's first i bytes are stored, and the rest is as it was.
 -- Assumes nothing.
-use mathlib.Core.Path.{_≡_, _∙_, sym, refl, ap}
-use mathlib.Core.List.{List, [], _∷_, _++_, append-assoc}
+use mathlib.Core.Path.{_≡_, _∙_, sym, ap}
+use mathlib.Core.List.{List}
 use Prim.Native.Nat.{ℕ, _≤_, _<_, _+_, _-_}
 use native.Mathlib.Omega.{arith}
 use native.Mathlib.Numerals.{add-one}
@@ -9,9 +9,8 @@ use native.Mathlib.Nat.{zero-add}
 use borrow.Author.Needs.{needs}
 use borrow.Author.Tests.{lt-ltb, le-ltb}
 use denote.Ref.{now}
-use lib.ListN.{length, getD, take, drop, set, length-set}
+use lib.ListN.{length, getD, set}
 use lib.Seq.{paste, paste-zero, paste-suc, length-paste}
-use Rattle.bus.specs.Registers.{imageOf}
 use Rattle.bus.specs.Image.{stored}
 use Rattle.bus.proofs.registers.Registers.store.Statement.{statement}
 use Rattle.bus.proofs.registers.Registers.store.Tie as tie

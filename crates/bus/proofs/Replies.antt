@@ -1,8 +1,7 @@
--- Document 01, "Numbers given": a single event's call gives each number exactly when the table says so, with the byte and the dummy mark that it says.
+-- The reply that a call gives, with its number by the tests that lead to it; and that no event on a legal state meets 1 or 2.
 -- Assumes nothing.
 use mathlib.Core.Path.{_≡_, refl, sym, _∙_, ap, subst}
 use mathlib.Core.Bool.{Bool, true, false, cond, not, _&&_, _||_, or-true, false≢true}
-use mathlib.Core.Logic.{⊎-elim}
 use mathlib.Core.List.{List, [], _∷_}
 use Prim.Native.Nat.{ℕ, _/_, _≤_, _<_}
 use native.Mathlib.Decide.{decLt}
@@ -29,7 +28,8 @@ use Rattle.bus.specs.declared.answer.Answer.{Answer}
 use Rattle.bus.specs.declared.image.Asked.{Asked}
 use Rattle.bus.specs.declared.calls.Reply.{Reply}
 use Rattle.bus.proofs.Legal.{long}
-use Rattle.bus.proofs.Kept.{LegalRegisters, bound, state-facts}
+use Rattle.bus.specs.StaysLegal.{LegalRegisters}
+use Rattle.bus.proofs.Kept.{bound, state-facts}
 use Rattle.bus.proofs.Answers.{numberOfCommand, numberOfEvent, isRead, StandsFor, Silent, metBy, step-answers, step-silent}
 
 -- 2 is not asked at a single reset-pin event

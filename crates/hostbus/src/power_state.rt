@@ -1,6 +1,6 @@
 // The power state: awake, or in power save by its name.
 ghost use mathlib.Core.Path.{_≡_};
-ghost use Rattle.host.specs.PowerState.{heldPower, numberOfPower, powerStateOf};
+ghost use Rattle.hostbus.specs.PowerState.{heldPower, numberOfPower, powerStateOf};
 use bus::image::Asked;
 use bus::image::ask_state;
 use bus::registers::PowerState;

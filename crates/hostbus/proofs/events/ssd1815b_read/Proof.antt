@@ -1,10 +1,10 @@
--- `host::events::ssd1815b_read` meets its contract by that of the call below it.
+-- `hostbus::events::ssd1815b_read` meets its contract by that of the call below it.
 -- Assumes nothing.
 use borrow.Author.Needs.{needs}
-use Rattle.host.proofs.events.ssd1815b_read.Statement.{statement}
-use Rattle.host.proofs.events.ssd1815b_read.Tie as tie
+use Rattle.hostbus.proofs.events.ssd1815b_read.Statement.{statement}
+use Rattle.hostbus.proofs.events.ssd1815b_read.Tie as tie
 use mathlib.Core.Path.{ap, _∙_}
-use Rattle.host.specs.Events.{ofRead}
+use Rattle.hostbus.specs.Events.{ofRead}
 
 read-requires : tie.Need-read-requires
 read-requires c κs = search needs

@@ -1,10 +1,10 @@
--- `host::events::ssd1815b_write` meets its contract by that of the call below it.
+-- `hostbus::events::ssd1815b_write` meets its contract by that of the call below it.
 -- Assumes nothing.
 use borrow.Author.Needs.{needs}
-use Rattle.host.proofs.events.ssd1815b_write.Statement.{statement}
-use Rattle.host.proofs.events.ssd1815b_write.Tie as tie
+use Rattle.hostbus.proofs.events.ssd1815b_write.Statement.{statement}
+use Rattle.hostbus.proofs.events.ssd1815b_write.Tie as tie
 use mathlib.Core.Path.{ap}
-use Rattle.host.specs.Events.{ofBoth}
+use Rattle.hostbus.specs.Events.{ofBoth}
 
 write-requires : tie.Need-write-requires
 write-requires c κs = search needs

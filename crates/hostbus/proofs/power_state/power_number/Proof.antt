@@ -1,9 +1,9 @@
--- `host::power_state::power_number` meets its contract: each power state has the definition's number.
+-- `hostbus::power_state::power_number` meets its contract: each power state has the definition's number.
 -- Assumes nothing.
 use borrow.Author.Needs.{needs}
-use Rattle.host.proofs.power_state.power_number.Statement.{statement}
-use Rattle.host.proofs.power_state.power_number.Tie as tie
-use Rattle.host.specs.PowerState.{numberOfPower}
+use Rattle.hostbus.proofs.power_state.power_number.Statement.{statement}
+use Rattle.hostbus.proofs.power_state.power_number.Tie as tie
+use Rattle.hostbus.specs.PowerState.{numberOfPower}
 
 enum-told : tie.Need-enum-told
 enum-told c = search needs

@@ -1,9 +1,9 @@
--- `host::power_state::ssd1815b_power_state` meets its contract: what the state is found to be, by number.
+-- `hostbus::power_state::ssd1815b_power_state` meets its contract: what the state is found to be, by number.
 -- Assumes nothing.
 use borrow.Author.Needs.{needs}
-use Rattle.host.proofs.power_state.ssd1815b_power_state.Statement.{statement}
-use Rattle.host.proofs.power_state.ssd1815b_power_state.Tie as tie
-use Rattle.host.specs.PowerState.{ofAsked}
+use Rattle.hostbus.proofs.power_state.ssd1815b_power_state.Statement.{statement}
+use Rattle.hostbus.proofs.power_state.ssd1815b_power_state.Tie as tie
+use Rattle.hostbus.specs.PowerState.{ofAsked}
 
 ask-state-requires : tie.Need-ask-state-requires
 ask-state-requires c κs = search needs

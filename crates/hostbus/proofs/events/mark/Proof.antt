@@ -1,8 +1,8 @@
--- `host::events::mark` meets its contract: the test is the definition's.
+-- `hostbus::events::mark` meets its contract: the test is the definition's.
 -- Assumes nothing.
-use Rattle.host.proofs.events.mark.Statement.{statement}
-use Rattle.host.proofs.events.mark.Tie as tie
-use Rattle.host.specs.Events.{flag}
+use Rattle.hostbus.proofs.events.mark.Statement.{statement}
+use Rattle.hostbus.proofs.events.mark.Tie as tie
+use Rattle.hostbus.specs.Events.{flag}
 
 returns : tie.Need-returns
 unfolding flag

@@ -1,10 +1,10 @@
--- `host::events::ssd1815b_reset` meets its contract by that of the call below it.
+-- `hostbus::events::ssd1815b_reset` meets its contract by that of the call below it.
 -- Assumes nothing.
 use borrow.Author.Needs.{needs}
-use Rattle.host.proofs.events.ssd1815b_reset.Statement.{statement}
-use Rattle.host.proofs.events.ssd1815b_reset.Tie as tie
+use Rattle.hostbus.proofs.events.ssd1815b_reset.Statement.{statement}
+use Rattle.hostbus.proofs.events.ssd1815b_reset.Tie as tie
 use mathlib.Core.Path.{ap}
-use Rattle.host.specs.Events.{ofState}
+use Rattle.hostbus.specs.Events.{ofState}
 
 reset-pin-requires : tie.Need-reset-pin-requires
 reset-pin-requires c κs = search needs

@@ -2,7 +2,7 @@
 ghost use mathlib.Core.Path.{_≡_};
 ghost use Rattle.bus.specs.Chip.{commandByte, dataWritten, dataRead, resetPulse};
 ghost use Rattle.bus.specs.Calls.{call};
-ghost use Rattle.host.specs.Events.{flag, heldState, heldBoth, heldRead, ofState, ofBoth, ofRead};
+ghost use Rattle.hostbus.specs.Events.{flag, heldState, heldBoth, heldRead, ofState, ofBoth, ofRead};
 
 // A command byte.
 #[no_mangle]

@@ -1,10 +1,10 @@
--- `host::events::ssd1815b_command` meets its contract by that of the call below it.
+-- `hostbus::events::ssd1815b_command` meets its contract by that of the call below it.
 -- Assumes nothing.
 use borrow.Author.Needs.{needs}
-use Rattle.host.proofs.events.ssd1815b_command.Statement.{statement}
-use Rattle.host.proofs.events.ssd1815b_command.Tie as tie
+use Rattle.hostbus.proofs.events.ssd1815b_command.Statement.{statement}
+use Rattle.hostbus.proofs.events.ssd1815b_command.Tie as tie
 use mathlib.Core.Path.{ap}
-use Rattle.host.specs.Events.{ofState}
+use Rattle.hostbus.specs.Events.{ofState}
 
 command-requires : tie.Need-command-requires
 command-requires c κs = search needs

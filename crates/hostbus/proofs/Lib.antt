@@ -1,0 +1,2 @@
+-- What each exported call states has one result.
+pub mod Settled
