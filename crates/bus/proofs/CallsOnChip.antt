@@ -2,10 +2,10 @@
 -- Assumes nothing.
 use mathlib.Core.Path.{_≡_, refl, sym, _∙_, ap}
 use mathlib.Core.Bool.{false}
-use mathlib.Core.List.{List, [], _∷_, _++_, append-nil}
+use mathlib.Core.List.{List, [], _∷_, _++_}
 use Prim.Native.Nat.{ℕ, _≤_}
 use native.Mathlib.Omega.{arith}
-use lib.ListN.{length, drop, drop-of-length-le, length-replicate}
+use lib.ListN.{length, drop, length-append, length-replicate}
 use Rattle.constants.specs.Sizes.{imageSize, memorySize}
 use Rattle.bus.specs.Registers.{registersOf, powerOn}
 use Rattle.bus.specs.Events.{numberOf, byteOf, dummyOf, resetPin}
@@ -88,14 +88,16 @@ the-reset-pin : (state memory : List ℕ) → short state memory ≡ false → c
 unfolding call callOn askedBefore concluded stateAfter step resetPin
 the-reset-pin state memory e = rw e (ap (λ later. called (replyOf (resetPin powerOn)) later memory) (stored-long state (long state memory e .0) powerOn))
 
-from-the-start : (events : List Event) (state memory : List ℕ) → All IsByte events → short state memory ≡ false → length memory ≡ memorySize → afterCalls events (startOf state memory .state) (startOf state memory .memory) ≡ lent (imagedIn state (after events (chipOf registersAtStart memoryAtStart) .registers)) (after events (chipOf registersAtStart memoryAtStart) .memory)
+from-the-start : (events : List Event) (state memory : List ℕ) → All IsByte events → short state memory ≡ false → let chip = chipOf registersAtStart (memoryAtStart ++ drop memorySize memory) in
+    afterCalls events (startOf state memory .state) (startOf state memory .memory) ≡ lent (imagedIn state (after events chip .registers)) (after events chip .memory)
 unfolding startOf
-from-the-start events state memory b e size =
+from-the-start events state memory b e =
     let h = long state memory e .0 in
-    let zeros : memoryAtStart ++ drop memorySize memory ≡ memoryAtStart = ap (λ rest. memoryAtStart ++ rest) (drop-of-length-le memory {i = memorySize} (omega (arith, size))) ∙ append-nil memoryAtStart in
-    rw (e, zeros)
-    (calls-on-chip state h events powerOn memoryAtStart b power-on-legal (rw (length-replicate {A = ℕ} memorySize 0) (omega arith)) ∙
-    ap (λ later. lent later (after events (chipOf registersAtStart memoryAtStart) .memory)) (stored-long state h (after events (chipOf registersAtStart memoryAtStart) .registers)))
+    let zeros = memoryAtStart ++ drop memorySize memory in
+    let size : memorySize ≤ length zeros = rw (length-append memoryAtStart (drop memorySize memory), length-replicate {A = ℕ} memorySize 0) (omega arith) in
+    rw e
+    (calls-on-chip state h events powerOn zeros b power-on-legal size ∙
+    ap (λ later. lent later (after events (chipOf registersAtStart zeros) .memory)) (stored-long state h (after events (chipOf registersAtStart zeros) .registers)))
 
 pub callsOnChip : CallsOnChip
 unfolding replyOf numberOf byteOf dummyOf resetPin

@@ -1,7 +1,7 @@
 -- Document 01, "Numbers given": a single event's call gives each number exactly when the table says so, with the byte and the dummy mark that it says.
 -- Assumes nothing.
 use mathlib.Core.Path.{_≡_, refl, sym, _∙_, ap, subst}
-use mathlib.Core.Bool.{Bool, true, false, cond, not, _&&_, or-false, false≢true}
+use mathlib.Core.Bool.{Bool, true, false, cond, not, _&&_, or-false, true≢false, false≢true}
 use mathlib.Core.Logic.{_↔_, _⊎_, inl, inr, ⊎-elim, _≢_}
 use mathlib.Core.List.{List, [], _∷_}
 use Prim.Native.Nat.{ℕ, zero, suc, _≤_, _<_}
@@ -16,31 +16,17 @@ use Rattle.codes.proofs.Others.{theOthers}
 use Rattle.constants.specs.Sizes.{lastColumn}
 use Rattle.constants.specs.Numbers.{taken, tooShort, outOfRange, outsideTable, noPage, notAllowed, codeAwaited, columnAbove}
 use Rattle.bus.specs.Registers.{registersOf}
-use Rattle.bus.specs.Events.{numberOf}
-use Rattle.bus.specs.Chip.{Event, commandByte, dataWritten, dataRead, resetPulse, step}
+use Rattle.bus.specs.Chip.{Event, commandByte, dataWritten, dataRead, resetPulse}
 use Rattle.bus.specs.Image.{short, legal}
-use Rattle.bus.specs.Calls.{replyOf, concluded, refused, askedBefore, callOn, call}
+use Rattle.bus.specs.Calls.{refused, call}
 use Rattle.bus.specs.Bytes.{IsByte}
 use Rattle.bus.specs.StaysLegal.{Accepted}
-use Rattle.bus.specs.Given.{IsTaken, FirstByte, SecondByte, IsData, NotAllowed, numberFrom, Given}
+use Rattle.bus.specs.Given.{NothingAgainst, FirstByte, SecondByte, IsData, NotAllowed, numberFrom, Given}
 use Rattle.bus.specs.declared.registers.Registers.{Registers}
-use Rattle.bus.specs.declared.image.Asked.{Asked}
 use Rattle.bus.proofs.Legal.{long}
 use Rattle.bus.proofs.Kept.{state-facts}
-use Rattle.bus.proofs.Asking.{OneOrTwo, before-refusal}
-use Rattle.bus.proofs.Answers.{numberOfCommand, numberOfEvent, isRead, step-answers, was-taken}
+use Rattle.bus.proofs.Answers.{numberOfCommand, numberOfEvent, isRead}
 use Rattle.bus.proofs.Replies.{asksRanges, numberGiven, replyGiven, reply-given, number-given, isOther, namesNoPage, first-number, allows, second-number}
-
--- 0 is given exactly when the event is taken
-call-taken : (event : Event) (state memory : List ℕ) → call event state memory .reply .number ≡ taken ↔ IsTaken event state memory
-unfolding call callOn concluded refused replyOf numberOf
-call-taken event state memory = (λ e. on (askedBefore event state memory) refl e, λ t. rw (t .found, t .answer))
-  where
-    on : (asking : Asked) → askedBefore event state memory ≡ asking → callOn asking event state memory .reply .number ≡ taken → IsTaken event state memory
-    on (Asked.Found r) e n =
-        let t = was-taken _ (step event r memory .answer) (step-answers event r memory) n in
-        record { registers = r; after = t .after; found = e; answer = t .is }
-    on (Asked.Refused number) e n = absurd (omega (arith, n, subst OneOrTwo e (before-refusal event state memory) .0))
 
 -- an n that is not allowed fails its code's test, and one that fails it is not allowed
 not-allowed : (code n : ℕ) → allows code n ≡ false → NotAllowed code n
@@ -182,6 +168,84 @@ of-a-byte r (dataWritten b) h = (λ f. f, λ f. f)
 of-a-byte r dataRead h = (λ f. f, λ f. f)
 of-a-byte r resetPulse h = (λ f. f, λ f. f)
 
+-- an event that is a command byte is no pulse on the reset pin, nor is a data write or read
+first-no-pulse : (P : ℕ → Type 0) (r : Registers) (event : Event) → FirstByte P r event → event ≢ resetPulse
+first-no-pulse P r (commandByte b) f = asks (commandByte b) refl
+first-no-pulse P r (dataWritten b) f = absurd f
+first-no-pulse P r dataRead f = absurd f
+first-no-pulse P r resetPulse f = absurd f
+
+second-no-pulse : (r : Registers) (event : Event) → SecondByte NotAllowed r event → event ≢ resetPulse
+second-no-pulse r (commandByte b) f = asks (commandByte b) refl
+second-no-pulse r (dataWritten b) f = absurd f
+second-no-pulse r dataRead f = absurd f
+second-no-pulse r resetPulse f = absurd f
+
+data-no-pulse : (event : Event) → IsData event → event ≢ resetPulse
+data-no-pulse (commandByte b) d = absurd d
+data-no-pulse (dataWritten b) d = asks (dataWritten b) refl
+data-no-pulse dataRead d = asks dataRead refl
+data-no-pulse resetPulse d = absurd d
+
+-- 0 is given exactly when none of the lines 1 to 7 holds
+module _ (event : Event) (state memory : List ℕ) (h : IsByte event) where
+  from-facts : NothingAgainst event state memory → (n : ℕ) → Facts event state memory n → n ≡ taken
+  from-facts a zero f = refl
+  from-facts a (suc zero) f = absurd (true≢false (sym f ∙ a .longEnough))
+  from-facts a (suc (suc zero)) f = absurd (true≢false (sym (a .inRanges (f .1)) ∙ f .2))
+  from-facts a (suc (suc (suc zero))) f = absurd (a .inTheTable (of-a-byte (registersOf state) event h .0 (f .1)))
+  from-facts a (suc (suc (suc (suc zero)))) f = absurd (a .namesAPage (f .1))
+  from-facts a (suc (suc (suc (suc (suc zero))))) f = absurd (a .allowed (f .1))
+  from-facts a (suc (suc (suc (suc (suc (suc zero)))))) f = absurd (f .2 (a .noCode (f .1)))
+  from-facts a (suc (suc (suc (suc (suc (suc (suc zero))))))) f = absurd (omega (arith, f .3, a .onThePage (f .1)))
+  from-facts a (suc (suc (suc (suc (suc (suc (suc (suc n)))))))) f = absurd f
+
+  module _ (z : numberFrom event state memory ≡ taken) where
+    is-long : short state memory ≡ false
+    is-long = by (short state memory) refl
+      where
+        by : (s : Bool) → short state memory ≡ s → s ≡ false
+        by true e = absurd (omega (arith, z, exactly event state memory tooShort (one event state memory) .1 e))
+        by false e = refl
+
+    in-ranges : event ≢ resetPulse → legal state ≡ true
+    in-ranges n = by (legal state) refl
+      where
+        by : (l : Bool) → legal state ≡ l → l ≡ true
+        by true e = refl
+        by false e = absurd (omega (arith, z, exactly event state memory outOfRange (two event state memory) .1 (is-long, n, e)))
+
+    ok : event ≢ resetPulse → Accepted state memory
+    ok n = record { longEnough = is-long; inRanges = in-ranges n }
+
+    no-code : IsData event → registersOf state .awaited ≡ 0
+    no-code d = by (eqb (registersOf state .awaited) 0) refl
+      where
+        by : (t : Bool) → eqb (registersOf state .awaited) 0 ≡ t → registersOf state .awaited ≡ 0
+        by true e = eqb-true _ _ e
+        by false e = absurd (omega (arith, z, exactly event state memory codeAwaited (six event state memory) .1 (ok (data-no-pulse event d), d, eqb-false _ _ e)))
+
+    on-the-page : IsData event → registersOf state .column ≤ lastColumn
+    on-the-page d = by (leb (registersOf state .column) lastColumn) refl
+      where
+        by : (t : Bool) → leb (registersOf state .column) lastColumn ≡ t → registersOf state .column ≤ lastColumn
+        by true e = leb-true _ _ e
+        by false e = absurd (omega (arith, z, exactly event state memory columnAbove (seven event state memory) .1 (ok (data-no-pulse event d), d, no-code d, leb-false _ _ e)))
+
+    nothing-against : NothingAgainst event state memory
+    nothing-against = record {
+      longEnough = is-long;
+      inRanges = in-ranges;
+      inTheTable = λ f. omega (arith, z, exactly event state memory outsideTable (three event state memory) .1 (ok (first-no-pulse _ (registersOf state) event f), of-a-byte (registersOf state) event h .1 f));
+      namesAPage = λ f. omega (arith, z, exactly event state memory noPage (four event state memory) .1 (ok (first-no-pulse _ (registersOf state) event f), f));
+      allowed = λ f. omega (arith, z, exactly event state memory notAllowed (five event state memory) .1 (ok (second-no-pulse (registersOf state) event f), f));
+      noCode = no-code;
+      onThePage = on-the-page;
+    }
+
+  taken-exactly : numberFrom event state memory ≡ taken ↔ NothingAgainst event state memory
+  taken-exactly = (nothing-against, λ a. number-given event state memory ∙ from-facts a (numberGiven event state memory) (all-facts event state memory))
+
 bounded : (event : Event) (state memory : List ℕ) → (n : ℕ) → Facts event state memory n → n ≤ columnAbove
 bounded event state memory zero f = lit≤ tt
 bounded event state memory (suc zero) f = lit≤ tt
@@ -222,7 +286,7 @@ module _ (event : Event) (state memory : List ℕ) where
   given =
       let reply = reply-given event state memory in
       record {
-        number0 = call-taken event state memory;
+        number0 = taken-exactly event state memory;
         number1 = exactly event state memory tooShort (one event state memory);
         number2 = exactly event state memory outOfRange (two event state memory);
         number3 = λ h. let e = exactly event state memory outsideTable (three event state memory) in let swap = of-a-byte (registersOf state) event h in (λ n. let f = e .0 n in (f .0, swap .0 (f .1)), λ f. e .1 (f .0, swap .1 (f .1)));

@@ -16,6 +16,8 @@ pub mod Access
 pub mod Answers
 -- the two readings of a command byte
 pub mod Awaiting
+-- the registers that a taken event leaves: column, fresh, read-modify-write, E2
+pub mod Moves
 -- a taken event leaves legal registers, command by command
 pub mod Kept
 -- 3. Calls.
@@ -33,6 +35,8 @@ pub mod Given
 pub mod StaysLegal
 -- a call on lent images is the event on the chip
 pub mod CallsOnChip
+-- what the start gives and leaves
+pub mod TheStart
 -- 4. Stretches.
 -- what was recorded, replayed on the chip
 pub mod Replayed

@@ -104,8 +104,20 @@ module _ {S E : Type 0} (step : E → S → Result S) where
       by (refuses number) later h = absurd (omega arith)
       by (gives t) later h = later t (omega arith)
 
+  none : (s : S) → stretch step [] s ≡ stretched s 0 Numbers.taken
+  unfolding stretch
+  none s = refl
+
+  one-refused : (event : E) (s : S) (number : ℕ) → step event s ≡ refuses number → stretch step (event ∷ []) s ≡ stretched s 0 number
+  unfolding stretch
+  one-refused first s number e = rw e
+
+  one-taken : (event : E) (s t : S) → step event s ≡ gives t → stretch step (event ∷ []) s ≡ stretched t 1 Numbers.taken
+  unfolding stretch
+  one-taken first s t e = rw e
+
   pub stretches : Stretches step
-  stretches = record { within = within; goes-on = goes-on; stops = stops; all-taken = λ never events s. (zero-all never events s, all-zero events s) }
+  stretches = record { none = none; one-refused = one-refused; one-taken = one-taken; within = within; goes-on = goes-on; stops = stops; all-taken = λ never events s. (zero-all never events s, all-zero events s) }
 
 -- What is recorded of the bus is refused with no 0.
 answered : (number : ℕ) (answer : Answer) (memory : List ℕ) → StandsFor number answer → (refusal : ℕ) → happened answer memory ≡ refuses refusal → refusal ≢ Numbers.taken

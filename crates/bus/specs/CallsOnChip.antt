@@ -3,7 +3,7 @@ use Prim.Native.Nat.{ℕ}
 use mathlib.Core.Path.{_≡_}
 use mathlib.Core.Bool.{false}
 use mathlib.Core.List.{List, [], _∷_, _++_}
-use lib.ListN.{length, drop}
+use lib.ListN.{drop}
 use Rattle.constants.specs.Sizes.{imageSize, memorySize}
 use Rattle.constants.specs.Numbers.{taken}
 use Rattle.bus.specs.Registers.{imageOf, registersOf, powerOn}
@@ -46,5 +46,6 @@ pub record CallsOnChip : Type 0 where
   pub callByCall : (events : List Event) (state memory : List ℕ) → All IsByte events → Accepted state memory → afterCalls events state memory ≡ lent (imagedIn state (after events (chipIn state memory) .registers)) (after events (chipIn state memory) .memory)
   -- And the next call answers as the chip after those events does.
   pub theNext : (events : List Event) (event : Event) (state memory : List ℕ) → All IsByte events → Accepted state memory → call event (afterCalls events state memory .state) (afterCalls events state memory .memory) .reply ≡ replyOf (step event (after events (chipIn state memory) .registers) (after events (chipIn state memory) .memory) .answer)
-  -- From the start, on a memory of 1,188 bytes, they are those of the chip at power-on with zero memory, of which the samples speak.
-  pub fromTheStart : (events : List Event) (state memory : List ℕ) → All IsByte events → short state memory ≡ false → length memory ≡ memorySize → afterCalls events (startOf state memory .state) (startOf state memory .memory) ≡ lent (imagedIn state (after events (chipOf registersAtStart memoryAtStart) .registers)) (after events (chipOf registersAtStart memoryAtStart) .memory)
+  -- From the start they are those of the chip at power-on with zero memory, of which the samples speak, the bytes past 1,188 as they were lent.
+  pub fromTheStart : (events : List Event) (state memory : List ℕ) → All IsByte events → short state memory ≡ false → let chip = chipOf registersAtStart (memoryAtStart ++ drop memorySize memory) in
+      afterCalls events (startOf state memory .state) (startOf state memory .memory) ≡ lent (imagedIn state (after events chip .registers)) (after events chip .memory)

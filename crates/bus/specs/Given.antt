@@ -11,22 +11,12 @@ use Rattle.constants.specs.Sizes.{lastColumn}
 use Rattle.constants.specs.Numbers.{taken, tooShort, outOfRange, outsideTable, noPage, notAllowed, codeAwaited, columnAbove}
 use Rattle.bus.specs.Registers.{registersOf}
 use Rattle.bus.specs.Memory.{address, kept}
-use Rattle.bus.specs.Chip.{Event, commandByte, dataWritten, dataRead, resetPulse, step}
+use Rattle.bus.specs.Chip.{Event, commandByte, dataWritten, dataRead, resetPulse}
 use Rattle.bus.specs.Image.{short, legal}
-use Rattle.bus.specs.Calls.{askedBefore, call}
+use Rattle.bus.specs.Calls.{call}
 use Rattle.bus.specs.Bytes.{IsByte}
 use Rattle.bus.specs.StaysLegal.{Accepted}
 use Rattle.bus.specs.declared.registers.Registers.{Registers}
-use Rattle.bus.specs.declared.answer.After.{After}
-use Rattle.bus.specs.declared.answer.Answer.{Answer}
-use Rattle.bus.specs.declared.image.Asked.{Asked}
-
--- An event is taken: what is asked before it finds registers, and its step from them is taken.
-pub record IsTaken (event : Event) (state memory : List ℕ) : Type 0 where
-  pub registers : Registers
-  pub after : After
-  pub found : askedBefore event state memory ≡ Asked.Found registers
-  pub answer : step event registers memory .answer ≡ Answer.Taken after
 
 -- A command byte with no code awaited, of which this holds.
 abbrev pub FirstByte : (ℕ → Type 0) → Registers → Event → Type 0
@@ -53,13 +43,23 @@ IsData resetPulse = ⊥
 abbrev pub NotAllowed : ℕ → ℕ → Type 0
 NotAllowed code n = ((code ≡ 0xD3) × (0x3F < n)) ⊎ ((code ≡ 0xD4) × (oneOf (0x00 ∷ 0x10 ∷ 0x20 ∷ 0x30 ∷ []) n ≡ false))
 
+-- Nothing speaks against an event: none of the lines 1 to 7 holds.
+pub record NothingAgainst (event : Event) (state memory : List ℕ) : Type 0 where
+  pub longEnough : short state memory ≡ false
+  pub inRanges : event ≢ resetPulse → legal state ≡ true
+  pub inTheTable : FirstByte (λ b. among others b ≡ true) (registersOf state) event → ⊥
+  pub namesAPage : FirstByte (λ b. (0xB9 ≤ b) × (b ≤ 0xBF)) (registersOf state) event → ⊥
+  pub allowed : SecondByte NotAllowed (registersOf state) event → ⊥
+  pub noCode : IsData event → registersOf state .awaited ≡ 0
+  pub onThePage : IsData event → registersOf state .column ≤ lastColumn
+
 -- The number that the call of an event gives.
 abbrev pub numberFrom : Event → List ℕ → List ℕ → ℕ
 numberFrom event state memory = call event state memory .reply .number
 
 pub record Given (event : Event) (state memory : List ℕ) : Type 0 where
   -- 0: taken.
-  pub number0 : numberFrom event state memory ≡ taken ↔ IsTaken event state memory
+  pub number0 : IsByte event → numberFrom event state memory ≡ taken ↔ NothingAgainst event state memory
   -- 1: a lent state or memory is too short.
   pub number1 : numberFrom event state memory ≡ tooShort ↔ short state memory ≡ true
   -- 2: the state image is out of its ranges (not asked at a single reset-pin event), where 1 does not go first.

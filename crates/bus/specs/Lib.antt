@@ -30,6 +30,8 @@ pub mod ThereAndBack
 pub mod TablesAgree
 -- the two readings of a command byte
 pub mod Awaiting
+-- the registers that a taken event leaves: column, fresh, read-modify-write, E2
+pub mod Moves
 -- what is legal stays legal
 pub mod StaysLegal
 -- each number exactly when, with its byte and dummy mark
@@ -38,6 +40,8 @@ pub mod Given
 pub mod Untouched
 -- a call on lent images is the event on the chip
 pub mod CallsOnChip
+-- what the start gives and leaves
+pub mod TheStart
 -- a stretch event by event
 pub mod Stretches
 -- one result for each statement

@@ -16,6 +16,8 @@ pub mod AllRows
 pub mod AllLit
 -- what the call and its frame come to; demand 1 for drawing
 pub mod Drawing
+-- the rules of the frame, for any number of rows in use
+pub mod FrameRules
 -- one outcome for each public call
 pub mod Settled
 -- what drawing does not ask

@@ -8,6 +8,8 @@ pub mod Frame
 pub mod Draw
 -- what the call and its frame come to; demand 1 for drawing
 pub mod Drawing
+-- the rules of the frame, for any number of rows in use
+pub mod FrameRules
 -- one outcome for each public call
 pub mod Settled
 -- what drawing does not ask

@@ -22,7 +22,7 @@ use Rattle.trace.proofs.ChipKinds.{unknown-stops}
 use Rattle.trace.proofs.RunStops.{Standing, standing, ran-there, ran-on, RunStop, notAsked, nowhere, whereCut, atItsKind, atItsByte, run-stop}
 use Rattle.trace.proofs.GivenAsked.{one, two, one-leaves, two-leaves}
 use Rattle.trace.proofs.GivenZero.{zero-given, zero-leaves}
-use Rattle.trace.proofs.GivenEvent.{is-differing, of-event, event-leaves, is-event}
+use Rattle.trace.proofs.GivenEvent.{is-differing, differs-there, of-event, event-leaves, is-event}
 
 module _ (state memory trace : List ℕ) where
   -- a run that stops where a header should stand leaves what the records before it left
@@ -76,6 +76,7 @@ numbers-given state memory trace =
       event = λ bytes number offset n. (λ e. subst (EventRefused state memory trace number) (e .1) (is-event-as bytes number n (e .0)), λ h. rw (event-leaves state memory trace bytes number offset h) (refl, refl));
       eventLeaves = event-leaves state memory trace;
       ten = is-differing state memory trace;
+      tenMet = differs-there state memory trace;
       eight = λ offset. (λ e. subst (HeaderCut state memory trace) (e .1) (is-cut state memory trace (run-stop state memory trace) (e .0)), λ h. rw (eight-leaves state memory trace offset h) (refl, refl));
       eightLeaves = eight-leaves state memory trace;
       nine = λ offset. (λ e. subst (KindUnknown state memory trace) (e .1) (is-unknown state memory trace (run-stop state memory trace) (e .0)), λ h. rw (nine-leaves state memory trace offset h) (refl, refl));

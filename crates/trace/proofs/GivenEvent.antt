@@ -6,7 +6,7 @@ use mathlib.Core.Bool.{Bool, true, false, cond, not, _&&_, _||_, false≢true}
 use mathlib.Core.List.{List, [], _++_, map, append-nil}
 use Prim.Native.Nat.{ℕ, _+_, _-_, _≤_}
 use native.Mathlib.Omega.{arith}
-use borrow.Author.Tests.{eqb-true, eqb-false}
+use borrow.Author.Tests.{eqb-true, eqb-false, ne-eqb}
 use lib.Dec.{eqb}
 use lib.ListN.{length, getD, take, drop}
 use lib.Seq.{slice}
@@ -28,7 +28,7 @@ use Rattle.trace.specs.Play.{refuses, Ending, stopped, done, played, onE
 use Rattle.trace.specs.Kinds.{Recorded, readAs, command, write, replay, chipOf, theChip}
 use Rattle.trace.specs.ByCalls.{calledBy, meets}
 use Rattle.trace.specs.Run.{Ran, ran, stopOf, ranOf, run}
-use Rattle.trace.specs.Given.{recordedBy, ranBefore, replyThere, EventRefused, ReadDiffers, eventNumbers}
+use Rattle.trace.specs.Given.{recordedBy, ranBefore, replyThere, metThere, EventRefused, ReadDiffers, eventNumbers}
 use Rattle.trace.specs.AnyMachine.{Gives, further}
 use Rattle.trace.proofs.PlayedFurther.{plays-stop, endingFurther, events-further, is-done}
 use Rattle.trace.proofs.PlayedJoined.{Stops, events-stop, joined}
@@ -207,3 +207,11 @@ pub is-differing : (state memory trace : List ℕ) (offset : ℕ) (h : EventRefu
 is-differing state memory trace offset h =
     let d = meets-ten (kindOf (drop (h .place) trace)) (getD trace offset 0) (replyThere state memory trace (h .place) offset) (h .kindFrom) (h .kindTo) (call-most _ _ _) (h .met) in
     record { reads = d .reads; happens = d .happens; compared = d .compared; differs = d .differs }
+
+-- and such a read meets 10
+meets-differing : (kind byte : ℕ) (reply : Reply) → kind ≡ 3 → reply .number ≡ taken → reply .dummy ≡ false → reply .byte ≢ byte → meets (recordedBy kind byte) reply ≡ readDiffers
+meets-differing kind byte reply k n d b = rw (k, n, d, ne-eqb (reply .byte) byte b)
+
+pub differs-there : (state memory trace : List ℕ) (place offset : ℕ) → ReadDiffers state memory trace place offset → metThere state memory trace place offset ≡ readDiffers
+differs-there state memory trace place offset d =
+    meets-differing (kindOf (drop place trace)) (getD trace offset 0) (replyThere state memory trace place offset) (d .reads) (d .happens) (d .compared) (d .differs)

@@ -38,6 +38,8 @@ pub mod RunOnLent
 pub mod RunByCalls
 -- proves specs/RunLaws
 pub mod RunLaws
+-- a run of one record: proves specs/OneRecord
+pub mod OneRecord
 -- how it stops
 pub mod RunStops
 -- 1 and 2 exactly when

@@ -133,8 +133,9 @@ pub record NumbersGiven (state memory trace : List ℕ) : Type 0 where
   pub event : Bytes trace → (number offset : ℕ) → oneOf eventNumbers number ≡ true → GivesAt (run state memory trace) number offset ↔ EventRefused state memory trace number offset
   pub eventLeaves : Bytes trace → (number offset : ℕ) (h : EventRefused state memory trace number offset) → run state memory trace ≡
       ran (stopOf number offset (run state memory (take (h .place) trace) .stop .count)) (ranBefore state memory trace (h .place) offset .state) (ranBefore state memory trace (h .place) offset .memory)
-  -- 10: a compared read differs.
+  -- 10: a compared read differs; and wherever one does, it is what the event meets.
   pub ten : (offset : ℕ) (h : EventRefused state memory trace readDiffers offset) → ReadDiffers state memory trace (h .place) offset
+  pub tenMet : (place offset : ℕ) → ReadDiffers state memory trace place offset → metThere state memory trace place offset ≡ readDiffers
   -- 8: one to three bytes left where a header should stand, or payload past the end, at the record's first byte. What the records before it left stands.
   pub eight : (offset : ℕ) → GivesAt (run state memory trace) headerCut offset ↔ HeaderCut state memory trace offset
   pub eightLeaves : (offset : ℕ) → HeaderCut state memory trace offset → run state memory trace ≡ stoppedAfter headerCut offset (run state memory (take offset trace))

@@ -28,6 +28,8 @@ pub mod ByCalls
 pub mod Given
 -- what a run does as a whole
 pub mod RunLaws
+-- a run of one record, by its kind
+pub mod OneRecord
 -- runs from power-on, computed
 pub mod Samples
 -- one result for each public call

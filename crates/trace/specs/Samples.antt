@@ -1,7 +1,7 @@
 -- Runs from power-on with zero memory, and what each must answer. proofs/Samples.antt proves `RunSamples` by computing.
 use Prim.Native.Nat.{ℕ}
 use mathlib.Core.Path.{_≡_}
-use mathlib.Core.List.{List, [], _∷_, map}
+use mathlib.Core.List.{List, [], _∷_, _++_, map}
 use lib.ListN.{take, replicate, set}
 use Rattle.constants.specs.Sizes.{memorySize}
 use Rattle.bus.specs.Registers.{powerOn, imageOf, _with_≔_}
@@ -25,6 +25,10 @@ middle = 0x03 ∷ 0x00 ∷ 0x01 ∷ 0x00 ∷ 0xAF ∷ 0xB9 ∷ 0xAE ∷ []
 -- a dummy read that the firmware read as FF, then a read of 0 that it read as 1
 abbrev pub differs : List ℕ
 differs = 0x02 ∷ 0x00 ∷ 0x03 ∷ 0x00 ∷ 0xFF ∷ 0x01 ∷ []
+
+-- display on, data 03 and 01, then the reset pin
+abbrev pub resets : List ℕ
+resets = own ++ 0x00 ∷ 0x00 ∷ 0x04 ∷ 0x00 ∷ []
 
 -- A trace and what it must answer.
 pub record Sample : Type 0 where
@@ -76,9 +80,10 @@ samples =
 pub record RunSamples : Type 0 where
   -- Number, offset and count of each sample.
   pub answers : map (λ s. fromStart (s .trace) .stop) samples ≡ map (λ s. stopOf (s .number) (s .offset) (s .count)) samples
-  -- The whole outcome of three: earlier effects stand, and a read that differs has not happened.
-  pub outcomes : map fromStart (own ∷ middle ∷ differs ∷ []) ≡
+  -- The whole outcome of four: earlier effects stand, a read that differs has not happened, and the reset pin gives power-on and leaves the memory.
+  pub outcomes : map fromStart (own ∷ middle ∷ differs ∷ resets ∷ []) ≡
       ran (stopOf 0 11 2) (imageOf (powerOn with on ≔ 1 with column ≔ 2)) (set (set zeros 0 0x03) 1 0x01) ∷
       ran (stopOf 4 5 0) (imageOf (powerOn with on ≔ 1)) zeros ∷
       ran (stopOf 10 5 0) (imageOf (powerOn with fresh ≔ 0)) zeros ∷
+      ran (stopOf 0 15 3) (imageOf powerOn) (set (set zeros 0 0x03) 1 0x01) ∷
       []

@@ -2,6 +2,8 @@
 pub mod ListedByCalls
 -- The frame that is listed is the one of the registers and memory that the run leaves.
 pub mod FinalFrame
+-- Which inputs are listed.
+pub mod InputLength
 -- Document 01's own trace prints what it says.
 pub mod Sample
 -- What a listing leaves in a lent buffer.

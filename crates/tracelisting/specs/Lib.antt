@@ -1,5 +1,7 @@
 -- from a trace to the text that is printed for it
 pub mod TraceListing
+-- which inputs are listed
+pub mod InputLength
 -- what is listed is what the run leaves on the glass
 pub mod FinalFrame
 -- document 01's own trace, and what it prints whole

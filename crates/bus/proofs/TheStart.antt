@@ -1,0 +1,45 @@
+-- What the start gives and leaves.
+-- Assumes nothing.
+use mathlib.Core.Path.{_≡_, refl, _∙_}
+use mathlib.Core.Bool.{Bool, true, false, cond, true≢false, false≢true}
+use mathlib.Core.Logic.{_↔_}
+use mathlib.Core.List.{List, _++_}
+use Prim.Native.Nat.{ℕ, _<_}
+use native.Mathlib.Omega.{arith}
+use lib.ListN.{length, getD, drop, replicate, length-replicate, List·getD-append, getD-replicate}
+use lib.Seq.{drop-at}
+use Rattle.constants.specs.Sizes.{imageSize, memorySize}
+use Rattle.constants.specs.Numbers.{taken, tooShort}
+use Rattle.bus.specs.Registers.{registersOf}
+use Rattle.bus.specs.Image.{short, stored}
+use Rattle.bus.specs.Start.{registersAtStart, memoryAtStart, Started, started, startOf}
+use Rattle.bus.specs.TheStart.{TheStart}
+use Rattle.bus.proofs.Legal.{long}
+use Rattle.bus.proofs.Stored.{stored-long, stored-past}
+
+module _ (state memory : List ℕ) where
+  abbrev by : Bool → Started
+  by s = cond s (started tooShort state memory) (started taken (stored registersAtStart state) (memoryAtStart ++ drop memorySize memory))
+
+  zero-when : (s : Bool) → by s .number ≡ taken ↔ s ≡ false
+  zero-when true = (λ e. absurd (omega arith), λ e. absurd (true≢false e))
+  zero-when false = (λ e. refl, λ e. refl)
+
+  one-when : (s : Bool) → by s .number ≡ tooShort ↔ s ≡ true
+  one-when true = (λ e. refl, λ e. refl)
+  one-when false = (λ e. absurd (omega arith), λ e. absurd (false≢true e))
+
+  past : (s : Bool) → short state memory ≡ s → (drop imageSize (by s .state) ≡ drop imageSize state) × (drop memorySize (by s .memory) ≡ drop memorySize memory)
+  past true e = (refl, refl)
+  past false e = (stored-past state (long state memory e .0) registersAtStart, drop-at memoryAtStart (drop memorySize memory) memorySize (length-replicate {A = ℕ} memorySize 0))
+
+  pub theStart : TheStart state memory
+  unfolding startOf
+  theStart = record {
+    number0 = zero-when (short state memory);
+    number1 = one-when (short state memory);
+    refused = λ e. rw e (refl, refl);
+    registers = λ e. rw (e, stored-long state (long state memory e .0) registersAtStart) refl;
+    zeros = λ e place l. rw e (List·getD-append memoryAtStart (drop memorySize memory) 0 place (rw (length-replicate {A = ℕ} memorySize 0) l) ∙ getD-replicate memorySize place 0 0 l);
+    past = past (short state memory) refl;
+  }

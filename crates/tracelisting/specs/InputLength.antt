@@ -1,0 +1,17 @@
+-- Document 01, the listing program: "reads a trace of at most 65,536 bytes ...; longer input prints only `input too long`".
+use Prim.Native.Nat.{ℕ, _≤_, _<_}
+use mathlib.Core.Path.{_≡_}
+use mathlib.Core.List.{List}
+use lib.ListN.{length}
+use Rattle.framelisting.specs.Ascii.{ascii}
+use Rattle.tracelisting.specs.TraceListing.{listingOfTrace, textFor}
+
+pub record InputLength (input : List ℕ) : Type 0 where
+  -- at most 65,536 bytes are listed
+  pub listed : length input ≤ 65536 → textFor input ≡ listingOfTrace input
+  -- more print one line
+  pub tooLong : 65536 < length input → textFor input ≡ ascii "input too long\n"
+
+-- For each input.
+abbrev pub OfInputLength : Type 0
+OfInputLength = (input : List ℕ) → InputLength input
