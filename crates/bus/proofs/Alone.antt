@@ -8,7 +8,7 @@ use native.Mathlib.Omega.{arith}
 use Rattle.constants.specs.Numbers.{taken}
 use Rattle.bus.specs.Chip.{Chip, commandByte, step}
 use Rattle.bus.specs.Events as events
-use Rattle.bus.specs.Recorded.{command, chipOf, happened, replay}
+use Rattle.bus.specs.Recorded.{recordedCommand, chipOf, happened, replay}
 use Rattle.bus.specs.Stretch.{Stretched, stretched, stretch, stretchOf}
 use Rattle.bus.specs.declared.registers.Registers.{Registers}
 use Rattle.bus.specs.declared.answer.Answer.{Answer}
@@ -20,11 +20,11 @@ abbrev aloneOf : Answer → Registers → List ℕ → Stretched Chip
 aloneOf (Answer.Taken after) r memory = stretched (chipOf (after .registers) memory) 1 taken
 aloneOf (Answer.Refused number) r memory = stretched (chipOf r memory) 0 number
 
-one-byte : (b : ℕ) (r : Registers) (memory : List ℕ) → stretch replay (command b ∷ []) (chipOf r memory) ≡ aloneOf (events.command b r) r memory
+one-byte : (b : ℕ) (r : Registers) (memory : List ℕ) → stretch replay (recordedCommand b ∷ []) (chipOf r memory) ≡ aloneOf (events.command b r) r memory
 unfolding stretch replay happened step
 one-byte b r memory = by (events.command b r) refl
   where
-    by : (answer : Answer) → events.command b r ≡ answer → stretch replay (command b ∷ []) (chipOf r memory) ≡ aloneOf answer r memory
+    by : (answer : Answer) → events.command b r ≡ answer → stretch replay (recordedCommand b ∷ []) (chipOf r memory) ≡ aloneOf answer r memory
     by (Answer.Taken after) e = rw e
     by (Answer.Refused number) e = rw e
 
@@ -36,7 +36,7 @@ uncounted : (answer : Answer) (r : Registers) (s : Stretch) → stretchOf s [] �
 uncounted (Answer.Taken after) r s e none = absurd (none (ap (λ p. p .number) e))
 uncounted (Answer.Refused number) r s e none = rw (ap (λ p. p .number) e)
 
-module _ (b : ℕ) (r : Registers) (s : Stretch) (h : (memory : List ℕ) → stretchOf s memory ≡ stretch replay (command b ∷ []) (chipOf r memory)) where
+module _ (b : ℕ) (r : Registers) (s : Stretch) (h : (memory : List ℕ) → stretchOf s memory ≡ stretch replay (recordedCommand b ∷ []) (chipOf r memory)) where
   comes-to : stretchOf s [] ≡ aloneOf (events.command b r) r []
   comes-to = h [] ∙ one-byte b r []
 

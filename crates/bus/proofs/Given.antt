@@ -20,7 +20,7 @@ use Rattle.bus.specs.Chip.{Event, commandByte, dataWritten, dataRead, re
 use Rattle.bus.specs.Image.{short, legal}
 use Rattle.bus.specs.Calls.{refused, call}
 use Rattle.bus.specs.Bytes.{IsByte}
-use Rattle.bus.specs.StaysLegal.{Accepted}
+use Rattle.bus.specs.Image.{Accepted}
 use Rattle.bus.specs.Given.{NothingAgainst, FirstByte, SecondByte, IsData, NotAllowed, numberFrom, Given}
 use Rattle.bus.specs.declared.registers.Registers.{Registers}
 use Rattle.bus.proofs.Legal.{long}

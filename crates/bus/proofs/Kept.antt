@@ -17,7 +17,7 @@ use Rattle.codes.proofs.Tests.{both, chosen, one-of-at-most}
 use Rattle.codes.proofs.InRange.{meaning-in-range}
 use Rattle.constants.specs.Sizes.{imageSize}
 use Rattle.constants.specs.Numbers.{taken}
-use Rattle.bus.specs.Places.{page, column, start, offset, multiplex, contrast, ratio, power, bias, quarter, held, phases, columnDirection, rowDirection, entire, reverse, on, indicator, mode, awaited, modify, saved, fresh}
+use Rattle.bus.specs.Places.{page, column, startLine, offset, multiplex, contrast, ratio, power, bias, quarter, held, phases, columnDirection, rowDirection, entire, reverse, on, indicator, mode, awaited, modify, saved, fresh}
 use Rattle.bus.specs.Registers.{largestValues, imageOf, registersOf, _with_≔_, powerOn}
 use Rattle.bus.specs.Memory.{onward}
 use Rattle.bus.specs.Events.{commandTaken, enter, leave, softwareReset, obeyed, command, access, moved, write, read, resetPin}
@@ -157,7 +157,7 @@ within-sets (change ∷ changes) image e h =
 
 abbrev resets : Sets
 resets =
-    (page, 0) ∷ (column, 0) ∷ (start, 0) ∷ (rowDirection, 0) ∷ (ratio, 4) ∷ (contrast, 32) ∷ (indicator, 0) ∷ (mode, 0) ∷ (modify, 0) ∷ (saved, 0) ∷ []
+    (page, 0) ∷ (column, 0) ∷ (startLine, 0) ∷ (rowDirection, 0) ∷ (ratio, 4) ∷ (contrast, 32) ∷ (indicator, 0) ∷ (mode, 0) ∷ (modify, 0) ∷ (saved, 0) ∷ []
 
 software-reset-keeps : (r : Registers) → LegalRegisters r → LegalRegisters (softwareReset r)
 unfolding largestValues
@@ -169,7 +169,7 @@ obeyed-keeps (Command.ColumnLow low) r h l = fresh-keeps _ (set-plain r column _
 obeyed-keeps (Command.ColumnHigh high) r h l = fresh-keeps _ (set-plain r column _ l (omega arith) refl refl refl)
 obeyed-keeps (Command.ResistorRatio value) r h l = fresh-keeps _ (set-plain r ratio value l (omega arith) refl refl refl)
 obeyed-keeps (Command.PowerControl value) r h l = fresh-keeps _ (set-plain r power value l (omega arith) refl refl refl)
-obeyed-keeps (Command.StartLine value) r h l = fresh-keeps _ (set-plain r start value l (omega arith) refl refl refl)
+obeyed-keeps (Command.StartLine value) r h l = fresh-keeps _ (set-plain r startLine value l (omega arith) refl refl refl)
 obeyed-keeps (Command.Contrast value) r h l = fresh-keeps _ (set-plain r contrast value l (omega arith) refl refl refl)
 obeyed-keeps (Command.ColumnDirection value) r h l = fresh-keeps _ (set-plain r columnDirection value l (omega arith) refl refl refl)
 obeyed-keeps (Command.Bias value) r h l = fresh-keeps _ (set-plain r bias value l (omega arith) refl refl refl)

@@ -41,7 +41,7 @@ pub mod TheStart
 -- what was recorded, replayed on the chip
 pub mod Replayed
 -- one event more, how many are taken, two stretches in a row
-pub mod Stretches
+pub mod StretchLaws
 -- a command byte by itself is a stretch of one
 pub mod Alone
 -- 5. One result for each statement.

@@ -28,7 +28,7 @@ two-equations a b first second p q = rw (p .0 ∙ sym (q .0), p .1 ∙ sym (q .1
 -- a stretch with the memory that it leaves, and one that touches no memory
 with-memory : (stated : Stretched Chip) → Settles (λ (o : Stretch × List ℕ). stretchOf (o .0) (o .1) ≡ stated)
 with-memory stated first second p q =
-    ap (λ (s : Stretched Chip). (record { registers = s .state .registers; taken = s .taken; number = s .number }, s .state .memory)) (p ∙ sym q)
+    ap (λ (s : Stretched Chip). (record { registers = s .state .registers; count = s .count; number = s .number }, s .state .memory)) (p ∙ sym q)
 
 by-itself : (memory : List ℕ) (stated : Stretched Chip) → Settles (λ (r : Stretch). stretchOf r memory ≡ stated)
 by-itself memory stated first second p q = ap (λ (o : Stretch × List ℕ). o .0) (with-memory stated (first, memory) (second, memory) p q)

@@ -10,11 +10,11 @@ use Rattle.constants.specs.Sizes.{imageSize, memorySize}
 use Rattle.bus.specs.Registers.{registersOf, powerOn}
 use Rattle.bus.specs.Events.{resetPin}
 use Rattle.bus.specs.Chip.{Event, resetPulse, step}
-use Rattle.bus.specs.Image.{short, stored}
+use Rattle.bus.specs.Image.{short, stored, Accepted}
 use Rattle.bus.specs.Start.{memoryAtStart, startOf}
 use Rattle.bus.specs.Calls.{stateAfter, concluded, askedBefore, callOn, call}
 use Rattle.bus.specs.Bytes.{IsByte}
-use Rattle.bus.specs.StaysLegal.{LegalRegisters, Keeps, Accepted, StaysLegal}
+use Rattle.bus.specs.StaysLegal.{LegalRegisters, Keeps, StaysLegal}
 use Rattle.bus.specs.declared.registers.Registers.{Registers}
 use Rattle.bus.specs.declared.answer.Answer.{Answer}
 use Rattle.bus.proofs.Legal.{long}

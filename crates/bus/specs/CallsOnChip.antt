@@ -7,13 +7,13 @@ use lib.ListN.{drop}
 use Rattle.constants.specs.Sizes.{imageSize, memorySize}
 use Rattle.constants.specs.Numbers.{taken}
 use Rattle.bus.specs.Registers.{imageOf, registersOf, powerOn}
-use Rattle.bus.specs.Chip.{Chip, Event, resetPulse, step, chipAfter, after}
+use Rattle.bus.specs.Chip.{Chip, Event, resetPulse, step, chipAfter, afterEvents}
 use Rattle.bus.specs.Recorded.{chipOf}
 use Rattle.bus.specs.Image.{short}
 use Rattle.bus.specs.Start.{registersAtStart, memoryAtStart, startOf}
 use Rattle.bus.specs.Calls.{called, replyOf, call}
 use Rattle.bus.specs.Bytes.{All, IsByte}
-use Rattle.bus.specs.StaysLegal.{Accepted}
+use Rattle.bus.specs.Image.{Accepted}
 use Rattle.bus.specs.declared.registers.Registers.{Registers}
 
 -- The chip that a lent state and memory hold.
@@ -43,9 +43,9 @@ pub record CallsOnChip : Type 0 where
   -- The reset pin leaves the image of power-on, whatever the image was.
   pub theResetPin : (state memory : List ℕ) → short state memory ≡ false → call resetPulse state memory ≡ called (record { number = taken; byte = 0; dummy = false }) (imagedIn state powerOn) memory
   -- Calls one after another leave the image and the memory of the chip after their events.
-  pub callByCall : (events : List Event) (state memory : List ℕ) → All IsByte events → Accepted state memory → afterCalls events state memory ≡ lent (imagedIn state (after events (chipIn state memory) .registers)) (after events (chipIn state memory) .memory)
+  pub callByCall : (events : List Event) (state memory : List ℕ) → All IsByte events → Accepted state memory → afterCalls events state memory ≡ lent (imagedIn state (afterEvents events (chipIn state memory) .registers)) (afterEvents events (chipIn state memory) .memory)
   -- And the next call answers as the chip after those events does.
-  pub theNext : (events : List Event) (event : Event) (state memory : List ℕ) → All IsByte events → Accepted state memory → call event (afterCalls events state memory .state) (afterCalls events state memory .memory) .reply ≡ replyOf (step event (after events (chipIn state memory) .registers) (after events (chipIn state memory) .memory) .answer)
+  pub theNext : (events : List Event) (event : Event) (state memory : List ℕ) → All IsByte events → Accepted state memory → call event (afterCalls events state memory .state) (afterCalls events state memory .memory) .reply ≡ replyOf (step event (afterEvents events (chipIn state memory) .registers) (afterEvents events (chipIn state memory) .memory) .answer)
   -- From the start they are those of the chip at power-on with zero memory, of which the samples speak, the bytes past 1,188 as they were lent.
   pub fromTheStart : (events : List Event) (state memory : List ℕ) → All IsByte events → short state memory ≡ false → let chip = chipOf registersAtStart (memoryAtStart ++ drop memorySize memory) in
-      afterCalls events (startOf state memory .state) (startOf state memory .memory) ≡ lent (imagedIn state (after events chip .registers)) (after events chip .memory)
+      afterCalls events (startOf state memory .state) (startOf state memory .memory) ≡ lent (imagedIn state (afterEvents events chip .registers)) (afterEvents events chip .memory)

@@ -47,6 +47,6 @@ chipAfter event chip =
     }
 
 -- The chip after events, one by one.
-unfoldable pub after : List Event → Chip → Chip
-after [] chip = chip
-after (event ∷ events) chip = after events (chipAfter event chip)
+unfoldable pub afterEvents : List Event → Chip → Chip
+afterEvents [] chip = chip
+afterEvents (event ∷ events) chip = afterEvents events (chipAfter event chip)

@@ -8,7 +8,7 @@ use Rattle.codes.specs.Table.{meaningOf}
 use Rattle.codes.specs.declared.Command.{Command}
 use Rattle.constants.specs.Sizes.{lastColumn, pages, memorySize}
 use Rattle.constants.specs.Numbers.{taken, tooShort, outOfRange, outsideTable, noPage, notAllowed, codeAwaited, columnAbove}
-use Rattle.bus.specs.Places.{page, column, start, offset, multiplex, contrast, ratio, power, bias, quarter, held, phases, columnDirection, rowDirection, entire, reverse, on, indicator, mode, awaited, modify, saved, fresh}
+use Rattle.bus.specs.Places.{page, column, startLine, offset, multiplex, contrast, ratio, power, bias, quarter, held, phases, columnDirection, rowDirection, entire, reverse, on, indicator, mode, awaited, modify, saved, fresh}
 use Rattle.bus.specs.Registers.{_with_≔_, powerOn}
 use Rattle.bus.specs.Memory.{address, kept, onward}
 use Rattle.bus.specs.declared.registers.Registers.{Registers}
@@ -38,7 +38,7 @@ commandTaken r = silently (r with fresh ≔ 1)
 -- E2 sets these; the rest stays.
 abbrev pub softwareReset : Registers → Registers
 softwareReset r =
-    r with page ≔ 0 with column ≔ 0 with start ≔ 0 with rowDirection ≔ 0 with ratio ≔ 4 with contrast ≔ 32 with indicator ≔ 0 with mode ≔ 0 with modify ≔ 0 with saved ≔ 0
+    r with page ≔ 0 with column ≔ 0 with startLine ≔ 0 with rowDirection ≔ 0 with ratio ≔ 4 with contrast ≔ 32 with indicator ≔ 0 with mode ≔ 0 with modify ≔ 0 with saved ≔ 0
 
 -- E0 enters read-modify-write, saving the column; no effect if already in it.
 abbrev pub enter : Registers → Registers
@@ -54,7 +54,7 @@ obeyed (Command.ColumnLow low) r = commandTaken (r with column ≔ r .column / 1
 obeyed (Command.ColumnHigh high) r = commandTaken (r with column ≔ high * 16 + r .column % 16)
 obeyed (Command.ResistorRatio value) r = commandTaken (r with ratio ≔ value)
 obeyed (Command.PowerControl value) r = commandTaken (r with power ≔ value)
-obeyed (Command.StartLine value) r = commandTaken (r with start ≔ value)
+obeyed (Command.StartLine value) r = commandTaken (r with startLine ≔ value)
 obeyed (Command.Contrast value) r = commandTaken (r with contrast ≔ value)
 obeyed (Command.ColumnDirection value) r = commandTaken (r with columnDirection ≔ value)
 obeyed (Command.Bias value) r = commandTaken (r with bias ≔ value)

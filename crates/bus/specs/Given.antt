@@ -15,7 +15,7 @@ use Rattle.bus.specs.Chip.{Event, commandByte, dataWritten, dataRead, re
 use Rattle.bus.specs.Image.{short, legal}
 use Rattle.bus.specs.Calls.{call}
 use Rattle.bus.specs.Bytes.{IsByte}
-use Rattle.bus.specs.StaysLegal.{Accepted}
+use Rattle.bus.specs.Image.{Accepted}
 use Rattle.bus.specs.declared.registers.Registers.{Registers}
 
 -- A command byte with no code awaited, of which this holds.

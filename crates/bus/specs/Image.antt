@@ -1,5 +1,6 @@
 -- The state as hosts lend it: an image of 23 bytes, its legal ranges, and refusals 1 and 2.
 use Prim.Native.Nat.{ℕ}
+use mathlib.Core.Path.{_≡_}
 use mathlib.Core.Bool.{Bool, true, false, cond, _&&_, _||_}
 use mathlib.Core.List.{List, [], _∷_, _++_}
 use lib.Dec.{leb, ltb, eqb}
@@ -44,3 +45,8 @@ asked state memory = cond (short state memory) (Asked.Refused tooShort) (cond (l
 -- A lent state with the image of the registers in its first 23 bytes; one that is too short stays as it is.
 unfoldable pub stored : Registers → List ℕ → List ℕ
 stored r state = cond (ltb (length state) imageSize) state (imageOf r ++ drop imageSize state)
+
+-- A lent state and memory that 1 and 2 do not refuse: long enough, and the image in its ranges.
+pub record Accepted (state memory : List ℕ) : Type 0 where
+  pub longEnough : short state memory ≡ false
+  pub inRanges : legal state ≡ true

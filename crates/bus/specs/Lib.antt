@@ -43,6 +43,6 @@ pub mod CallsOnChip
 -- what the start gives and leaves
 pub mod TheStart
 -- a stretch event by event
-pub mod Stretches
+pub mod StretchLaws
 -- one result for each statement
 pub mod Settled

@@ -7,9 +7,8 @@ page = 0
 abbrev pub column : ℕ
 column = 1
 
--- start line
-abbrev pub start : ℕ
-start = 2
+abbrev pub startLine : ℕ
+startLine = 2
 
 abbrev pub offset : ℕ
 offset = 3

@@ -14,11 +14,11 @@ pub data Recorded : Type 0 where
   event : Event → Recorded
   readAs : ℕ → Recorded
 
-abbrev pub command : ℕ → Recorded
-command byte = event (commandByte byte)
+abbrev pub recordedCommand : ℕ → Recorded
+recordedCommand byte = event (commandByte byte)
 
-abbrev pub write : ℕ → Recorded
-write byte = event (dataWritten byte)
+abbrev pub recordedWrite : ℕ → Recorded
+recordedWrite byte = event (dataWritten byte)
 
 abbrev pub chipOf : Registers → List ℕ → Chip
 chipOf r left = record { registers = r; memory = left }

@@ -4,7 +4,7 @@ use mathlib.Core.Bool.{cond, _&&_}
 use mathlib.Core.List.{List, [], _∷_, map}
 use lib.Dec.{eqb}
 use lib.ListN.{getD, set}
-use Rattle.bus.specs.Places.{page, column, start, offset, multiplex, contrast, ratio, power, bias, quarter, held, phases, columnDirection, rowDirection, entire, reverse, on, indicator, mode, awaited, modify, saved, fresh}
+use Rattle.bus.specs.Places.{page, column, startLine, offset, multiplex, contrast, ratio, power, bias, quarter, held, phases, columnDirection, rowDirection, entire, reverse, on, indicator, mode, awaited, modify, saved, fresh}
 use Rattle.bus.specs.declared.registers.Registers.{Registers}
 use Rattle.bus.specs.declared.registers.PowerState.{PowerState}
 
@@ -42,7 +42,7 @@ registersOf image =
     record {
       page = getD image page 0;
       column = getD image column 0;
-      start = getD image start 0;
+      start = getD image startLine 0;
       offset = getD image offset 0;
       multiplex = getD image multiplex 0;
       contrast = getD image contrast 0;
@@ -84,7 +84,7 @@ unfoldable pub ranges : List Range
 ranges =
     range page 8 0 ∷
     range column 255 0 ∷
-    range start 63 0 ∷
+    range startLine 63 0 ∷
     range offset 63 0 ∷
     range multiplex 63 63 ∷
     range contrast 63 32 ∷

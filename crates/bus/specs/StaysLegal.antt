@@ -7,7 +7,7 @@ use mathlib.Core.Logic.{_↔_}
 use Rattle.codes.specs.OneOf.{oneOf}
 use Rattle.bus.specs.Registers.{largestValues, imageOf, powerOn}
 use Rattle.bus.specs.Chip.{Event, resetPulse, step, Leaves}
-use Rattle.bus.specs.Image.{within, awaitedCodes, short, legal}
+use Rattle.bus.specs.Image.{within, awaitedCodes, short, legal, Accepted}
 use Rattle.bus.specs.Start.{startOf}
 use Rattle.bus.specs.Calls.{call}
 use Rattle.bus.specs.Bytes.{IsByte}
@@ -23,11 +23,6 @@ pub record LegalRegisters (r : Registers) : Type 0 where
 -- A taken event leaves legal registers.
 abbrev pub Keeps : Answer → Type 0
 Keeps = Leaves LegalRegisters
-
--- A lent state and memory that 1 and 2 do not refuse: long enough, and the image in its ranges.
-pub record Accepted (state memory : List ℕ) : Type 0 where
-  pub longEnough : short state memory ≡ false
-  pub inRanges : legal state ≡ true
 
 pub record StaysLegal : Type 0 where
   -- Legal registers are those whose image is in its ranges.

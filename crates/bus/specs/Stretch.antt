@@ -11,25 +11,25 @@ use Rattle.bus.specs.declared.stretch.Stretch.{Stretch}
 -- What a stretch comes to: the state reached, how many events were taken, and the number that stopped it, 0 where all were taken.
 pub record Stretched (S : Type 0) : Type 0 where
   pub state : S
-  pub taken : ℕ
+  pub count : ℕ
   pub number : ℕ
 
 abbrev pub stretched : {S : Type 0} → S → ℕ → ℕ → Stretched S
-stretched s count stop = record { state = s; taken = count; number = stop }
+stretched s count stop = record { state = s; count = count; number = stop }
 
 -- With so many taken before it.
-abbrev pub after : {S : Type 0} → ℕ → Stretched S → Stretched S
-after before rest = stretched (rest .state) (before + rest .taken) (rest .number)
+abbrev pub countedOn : {S : Type 0} → ℕ → Stretched S → Stretched S
+countedOn before rest = stretched (rest .state) (before + rest .count) (rest .number)
 
 -- A refused event has not happened.
 unfoldable pub stretch : {S E : Type 0} → (E → S → Result S) → List E → S → Stretched S
 stretch step [] s = stretched s 0 Numbers.taken
-stretch step (event ∷ rest) s = onResult (step event s) (λ number. stretched s 0 number) (λ t. after 1 (stretch step rest t))
+stretch step (event ∷ rest) s = onResult (step event s) (λ number. stretched s 0 number) (λ t. countedOn 1 (stretch step rest t))
 
 -- The code's, with the memory that is left beside it.
 abbrev pub stretchOf : Stretch → List ℕ → Stretched Chip
-stretchOf s memory = stretched (chipOf (s .registers) memory) (s .taken) (s .number)
+stretchOf s memory = stretched (chipOf (s .registers) memory) (s .count) (s .number)
 
 -- The code's, stopped with a number after so many.
 abbrev pub haltedAt : ℕ → ℕ → Registers → Stretch
-haltedAt stop count r = record { registers = r; taken = count; number = stop }
+haltedAt stop count r = record { registers = r; count = count; number = stop }

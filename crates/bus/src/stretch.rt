@@ -6,7 +6,7 @@ ghost use Prim.Native.Nat.{ℕ};
 ghost use lib.Dec.{eqb};
 ghost use Rattle.bus.specs.Events.{numberOf};
 ghost use Rattle.bus.specs.Chip.{resetPulse};
-ghost use Rattle.bus.specs.Recorded.{event, command, write, readAs, chipOf, replay};
+ghost use Rattle.bus.specs.Recorded.{event, recordedCommand, recordedWrite, readAs, chipOf, replay};
 ghost use Rattle.bus.specs.Stretch.{stretch, stretchOf, haltedAt};
 use crate::answer::After;
 use crate::answer::Answer;
@@ -14,16 +14,16 @@ use crate::registers::Registers;
 use constants::refusal::READ_DIFFERS;
 use constants::refusal::TAKEN;
 
-// What a stretch comes to: the registers, how many events were taken, and the number that stopped it, 0 where all were taken.
+// What a stretch comes to: the registers, the count of events taken, and the number that stopped it, 0 where all were taken.
 pub struct Stretch {
     pub registers: Registers,
-    pub taken: usize,
+    pub count: usize,
     pub number: u8,
 }
 
 // Command bytes. The library calls `Registers::command` here and nowhere else: the compiler then puts it into this loop (DECISIONS 58).
 pub fn commands(mut registers: Registers, bytes: &[u8]) -> Stretch
-    ensures { λ r. ⌜ ((memory : List ℕ) → stretchOf r memory ≡ stretch replay (map command (now (bytes .entry))) (chipOf registers memory)) ⌝ }
+    ensures { λ r. ⌜ ((memory : List ℕ) → stretchOf r memory ≡ stretch replay (map recordedCommand (now (bytes .entry))) (chipOf registers memory)) ⌝ }
 {
     let mut at = 0;
     while at < bytes.len() {
@@ -36,14 +36,14 @@ pub fn commands(mut registers: Registers, bytes: &[u8]) -> Stretch
     }
     Stretch {
         registers,
-        taken: at,
+        count: at,
         number: TAKEN,
     }
 }
 
 // Data bytes written.
 pub fn writes(mut registers: Registers, memory: &mut [u8], bytes: &[u8]) -> Stretch
-    ensures { λ r. ⌜ stretchOf r (now (memory .exit)) ≡ stretch replay (map write (now (bytes .entry))) (chipOf registers (now (memory .entry))) ⌝ }
+    ensures { λ r. ⌜ stretchOf r (now (memory .exit)) ≡ stretch replay (map recordedWrite (now (bytes .entry))) (chipOf registers (now (memory .entry))) ⌝ }
 {
     let mut at = 0;
     while at < bytes.len() {
@@ -56,7 +56,7 @@ pub fn writes(mut registers: Registers, memory: &mut [u8], bytes: &[u8]) -> Stre
     }
     Stretch {
         registers,
-        taken: at,
+        count: at,
         number: TAKEN,
     }
 }
@@ -81,7 +81,7 @@ pub fn reads(mut registers: Registers, memory: &[u8], bytes: &[u8]) -> Stretch
     }
     Stretch {
         registers,
-        taken: at,
+        count: at,
         number: TAKEN,
     }
 }
@@ -93,7 +93,7 @@ pub fn reset_pin(registers: Registers) -> Stretch
     let registers = Registers::power_on();
     Stretch {
         registers,
-        taken: 1,
+        count: 1,
         number: TAKEN,
     }
 }
@@ -110,22 +110,22 @@ fn agrees(after: After, byte: u8) -> bool
 }
 
 // Stopped by a refused event: its number is the answer's; `let .. else` has taken what was taken.
-fn stopped(answer: Answer, taken: usize, registers: Registers) -> Stretch
-    ensures { λ r. ⌜ r ≡ haltedAt (numberOf answer) taken registers ⌝ }
+fn stopped(answer: Answer, count: usize, registers: Registers) -> Stretch
+    ensures { λ r. ⌜ r ≡ haltedAt (numberOf answer) count registers ⌝ }
 {
     match answer {
-        Answer::Taken(_) => halted(TAKEN, taken, registers),
-        Answer::Refused(number) => halted(number, taken, registers),
+        Answer::Taken(_) => halted(TAKEN, count, registers),
+        Answer::Refused(number) => halted(number, count, registers),
     }
 }
 
 // Stopped with a number after so many; the registers stand.
-fn halted(number: u8, taken: usize, registers: Registers) -> Stretch
-    ensures { λ r. ⌜ r ≡ haltedAt number taken registers ⌝ }
+fn halted(number: u8, count: usize, registers: Registers) -> Stretch
+    ensures { λ r. ⌜ r ≡ haltedAt number count registers ⌝ }
 {
     Stretch {
         registers,
-        taken,
+        count,
         number,
     }
 }

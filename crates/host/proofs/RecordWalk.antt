@@ -13,7 +13,7 @@ use Rattle.trace.specs.Front.{frontOf}
 use Rattle.trace.specs.declared.records.Front.{Front}
 use Rattle.trace.proofs.WhatStands.{at-end, the-record}
 use Rattle.trace.proofs.SplitLaws.{rest, rest-nothing, rest-cut, rest-whole}
-use Rattle.host.specs.Record.{HeldRecord, recordOf}
+use Rattle.host.specs.Record.{RecordReply, recordOf}
 use Rattle.host.specs.RecordWalk.{givenAt, Walk, nothing, cutShort, onward, RecordWalk}
 
 module _ (bytes : List ℕ) (at : ℕ) where
@@ -50,7 +50,7 @@ walk-end : (bytes : List ℕ) (at : ℕ) → frontOf (drop at bytes) ≡ Front.N
 unfolding recordOf
 walk-end bytes at h =
     let e : givenAt bytes at ≡ recordOf Front.Nothing at = ap (λ front. recordOf front at) h in
-    subst (Walk bytes at) (sym (rest-nothing bytes at h)) (nothing (ap (λ (r : HeldRecord). r .number) e) (ap (λ (r : HeldRecord). r .next) e))
+    subst (Walk bytes at) (sym (rest-nothing bytes at h)) (nothing (ap (λ (r : RecordReply). r .number) e) (ap (λ (r : RecordReply). r .next) e))
 
 -- and before it, by the bytes that are left, no more than so many
 walk-on : (bytes : List ℕ) (at : ℕ) (front : Front) → frontOf (drop at bytes) ≡ front → ((next : ℕ) → at < next → Walk bytes next (rest bytes next)) → Walk bytes at (rest bytes at)
@@ -58,11 +58,11 @@ unfolding recordOf
 walk-on bytes at Front.Nothing h later = walk-end bytes at h
 walk-on bytes at Front.Cut h later =
     let e : givenAt bytes at ≡ recordOf Front.Cut at = ap (λ front. recordOf front at) h in
-    subst (Walk bytes at) (sym (rest-cut bytes at h)) (cutShort (ap (λ (r : HeldRecord). r .number) e))
+    subst (Walk bytes at) (sym (rest-cut bytes at h)) (cutShort (ap (λ (r : RecordReply). r .number) e))
 walk-on bytes at (Front.Whole header) h later =
     let e : givenAt bytes at ≡ recordOf (Front.Whole header) at = ap (λ front. recordOf front at) h in
-    let number = ap (λ (r : HeldRecord). r .number) e in
-    let next : givenAt bytes at .next ≡ at + headerSize + header .length = ap (λ (r : HeldRecord). r .next) e in
+    let number = ap (λ (r : RecordReply). r .number) e in
+    let next : givenAt bytes at .next ≡ at + headerSize + header .length = ap (λ (r : RecordReply). r .next) e in
     let other : givenAt bytes at .next ≡ at → ⊥ = λ s. omega (arith, s, next) in
     subst (Walk bytes at) (at-record bytes at _ refl number other _ refl) (onward number other (later (givenAt bytes at .next) (omega (arith, next))))
 

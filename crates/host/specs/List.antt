@@ -5,18 +5,18 @@ use Rattle.constants.specs.Numbers.{taken}
 use Rattle.framelisting.specs.Listing.{Outcome}
 use Rattle.framelisting.specs.declared.Listed.{Listed}
 
-pub record HeldText : Type 0 where
+pub record ListReply : Type 0 where
   pub number : ℕ
   pub size : ℕ
   pub text : List ℕ
 
-abbrev pub heldText : ℕ → ℕ → List ℕ → HeldText
-heldText answer long later = record { number = answer; size = long; text = later }
+abbrev pub listReply : ℕ → ℕ → List ℕ → ListReply
+listReply answer long later = record { number = answer; size = long; text = later }
 
 -- The number and the length that each answer stands for; a refusal has length 0.
-unfoldable pub ofAnswer : Listed → List ℕ → HeldText
-ofAnswer (Listed.Written long) later = heldText taken long later
-ofAnswer (Listed.Refused number) later = heldText number 0 later
+unfoldable pub ofAnswer : Listed → List ℕ → ListReply
+ofAnswer (Listed.Written long) later = listReply taken long later
+ofAnswer (Listed.Refused number) later = listReply number 0 later
 
-abbrev pub ofListed : Outcome → HeldText
+abbrev pub ofListed : Outcome → ListReply
 ofListed outcome = ofAnswer (outcome .answer) (outcome .text)

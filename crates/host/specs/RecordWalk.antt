@@ -10,10 +10,10 @@ use Rattle.constants.specs.Numbers.{taken, headerCut}
 use Rattle.constants.specs.Sizes.{headerSize}
 use Rattle.trace.specs.Records.{Trace, ended, cut, _then_, split}
 use Rattle.trace.specs.Front.{frontOf}
-use Rattle.host.specs.Record.{HeldRecord, recordOf}
+use Rattle.host.specs.Record.{RecordReply, recordOf}
 
 -- What the call gives at an offset.
-abbrev pub givenAt : List ℕ → ℕ → HeldRecord
+abbrev pub givenAt : List ℕ → ℕ → RecordReply
 givenAt bytes at = recordOf (frontOf (drop at bytes)) at
 
 -- A walk from an offset, and the records that it visits.

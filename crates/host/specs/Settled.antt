@@ -8,15 +8,15 @@ use Rattle.trace.specs.Front.{frontOf}
 use Rattle.trace.specs.Run.{ran, stopOf, run}
 use Rattle.picture.specs.Draw.{drawn, draw}
 use Rattle.framelisting.specs.Listing.{listed}
-use Rattle.host.specs.Record.{heldRecord, recordOf}
-use Rattle.host.specs.List.{heldText, ofListed}
+use Rattle.host.specs.Record.{recordReply, recordOf}
+use Rattle.host.specs.List.{listReply, ofListed}
 
 pub record Settled : Type 0 where
   -- number, kind, offset after the record
-  pub «ssd1815b_record» : (bytes : List ℕ) (at : ℕ) → Settles (λ (o : ℕ × ℕ × ℕ). heldRecord (o .0) (o .1) (o .2) ≡ recordOf (frontOf (drop at bytes)) at)
+  pub «ssd1815b_record» : (bytes : List ℕ) (at : ℕ) → Settles (λ (o : ℕ × ℕ × ℕ). recordReply (o .0) (o .1) (o .2) ≡ recordOf (frontOf (drop at bytes)) at)
   -- number, offset, count, state, memory
   pub «ssd1815b_run» : (state memory bytes : List ℕ) → Settles (λ (o : ℕ × ℕ × ℕ × List ℕ × List ℕ). ran (stopOf (o .0) (o .1) (o .2)) (o .3) (o .4) ≡ run state memory bytes)
   -- number, frame
   pub «ssd1815b_draw» : (state memory frame : List ℕ) → Settles (λ (o : ℕ × List ℕ). drawn (o .0) (o .1) ≡ draw state memory frame)
   -- number, length, text
-  pub «ssd1815b_list» : (number offset : ℕ) (frame text : List ℕ) → Settles (λ (o : ℕ × ℕ × List ℕ). heldText (o .0) (o .1) (o .2) ≡ ofListed (listed number offset frame text))
+  pub «ssd1815b_list» : (number offset : ℕ) (frame text : List ℕ) → Settles (λ (o : ℕ × ℕ × List ℕ). listReply (o .0) (o .1) (o .2) ≡ ofListed (listed number offset frame text))

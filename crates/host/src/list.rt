@@ -1,7 +1,7 @@
 // A frame listed as text.
 ghost use mathlib.Core.Path.{_≡_};
 ghost use Rattle.framelisting.specs.Listing.{listed};
-ghost use Rattle.host.specs.List.{heldText, ofListed};
+ghost use Rattle.host.specs.List.{listReply, ofListed};
 use constants::refusal::TAKEN;
 use framelisting::Listed;
 
@@ -14,7 +14,7 @@ pub extern "C" fn ssd1815b_list(
     text: &mut [u8],
     length: &mut usize,
 ) -> u8
-    ensures { λ r. ⌜ heldText r (now (length .exit)) (now (text .exit)) ≡ ofListed (listed number offset (now (frame .entry)) (now (text .entry))) ⌝ }
+    ensures { λ r. ⌜ listReply r (now (length .exit)) (now (text .exit)) ≡ ofListed (listed number offset (now (frame .entry)) (now (text .entry))) ⌝ }
 {
     match framelisting::list(number, offset, frame, text) {
         Listed::Written(written) => {

@@ -10,37 +10,37 @@ flag true = 1
 flag false = 0
 
 -- The number and the state.
-pub record HeldState : Type 0 where
+pub record StateReply : Type 0 where
   pub number : ℕ
   pub state : List ℕ
 
-abbrev pub heldState : ℕ → List ℕ → HeldState
-heldState answer later = record { number = answer; state = later }
+abbrev pub stateReply : ℕ → List ℕ → StateReply
+stateReply answer later = record { number = answer; state = later }
 
-abbrev pub ofState : Called → HeldState
-ofState outcome = heldState (outcome .reply .number) (outcome .state)
+abbrev pub ofState : Called → StateReply
+ofState outcome = stateReply (outcome .reply .number) (outcome .state)
 
 -- The number, the state and the memory.
-pub record HeldBoth : Type 0 where
+pub record WriteReply : Type 0 where
   pub number : ℕ
   pub state : List ℕ
   pub memory : List ℕ
 
-abbrev pub heldBoth : ℕ → List ℕ → List ℕ → HeldBoth
-heldBoth answer later left = record { number = answer; state = later; memory = left }
+abbrev pub writeReply : ℕ → List ℕ → List ℕ → WriteReply
+writeReply answer later left = record { number = answer; state = later; memory = left }
 
-abbrev pub ofBoth : Called → HeldBoth
-ofBoth outcome = heldBoth (outcome .reply .number) (outcome .state) (outcome .memory)
+abbrev pub ofBoth : Called → WriteReply
+ofBoth outcome = writeReply (outcome .reply .number) (outcome .state) (outcome .memory)
 
 -- The number, the byte, the dummy mark and the state.
-pub record HeldRead : Type 0 where
+pub record ReadReply : Type 0 where
   pub number : ℕ
   pub byte : ℕ
   pub dummy : ℕ
   pub state : List ℕ
 
-abbrev pub heldRead : ℕ → ℕ → ℕ → List ℕ → HeldRead
-heldRead answer read mark later = record { number = answer; byte = read; dummy = mark; state = later }
+abbrev pub readReply : ℕ → ℕ → ℕ → List ℕ → ReadReply
+readReply answer read mark later = record { number = answer; byte = read; dummy = mark; state = later }
 
-abbrev pub ofRead : Called → HeldRead
-ofRead outcome = heldRead (outcome .reply .number) (outcome .reply .byte) (flag (outcome .reply .dummy)) (outcome .state)
+abbrev pub ofRead : Called → ReadReply
+ofRead outcome = readReply (outcome .reply .number) (outcome .reply .byte) (flag (outcome .reply .dummy)) (outcome .state)

@@ -14,18 +14,18 @@ numberOfPower PowerState.Sleep = 1
 numberOfPower PowerState.Standby = 2
 
 -- The number and the power state.
-pub record HeldPower : Type 0 where
+pub record PowerReply : Type 0 where
   pub number : ℕ
   pub power : ℕ
 
-abbrev pub heldPower : ℕ → ℕ → HeldPower
-heldPower answer state = record { number = answer; power = state }
+abbrev pub powerReply : ℕ → ℕ → PowerReply
+powerReply answer state = record { number = answer; power = state }
 
 -- What a state that was asked is held to be; 0 stands beside a refusal.
-unfoldable pub ofAsked : Asked → HeldPower
-ofAsked (Asked.Found r) = heldPower taken (numberOfPower (powerState r))
-ofAsked (Asked.Refused number) = heldPower number 0
+unfoldable pub ofAsked : Asked → PowerReply
+ofAsked (Asked.Found r) = powerReply taken (numberOfPower (powerState r))
+ofAsked (Asked.Refused number) = powerReply number 0
 
 -- The power state of a lent state.
-abbrev pub powerStateOf : List ℕ → HeldPower
+abbrev pub powerStateOf : List ℕ → PowerReply
 powerStateOf state = ofAsked (askedState state)

@@ -2,12 +2,12 @@
 ghost use mathlib.Core.Path.{_≡_};
 ghost use Rattle.bus.specs.Chip.{commandByte, dataWritten, dataRead, resetPulse};
 ghost use Rattle.bus.specs.Calls.{call};
-ghost use Rattle.hostbus.specs.Events.{flag, heldState, heldBoth, heldRead, ofState, ofBoth, ofRead};
+ghost use Rattle.hostbus.specs.Events.{flag, stateReply, writeReply, readReply, ofState, ofBoth, ofRead};
 
 // A command byte.
 #[no_mangle]
 pub extern "C" fn ssd1815b_command(state: &mut [u8], memory: &[u8], byte: u8) -> u8
-    ensures { λ r. ⌜ heldState r (now (state .exit)) ≡ ofState (call (commandByte byte) (now (state .entry)) (now (memory .entry))) ⌝ }
+    ensures { λ r. ⌜ stateReply r (now (state .exit)) ≡ ofState (call (commandByte byte) (now (state .entry)) (now (memory .entry))) ⌝ }
 {
     let reply = bus::calls::command(state, memory, byte);
     reply.number
@@ -16,7 +16,7 @@ pub extern "C" fn ssd1815b_command(state: &mut [u8], memory: &[u8], byte: u8) ->
 // A data byte written.
 #[no_mangle]
 pub extern "C" fn ssd1815b_write(state: &mut [u8], memory: &mut [u8], byte: u8) -> u8
-    ensures { λ r. ⌜ heldBoth r (now (state .exit)) (now (memory .exit)) ≡ ofBoth (call (dataWritten byte) (now (state .entry)) (now (memory .entry))) ⌝ }
+    ensures { λ r. ⌜ writeReply r (now (state .exit)) (now (memory .exit)) ≡ ofBoth (call (dataWritten byte) (now (state .entry)) (now (memory .entry))) ⌝ }
 {
     let reply = bus::calls::write(state, memory, byte);
     reply.number
@@ -30,7 +30,7 @@ pub extern "C" fn ssd1815b_read(
     byte: &mut u8,
     dummy: &mut u8,
 ) -> u8
-    ensures { λ r. ⌜ heldRead r (now (byte .exit)) (now (dummy .exit)) (now (state .exit)) ≡ ofRead (call dataRead (now (state .entry)) (now (memory .entry))) ⌝ }
+    ensures { λ r. ⌜ readReply r (now (byte .exit)) (now (dummy .exit)) (now (state .exit)) ≡ ofRead (call dataRead (now (state .entry)) (now (memory .entry))) ⌝ }
 {
     let reply = bus::calls::read(state, memory);
     *byte = reply.byte;
@@ -41,7 +41,7 @@ pub extern "C" fn ssd1815b_read(
 // A pulse on the reset pin.
 #[no_mangle]
 pub extern "C" fn ssd1815b_reset(state: &mut [u8], memory: &[u8]) -> u8
-    ensures { λ r. ⌜ heldState r (now (state .exit)) ≡ ofState (call resetPulse (now (state .entry)) (now (memory .entry))) ⌝ }
+    ensures { λ r. ⌜ stateReply r (now (state .exit)) ≡ ofState (call resetPulse (now (state .entry)) (now (memory .entry))) ⌝ }
 {
     let reply = bus::calls::reset_pin(state, memory);
     reply.number

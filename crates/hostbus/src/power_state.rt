@@ -1,6 +1,6 @@
 // The power state: awake, or in power save by its name.
 ghost use mathlib.Core.Path.{_≡_};
-ghost use Rattle.hostbus.specs.PowerState.{heldPower, numberOfPower, powerStateOf};
+ghost use Rattle.hostbus.specs.PowerState.{powerReply, numberOfPower, powerStateOf};
 use bus::image::Asked;
 use bus::image::ask_state;
 use bus::registers::PowerState;
@@ -16,7 +16,7 @@ const STANDBY: u8 = 2;
 // The power state of the registers goes to where the host wants it, awake where the state is refused.
 #[no_mangle]
 pub extern "C" fn ssd1815b_power_state(state: &[u8], power: &mut u8) -> u8
-    ensures { λ r. ⌜ heldPower r (now (power .exit)) ≡ powerStateOf (now (state .entry)) ⌝ }
+    ensures { λ r. ⌜ powerReply r (now (power .exit)) ≡ powerStateOf (now (state .entry)) ⌝ }
 {
     match ask_state(state) {
         Asked::Found(registers) => {

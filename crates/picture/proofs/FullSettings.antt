@@ -37,7 +37,7 @@ unfolding largestValues
 bounds r full =
     let held = bound r (legal-facts r (full .inRange)) in
     record {
-      start = omega (arith, held Places.start (omega arith));
+      start = omega (arith, held Places.startLine (omega arith));
       offset = omega (arith, held Places.offset (omega arith));
       columns = omega (arith, held Places.columnDirection (omega arith));
       rows = omega (arith, held Places.rowDirection (omega arith));

@@ -7,7 +7,7 @@ use native.Mathlib.Omega.{arith}
 use native.Mathlib.Decide.{decLt}
 use lib.ListN.{getD, set}
 use Rattle.constants.specs.Sizes.{width, height, frameRows}
-use Rattle.bus.specs.Places.{start, offset, multiplex, columnDirection, rowDirection, entire, reverse, on}
+use Rattle.bus.specs.Places.{startLine, offset, multiplex, columnDirection, rowDirection, entire, reverse, on}
 use Rattle.bus.specs.Registers.{imageOf, registersOf}
 use Rattle.bus.specs.Memory.{address}
 use Rattle.bus.specs.declared.registers.Registers.{Registers}
@@ -31,7 +31,7 @@ seen r = registersOf (cleared drawNothing (imageOf r))
 
 seen-alike : (r s : Registers) → DrawAlike r s → seen r ≡ seen s
 seen-alike r s a =
-    let by-start : r .start ≡ s .start = a start refl in
+    let by-start : r .start ≡ s .start = a startLine refl in
     let by-offset : r .offset ≡ s .offset = a offset refl in
     let by-multiplex : r .multiplex ≡ s .multiplex = a multiplex refl in
     let by-columns : r .«column_direction» ≡ s .«column_direction» = a columnDirection refl in

@@ -8,7 +8,7 @@ use lib.Dec.{eqb}
 use lib.Bits.{bitXor}
 use lib.ListN.{length, getD, set}
 use Rattle.constants.specs.Sizes.{width, memorySize, height, frameRows}
-use Rattle.bus.specs.Places.{start, on}
+use Rattle.bus.specs.Places.{startLine, on}
 use Rattle.bus.specs.Registers.{imageOf, powerOn, _with_≔_}
 use Rattle.bus.specs.Memory.{address}
 use Rattle.bus.specs.Image.{legal}
@@ -60,7 +60,7 @@ pub record SomeBit (r : Registers) (y x : ℕ) : Type 0 where
 
 -- The start line raised by n, modulo 64.
 unfoldable pub raised : ℕ → Registers → Registers
-raised n r = r with start ≔ (r .start + n) % height
+raised n r = r with startLine ≔ (r .start + n) % height
 
 -- Raising the start line by n moves the dot rows up by n, round the 64, or down where rows are reversed, and the icon line stays.
 pub record Scrolls (r : Registers) (n : ℕ) (memory : List ℕ) : Type 0 where

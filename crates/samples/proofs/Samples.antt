@@ -17,7 +17,7 @@ use Rattle.bus.specs.Registers.{ranges, largestValues, powerOn}
 use Rattle.bus.specs.Memory.{kept, onward}
 use Rattle.bus.specs.Events.{numberOf, obeyed, command, access, write, written}
 use Rattle.bus.specs.Image.{within, awaitedCodes, legal}
-use Rattle.bus.specs.Chip.{step, registersAfter, chipAfter, after}
+use Rattle.bus.specs.Chip.{step, registersAfter, chipAfter, afterEvents}
 use native.Mathlib.Omega.{arith}
 use Rattle.picture.specs.Scan.{panelRow, ramRow, comOf, used, ramRowOf, panelShows, rowShows}
 use Rattle.picture.specs.Rows.{scanOf}
@@ -47,7 +47,7 @@ sixteen-lit r memory on entire offset multiplex = grid-same width frameRows _ _ 
         rw e (shade r memory (ramRow height) x on entire true)
 
 pub samples : Samples
-unfolding comOf used ramRowOf panelShows rowShows picture ranges powerOn kept onward numberOf obeyed command access write written step registersAfter chipAfter after numberFor table offsetOf framePhasesOf commandBy operandBy commandOf operandOf meaningOf
+unfolding comOf used ramRowOf panelShows rowShows picture ranges powerOn kept onward numberOf obeyed command access write written step registersAfter chipAfter afterEvents numberFor table offsetOf framePhasesOf commandBy operandBy commandOf operandOf meaningOf
 samples = record {
   sample1 = (refl, refl);
   sample2 = (refl, refl, refl, refl);
@@ -64,5 +64,5 @@ samples = record {
 }
 
 pub reached : Reached
-unfolding ranges largestValues powerOn within awaitedCodes legal table commandBy commandOf meaningOf obeyed command step registersAfter chipAfter after
+unfolding ranges largestValues powerOn within awaitedCodes legal table commandBy commandOf meaningOf obeyed command step registersAfter chipAfter afterEvents
 reached = record { inRange = refl; allRows = refl; on = refl; notLit = refl }

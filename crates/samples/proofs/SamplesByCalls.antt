@@ -12,10 +12,10 @@ use Rattle.constants.specs.Sizes.{width, memorySize, frameRows, frameSize}
 use Rattle.constants.specs.Numbers.{taken}
 use Rattle.bus.specs.Registers.{imageOf, registersOf, powerOn}
 use Rattle.bus.specs.Image.{short}
-use Rattle.bus.specs.Chip.{Event, after}
+use Rattle.bus.specs.Chip.{Event, afterEvents}
 use Rattle.bus.specs.Calls.{replyOf, call}
 use Rattle.bus.specs.Bytes.{All, IsByte}
-use Rattle.bus.specs.StaysLegal.{Accepted}
+use Rattle.bus.specs.Image.{Accepted}
 use Rattle.bus.specs.CallsOnChip.{Lent, lent, afterCalls}
 use Rattle.bus.proofs.StaysLegal.{staysLegal}
 use Rattle.bus.proofs.CallsOnChip.{callsOnChip}
@@ -49,26 +49,26 @@ draw-accepted state memory was a l =
 
 module _ (memory : List ℕ) (m : memorySize ≤ length memory) (events : List Event) (b : All IsByte events) where
   -- the calls leave the image and the memory of the chip after the events
-  leaves : afterCalls events (imageOf powerOn) memory ≡ lent (imageOf (after events (started memory) .registers)) (after events (started memory) .memory)
+  leaves : afterCalls events (imageOf powerOn) memory ≡ lent (imageOf (afterEvents events (started memory) .registers)) (afterEvents events (started memory) .memory)
   leaves = callsOnChip .callByCall events (imageOf powerOn) memory b (at-power-on memory m)
 
   -- the next call answers the chip's number
-  answers : (event : Event) → answerTo event (afterCalls events (imageOf powerOn) memory) ≡ numberFor event (after events (started memory))
+  answers : (event : Event) → answerTo event (afterCalls events (imageOf powerOn) memory) ≡ numberFor event (afterEvents events (started memory))
   unfolding replyOf numberFor
   answers event = ap (λ reply. reply .number) (callsOnChip .theNext events event (imageOf powerOn) memory b (at-power-on memory m))
 
   -- and what they leave is drawn as the chip's frame
-  draws : (was : List ℕ) → frameSize ≤ length was → draw (afterCalls events (imageOf powerOn) memory .state) (afterCalls events (imageOf powerOn) memory .memory) was ≡ drawn taken (picture (after events (started memory)) ++ drop frameSize was)
+  draws : (was : List ℕ) → frameSize ≤ length was → draw (afterCalls events (imageOf powerOn) memory .state) (afterCalls events (imageOf powerOn) memory .memory) was ≡ drawn taken (picture (afterEvents events (started memory)) ++ drop frameSize was)
   unfolding picture
   draws was l =
       draw-accepted _ _ was (still-accepted events (imageOf powerOn) memory b (at-power-on memory m)) l ∙
       ap (λ held. drawn taken (frame (registersOf (held .state)) (held .memory) ++ drop frameSize was)) leaves
 
   -- a row of what is drawn is the row of the chip's frame
-  drawn-row : (was : List ℕ) → frameSize ≤ length was → (y : ℕ) → y < frameRows → rowOf width y (draw (afterCalls events (imageOf powerOn) memory .state) (afterCalls events (imageOf powerOn) memory .memory) was .frame) ≡ rowOf width y (picture (after events (started memory)))
+  drawn-row : (was : List ℕ) → frameSize ≤ length was → (y : ℕ) → y < frameRows → rowOf width y (draw (afterCalls events (imageOf powerOn) memory .state) (afterCalls events (imageOf powerOn) memory .memory) was .frame) ≡ rowOf width y (picture (afterEvents events (started memory)))
   unfolding rowOf picture
   drawn-row was l y k =
-      let chip = after events (started memory) in
+      let chip = afterEvents events (started memory) in
       let long = frame-length (chip .registers) (chip .memory) in
       ap (λ (d : Drawn). rowOf width y (d .frame)) (draws was l) ∙
       rw (drop-append-le (y * width) (frame (chip .registers) (chip .memory)) (drop frameSize was) (omega arith), take-append-le width (drop (y * width) (frame (chip .registers) (chip .memory))) (drop frameSize was) (rw (length-drop (y * width) (frame (chip .registers) (chip .memory))) (omega arith)))

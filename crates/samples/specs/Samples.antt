@@ -9,7 +9,7 @@ use Rattle.constants.specs.Sizes.{width, memorySize, frameRows, frameSize}
 use Rattle.bus.specs.Registers.{powerOn}
 use Rattle.bus.specs.Memory.{address}
 use Rattle.bus.specs.Events.{numberOf}
-use Rattle.bus.specs.Chip.{Chip, Event, commandByte, dataWritten, step, after}
+use Rattle.bus.specs.Chip.{Chip, Event, commandByte, dataWritten, step, afterEvents}
 use Rattle.picture.specs.Scan.{ramRow}
 use Rattle.picture.specs.Frame.{bit, line, grid, frame, rowOf}
 use Rattle.picture.specs.Demand3.{Full}
@@ -20,7 +20,7 @@ started content = record { registers = powerOn; memory = content }
 
 -- The chip after events from power-on with zero memory.
 abbrev pub fromPowerOn : List Event → Chip
-fromPowerOn events = after events (started (replicate memorySize 0))
+fromPowerOn events = afterEvents events (started (replicate memorySize 0))
 
 -- A byte of its memory.
 abbrev pub memoryByte : ℕ → Chip → ℕ
@@ -40,7 +40,7 @@ commands bytes = map commandByte bytes
 
 -- After events, from power-on with any memory, panel row p shows RAM row n.
 abbrev pub Shows : List Event → ℕ → ℕ → Type 0
-Shows events p n = (memory : List ℕ) → rowOf width p (picture (after events (started memory))) ≡ line width (bit address memory (ramRow n))
+Shows events p n = (memory : List ℕ) → rowOf width p (picture (afterEvents events (started memory))) ≡ line width (bit address memory (ramRow n))
 
 -- Events that several statements take.
 abbrev pub toLastColumn : List Event

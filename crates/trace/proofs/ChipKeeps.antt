@@ -15,7 +15,7 @@ use Rattle.bus.specs.StaysLegal.{LegalRegisters, Keeps}
 use Rattle.bus.proofs.Kept.{step-keeps}
 use Rattle.bus.proofs.Untouched.{step-length, memory-past}
 use Rattle.trace.specs.Play.{Result, refuses, gives}
-use Rattle.trace.specs.Kinds.{Recorded, event, readAs, command, write, happened, compared, replay, eventsOf}
+use Rattle.trace.specs.Kinds.{Recorded, event, readAs, recordedCommand, recordedWrite, happened, compared, replay, eventsOf}
 use Rattle.trace.specs.AnyMachine.{Gives}
 use Rattle.trace.proofs.PlayedKeeps.{all-any}
 use Rattle.trace.proofs.ChipKinds.{Kind, commands, writes, reads, reset, none, by-kind}
@@ -40,8 +40,8 @@ all-map P Q f h [] q = tt
 all-map P Q f h (a ∷ l) q = (h a (q .0), all-map P Q f h l (q .1))
 
 bring : {kind : ℕ} {payload : List ℕ} {result : Result (List Recorded)} → Bytes payload → Kind kind payload result → Gives (All Brings) result
-bring {kind} {payload} h (commands k) = all-map _ Brings command (λ b p. p) payload h
-bring {kind} {payload} h (writes k) = all-map _ Brings write (λ b p. p) payload h
+bring {kind} {payload} h (commands k) = all-map _ Brings recordedCommand (λ b p. p) payload h
+bring {kind} {payload} h (writes k) = all-map _ Brings recordedWrite (λ b p. p) payload h
 bring {kind} {payload} h (reads k) = all-map _ Brings readAs (λ b p. tt) payload h
 bring h (reset k e) = (tt, tt)
 bring h (none n) = tt

@@ -15,7 +15,7 @@ use Rattle.constants.specs.Sizes.{headerSize}
 use Rattle.bus.specs.Chip.{resetPulse, Chip}
 use Rattle.trace.specs.Play.{Result, refuses, gives, stopped, playEvents, playRecord}
 use Rattle.trace.specs.Given.{Unknown, noKind, loaded, recordedBy}
-use Rattle.trace.specs.Kinds.{Recorded, event, command, write, readAs, eventsOf, theChip}
+use Rattle.trace.specs.Kinds.{Recorded, event, recordedCommand, recordedWrite, readAs, eventsOf, theChip}
 use Rattle.trace.specs.Records.{Record, recordAt, lengthOf, kindOf, payloadOf, whole}
 use Rattle.trace.specs.Front.{frontOf}
 use Rattle.trace.specs.declared.records.Header.{Header}
@@ -24,8 +24,8 @@ use Rattle.trace.proofs.WhatStands.{within-trace, the-record, front-who
 use Rattle.trace.proofs.PayloadBytes.{playBytes}
 
 pub data Kind (kind : ℕ) (payload : List ℕ) : Result (List Recorded) → Type 0 where
-  commands : kind ≡ 1 → Kind kind payload (gives (map command payload))
-  writes : kind ≡ 2 → Kind kind payload (gives (map write payload))
+  commands : kind ≡ 1 → Kind kind payload (gives (map recordedCommand payload))
+  writes : kind ≡ 2 → Kind kind payload (gives (map recordedWrite payload))
   reads : kind ≡ 3 → Kind kind payload (gives (map readAs payload))
   reset : kind ≡ 4 → length payload ≡ 0 → Kind kind payload (gives (event resetPulse ∷ []))
   none : Unknown kind (length payload) → Kind kind payload (refuses kindUnknown)
@@ -54,11 +54,11 @@ module _ (trace : List ℕ) (at : ℕ) (header : Header) (h : frontOf (drop at t
   slice-length : length payload ≡ header .length
   slice-length = length-slice (at + headerSize) (at + headerSize + header .length) trace (within-trace trace at header h) ∙ omega arith
 
-  pub kind-1 : header .kind ≡ 1 → playRecord theChip (recordAt at (drop at trace)) s ≡ playEvents theChip (map command payload) (at + headerSize) s
+  pub kind-1 : header .kind ≡ 1 → playRecord theChip (recordAt at (drop at trace)) s ≡ playEvents theChip (map recordedCommand payload) (at + headerSize) s
   unfolding playRecord eventsOf
   kind-1 k = its-play ∙ rw k
 
-  pub kind-2 : header .kind ≡ 2 → playRecord theChip (recordAt at (drop at trace)) s ≡ playEvents theChip (map write payload) (at + headerSize) s
+  pub kind-2 : header .kind ≡ 2 → playRecord theChip (recordAt at (drop at trace)) s ≡ playEvents theChip (map recordedWrite payload) (at + headerSize) s
   unfolding playRecord eventsOf
   kind-2 k = its-play ∙ rw k
 

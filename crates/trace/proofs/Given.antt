@@ -67,20 +67,20 @@ module _ (state memory trace : List ℕ) where
 pub numbers-given : (state memory trace : List ℕ) → NumbersGiven state memory trace
 numbers-given state memory trace =
     record {
-      zero = zero-given state memory trace;
-      zeroLeaves = zero-leaves state memory trace;
-      one = one state memory trace;
-      oneLeaves = one-leaves state memory trace;
-      two = two state memory trace;
-      twoLeaves = two-leaves state memory trace;
+      number0 = zero-given state memory trace;
+      number0Leaves = zero-leaves state memory trace;
+      number1 = one state memory trace;
+      number1Leaves = one-leaves state memory trace;
+      number2 = two state memory trace;
+      number2Leaves = two-leaves state memory trace;
       event = λ bytes number offset n. (λ e. subst (EventRefused state memory trace number) (e .1) (is-event-as bytes number n (e .0)), λ h. rw (event-leaves state memory trace bytes number offset h) (refl, refl));
       eventLeaves = event-leaves state memory trace;
       ten = is-differing state memory trace;
       tenMet = differs-there state memory trace;
-      eight = λ offset. (λ e. subst (HeaderCut state memory trace) (e .1) (is-cut state memory trace (run-stop state memory trace) (e .0)), λ h. rw (eight-leaves state memory trace offset h) (refl, refl));
-      eightLeaves = eight-leaves state memory trace;
-      nine = λ offset. (λ e. subst (KindUnknown state memory trace) (e .1) (is-unknown state memory trace (run-stop state memory trace) (e .0)), λ h. rw (nine-leaves state memory trace offset h) (refl, refl));
-      nineLeaves = nine-leaves state memory trace;
+      number8 = λ offset. (λ e. subst (HeaderCut state memory trace) (e .1) (is-cut state memory trace (run-stop state memory trace) (e .0)), λ h. rw (eight-leaves state memory trace offset h) (refl, refl));
+      number8Leaves = eight-leaves state memory trace;
+      number9 = λ offset. (λ e. subst (KindUnknown state memory trace) (e .1) (is-unknown state memory trace (run-stop state memory trace) (e .0)), λ h. rw (nine-leaves state memory trace offset h) (refl, refl));
+      number9Leaves = nine-leaves state memory trace;
       noOther = at-most state memory trace (run-stop state memory trace);
     }
   where

@@ -25,7 +25,7 @@ use Rattle.bus.proofs.Asking.{OneOrTwo, before-refusal}
 use Rattle.bus.proofs.Stored.{call-stored}
 use Rattle.trace.specs.Records.{lengthOf, kindOf, recordBytes, recordAt, splitFrom, split}
 use Rattle.trace.specs.Play.{refuses, Ending, stopped, done, played, onEnding, playEvents, playRecord, playFrom, play}
-use Rattle.trace.specs.Kinds.{Recorded, readAs, command, write, replay, chipOf, theChip}
+use Rattle.trace.specs.Kinds.{Recorded, readAs, recordedCommand, recordedWrite, replay, chipOf, theChip}
 use Rattle.trace.specs.ByCalls.{calledBy, meets}
 use Rattle.trace.specs.Run.{Ran, ran, stopOf, ranOf, run}
 use Rattle.trace.specs.Given.{recordedBy, ranBefore, replyThere, metThere, EventRefused, ReadDiffers, eventNumbers}
@@ -195,7 +195,7 @@ differing-read byte reply false d b t u v m e = absurd (omega arith)
 meets-ten : (kind byte : ℕ) (reply : Reply) → 1 ≤ kind → kind ≤ 3 → reply .number ≤ columnAbove → meets (recordedBy kind byte) reply ≡ readDiffers → Differing kind byte reply
 meets-ten kind byte reply p q m e = by (eqb kind 1) (eqb kind 2) refl refl e
   where
-    by : (a b : Bool) → eqb kind 1 ≡ a → eqb kind 2 ≡ b → meets (cond a (command byte) (cond b (write byte) (readAs byte))) reply ≡ readDiffers → Differing kind byte reply
+    by : (a b : Bool) → eqb kind 1 ≡ a → eqb kind 2 ≡ b → meets (cond a (recordedCommand byte) (cond b (recordedWrite byte) (readAs byte))) reply ≡ readDiffers → Differing kind byte reply
     by true b k l e = absurd (omega arith)
     by false true k l e = absurd (omega arith)
     by false false k l e =

@@ -117,12 +117,12 @@ module _ (state memory trace : List ℕ) (bytes : Bytes trace) where
   zero-found r found n =
       let f = found-legal state memory found in
       let calls = each-taken (eventsIn trace) (stopOf (all .number) (all .offset) (all .count)) state memory (ap (λ (o : Ran). o .stop .number) (sym (as-calls r found)) ∙ n) in
-      record { accepted = record { long = f .0; inRanges = f .1 }; records = sums (split trace) 0 (calls .1) .records; events = calls .0 }
+      record { accepted = record { longEnough = f .0; inRanges = f .1 }; records = sums (split trace) 0 (calls .1) .records; events = calls .0 }
 
   module _ (h : AllTaken state memory trace) where
     is-found : asked state memory ≡ Asked.Found (registersOf state)
     unfolding asked
-    is-found = rw (h .accepted .long, h .accepted .inRanges)
+    is-found = rw (h .accepted .longEnough, h .accepted .inRanges)
 
     all-number : all .number ≡ taken
     all-number = known-taken (split trace) 0 (h .records)

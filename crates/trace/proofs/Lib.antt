@@ -30,7 +30,7 @@ pub mod ChipKeeps
 -- no event meets 1 or 2, whatever numbers a trace holds
 pub mod ChipNotOneOrTwo
 -- a record's events are a stretch on the bus: proves specs/Stretched
-pub mod Stretched
+pub mod RecordsAreStretches
 -- 4. The run on a lent state and memory.
 -- refused first, or played from the image's registers; what it leaves
 pub mod RunOnLent

@@ -12,7 +12,7 @@ use Rattle.bus.specs.Chip.{resetPulse}
 use Rattle.bus.specs.Calls.{call}
 use Rattle.bus.specs.Bytes.{Bytes}
 use Rattle.bus.specs.declared.image.Asked.{Asked}
-use Rattle.bus.specs.Image.{asked}
+use Rattle.bus.specs.Image.{asked, Accepted}
 use Rattle.bus.specs.Registers.{registersOf}
 use Rattle.bus.proofs.CallsOnChip.{callsOnChip}
 use Rattle.trace.specs.Records.{recordBytes, splitFrom, split}
@@ -20,7 +20,7 @@ use Rattle.trace.specs.Play.{gives}
 use Rattle.trace.specs.Kinds.{Recorded, event, eventsOf, theChip}
 use Rattle.trace.specs.OneByOne.{placed, Script, script, scriptFrom}
 use Rattle.trace.specs.ByCalls.{byCalls, runByCalls}
-use Rattle.trace.specs.Run.{ran, stopOf, run, Accepted}
+use Rattle.trace.specs.Run.{ran, stopOf, run}
 use Rattle.trace.specs.Given.{recordedBy}
 use Rattle.trace.specs.OneRecord.{OneRecord}
 use Rattle.trace.proofs.SplitLaws.{split-laws}
@@ -58,7 +58,7 @@ module _ (state memory : List ℕ) (a : Accepted state memory) where
 
   reset-run : run state memory (recordBytes 4 []) ≡ ran (stopOf taken headerSize 1) (call resetPulse state memory .state) (call resetPulse state memory .memory)
   unfolding byCalls
-  reset-run = one-record 4 [] (event resetPulse ∷ []) (written-bytes 4 [] (omega arith) tt (omega arith)) reset-events ∙ rw (callsOnChip .theResetPin state memory (a .long))
+  reset-run = one-record 4 [] (event resetPulse ∷ []) (written-bytes 4 [] (omega arith) tt (omega arith)) reset-events ∙ rw (callsOnChip .theResetPin state memory (a .longEnough))
 
 pub oneRecord : (state memory : List ℕ) → OneRecord state memory
 oneRecord state memory = record {

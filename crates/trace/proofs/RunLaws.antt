@@ -7,7 +7,7 @@ use Prim.Native.Nat.{ℕ}
 use borrow.Author.Tests.{ne-eqb}
 use Rattle.constants.specs.Numbers.{taken}
 use Rattle.bus.specs.Registers.{registersOf}
-use Rattle.bus.specs.Image.{asked}
+use Rattle.bus.specs.Image.{asked, Accepted}
 use Rattle.bus.specs.declared.registers.Registers.{Registers}
 use Rattle.bus.specs.declared.image.Asked.{Asked}
 use Rattle.bus.proofs.Asking.{found-legal}
@@ -15,7 +15,7 @@ use Rattle.trace.specs.Records.{split}
 use Rattle.trace.specs.Kinds.{Recorded, chipOf, theChip}
 use Rattle.trace.specs.OneByOne.{Placed, scriptFrom}
 use Rattle.trace.specs.ByCalls.{byCalls, runByCalls}
-use Rattle.trace.specs.Run.{ran, stopOf, ranOf, Accepted}
+use Rattle.trace.specs.Run.{ran, stopOf, ranOf}
 use Rattle.trace.specs.Given.{EachTaken}
 use Rattle.trace.specs.RunLaws.{leftBy, metAfter, RunLaws, ChipAsMachine}
 use Rattle.trace.specs.declared.run.Stop.{Stop}
@@ -35,10 +35,10 @@ stops-first (q ∷ before) p rest stop state memory h n = rw (h .0) (stops-first
 module _ (state memory : List ℕ) where
   is-found : Accepted state memory → asked state memory ≡ Asked.Found (registersOf state)
   unfolding asked
-  is-found a = rw (a .long, a .inRanges)
+  is-found a = rw (a .longEnough, a .inRanges)
 
   accepted : {r : Registers} → asked state memory ≡ Asked.Found r → Accepted state memory
-  accepted e = let l = found-legal state memory e in record { long = l .0; inRanges = l .1 }
+  accepted e = let l = found-legal state memory e in record { longEnough = l .0; inRanges = l .1 }
 
 pub run-laws : (state memory : List ℕ) → RunLaws state memory
 unfolding runByCalls

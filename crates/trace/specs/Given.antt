@@ -10,15 +10,15 @@ use lib.Seq.{slice}
 use Rattle.constants.specs.Numbers.{taken, tooShort, outOfRange, outsideTable, noPage, notAllowed, codeAwaited, columnAbove, headerCut, kindUnknown, readDiffers}
 use Rattle.constants.specs.Sizes.{headerSize}
 use Rattle.codes.specs.OneOf.{oneOf}
-use Rattle.bus.specs.Image.{short, legal}
+use Rattle.bus.specs.Image.{short, legal, Accepted}
 use Rattle.bus.specs.Calls.{call}
 use Rattle.bus.specs.declared.calls.Reply.{Reply}
 use Rattle.bus.specs.Bytes.{Bytes}
 use Rattle.trace.specs.Records.{Trace, ended, cut, _then_, lengthOf, kindOf, whole, CutShort, recordBytes, split, recordsIn}
-use Rattle.trace.specs.Kinds.{Recorded, command, write, readAs, theChip}
+use Rattle.trace.specs.Kinds.{Recorded, recordedCommand, recordedWrite, readAs, theChip}
 use Rattle.trace.specs.OneByOne.{Placed, scriptFrom}
 use Rattle.trace.specs.ByCalls.{calledBy, meets, byCalls}
-use Rattle.trace.specs.Run.{Ran, ran, stopOf, run, Accepted}
+use Rattle.trace.specs.Run.{Ran, ran, stopOf, run}
 
 -- A run gives a number at an offset.
 abbrev pub GivesAt : Ran → ℕ → ℕ → Type 0
@@ -50,7 +50,7 @@ pub record KindUnknown (state memory trace : List ℕ) (offset : ℕ) : Type 0 w
 
 -- What a byte of a payload stands for by its record's kind, 1 to 3.
 abbrev pub recordedBy : ℕ → ℕ → Recorded
-recordedBy kind byte = cond (eqb kind 1) (command byte) (cond (eqb kind 2) (write byte) (readAs byte))
+recordedBy kind byte = cond (eqb kind 1) (recordedCommand byte) (cond (eqb kind 2) (recordedWrite byte) (readAs byte))
 
 -- The run of what stands before an offset in the payload of the record at a place: the bytes before the record, and the record as if its payload ended there.
 abbrev pub ranBefore : List ℕ → List ℕ → List ℕ → ℕ → ℕ → Ran
@@ -121,14 +121,14 @@ pub record AllTaken (state memory trace : List ℕ) : Type 0 where
 -- The table, for a run on any lent state and memory.
 pub record NumbersGiven (state memory trace : List ℕ) : Type 0 where
   -- 0: all is taken. The offset is the trace's length, the count is of all its records, and what is left is what the calls of its events leave one by one.
-  pub zero : Bytes trace → run state memory trace .stop .number ≡ taken ↔ AllTaken state memory trace
-  pub zeroLeaves : Bytes trace → AllTaken state memory trace → run state memory trace ≡ byCalls (eventsIn trace) (stopOf taken (length trace) (recordsIn (split trace))) state memory
+  pub number0 : Bytes trace → run state memory trace .stop .number ≡ taken ↔ AllTaken state memory trace
+  pub number0Leaves : Bytes trace → AllTaken state memory trace → run state memory trace ≡ byCalls (eventsIn trace) (stopOf taken (length trace) (recordsIn (split trace))) state memory
   -- 1: a lent state or memory is too short. Offset and count are 0, and nothing changes.
-  pub one : run state memory trace .stop .number ≡ tooShort ↔ short state memory ≡ true
-  pub oneLeaves : short state memory ≡ true → run state memory trace ≡ ran (stopOf tooShort 0 0) state memory
+  pub number1 : run state memory trace .stop .number ≡ tooShort ↔ short state memory ≡ true
+  pub number1Leaves : short state memory ≡ true → run state memory trace ≡ ran (stopOf tooShort 0 0) state memory
   -- 2: the state image is out of its ranges, where 1 does not go first. Offset and count are 0, and nothing changes.
-  pub two : run state memory trace .stop .number ≡ outOfRange ↔ (short state memory ≡ false) × (legal state ≡ false)
-  pub twoLeaves : short state memory ≡ false → legal state ≡ false → run state memory trace ≡ ran (stopOf outOfRange 0 0) state memory
+  pub number2 : run state memory trace .stop .number ≡ outOfRange ↔ (short state memory ≡ false) × (legal state ≡ false)
+  pub number2Leaves : short state memory ≡ false → legal state ≡ false → run state memory trace ≡ ran (stopOf outOfRange 0 0) state memory
   -- 3 to 7 and 10: an event is refused, at its byte. It has not happened: the count is of the records before its own, and what is left is what the run of the bytes before it leaves.
   pub event : Bytes trace → (number offset : ℕ) → oneOf eventNumbers number ≡ true → GivesAt (run state memory trace) number offset ↔ EventRefused state memory trace number offset
   pub eventLeaves : Bytes trace → (number offset : ℕ) (h : EventRefused state memory trace number offset) → run state memory trace ≡
@@ -137,10 +137,10 @@ pub record NumbersGiven (state memory trace : List ℕ) : Type 0 where
   pub ten : (offset : ℕ) (h : EventRefused state memory trace readDiffers offset) → ReadDiffers state memory trace (h .place) offset
   pub tenMet : (place offset : ℕ) → ReadDiffers state memory trace place offset → metThere state memory trace place offset ≡ readDiffers
   -- 8: one to three bytes left where a header should stand, or payload past the end, at the record's first byte. What the records before it left stands.
-  pub eight : (offset : ℕ) → GivesAt (run state memory trace) headerCut offset ↔ HeaderCut state memory trace offset
-  pub eightLeaves : (offset : ℕ) → HeaderCut state memory trace offset → run state memory trace ≡ stoppedAfter headerCut offset (run state memory (take offset trace))
+  pub number8 : (offset : ℕ) → GivesAt (run state memory trace) headerCut offset ↔ HeaderCut state memory trace offset
+  pub number8Leaves : (offset : ℕ) → HeaderCut state memory trace offset → run state memory trace ≡ stoppedAfter headerCut offset (run state memory (take offset trace))
   -- 9: kind not 1 to 4, or kind 4 with a payload, at the record's first byte. What the records before it left stands.
-  pub nine : (offset : ℕ) → GivesAt (run state memory trace) kindUnknown offset ↔ KindUnknown state memory trace offset
-  pub nineLeaves : (offset : ℕ) → KindUnknown state memory trace offset → run state memory trace ≡ stoppedAfter kindUnknown offset (run state memory (take offset trace))
+  pub number9 : (offset : ℕ) → GivesAt (run state memory trace) kindUnknown offset ↔ KindUnknown state memory trace offset
+  pub number9Leaves : (offset : ℕ) → KindUnknown state memory trace offset → run state memory trace ≡ stoppedAfter kindUnknown offset (run state memory (take offset trace))
   -- No other number is given.
   pub noOther : run state memory trace .stop .number ≤ readDiffers

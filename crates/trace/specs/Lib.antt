@@ -21,7 +21,7 @@ pub mod OneByOne
 -- playing, over any machine
 pub mod AnyMachine
 -- a record's events are a stretch on the bus
-pub mod Stretched
+pub mod RecordsAreStretches
 -- the events of a trace by the bus's own calls: what a run is compared with
 pub mod ByCalls
 -- when a run gives each number, and what it leaves then

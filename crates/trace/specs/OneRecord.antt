@@ -11,8 +11,9 @@ use Rattle.bus.specs.Bytes.{Bytes}
 use Rattle.trace.specs.Records.{recordBytes}
 use Rattle.trace.specs.OneByOne.{placed}
 use Rattle.trace.specs.ByCalls.{byCalls}
-use Rattle.trace.specs.Run.{ran, stopOf, run, Accepted}
+use Rattle.trace.specs.Run.{ran, stopOf, run}
 use Rattle.trace.specs.Given.{recordedBy}
+use Rattle.bus.specs.Image.{Accepted}
 
 pub record OneRecord (state memory : List ℕ) : Type 0 where
   -- Kind 1: command bytes. Kind 2: data written. Kind 3: bytes read. Each byte is one event, made by its call; the first stands at offset 4.

@@ -1,10 +1,8 @@
 -- The run of a trace on a lent state and memory: the whole outcome as one function of what is lent.
 use Prim.Native.Nat.{ℕ}
-use mathlib.Core.Path.{_≡_}
-use mathlib.Core.Bool.{true, false}
 use mathlib.Core.List.{List}
 use Rattle.bus.specs.Chip.{Chip}
-use Rattle.bus.specs.Image.{short, legal, asked, stored}
+use Rattle.bus.specs.Image.{asked, stored}
 use Rattle.bus.specs.declared.image.Asked.{Asked}
 use Rattle.trace.specs.Records.{split}
 use Rattle.trace.specs.Play.{Played, play}
@@ -34,8 +32,3 @@ runOn (Asked.Refused number) state memory trace = ran (stopOf number 0 0) state 
 
 unfoldable pub run : List ℕ → List ℕ → List ℕ → Ran
 run state memory trace = runOn (asked state memory) state memory trace
-
--- What a run asks first is met: state and memory are long enough, and the image is in its ranges.
-pub record Accepted (state memory : List ℕ) : Type 0 where
-  pub long : short state memory ≡ false
-  pub inRanges : legal state ≡ true

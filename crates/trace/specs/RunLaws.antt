@@ -14,9 +14,10 @@ use Rattle.trace.specs.Kinds.{Recorded, chipOf, theChip}
 use Rattle.trace.specs.AnyMachine.{Sound, AnyMachine}
 use Rattle.trace.specs.OneByOne.{Placed, scriptFrom, oneByOne}
 use Rattle.trace.specs.ByCalls.{calledBy, meets, byCalls, runByCalls}
-use Rattle.trace.specs.Run.{Ran, ran, stopOf, ranOf, run, Accepted}
+use Rattle.trace.specs.Run.{Ran, ran, stopOf, ranOf, run}
 use Rattle.trace.specs.Given.{eventsIn, EachTaken}
 use Rattle.trace.specs.declared.run.Stop.{Stop}
+use Rattle.bus.specs.Image.{Accepted}
 
 -- What the calls of events leave.
 abbrev pub leftBy : List (Placed Recorded) → List ℕ → List ℕ → Ran

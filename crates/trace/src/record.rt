@@ -57,14 +57,14 @@ pub fn obey(
 
 // A stretch that began at an offset.
 fn ended(stretch: Stretch, from: usize) -> Ending
-    requires { ⌜ from + stretch .taken < 2 ^ 64 ⌝ }
-    ensures { λ r. ⌜ r ≡ record { registers = stretch .registers; number = stretch .number; offset = from + stretch .taken } ⌝ }
+    requires { ⌜ from + stretch .count < 2 ^ 64 ⌝ }
+    ensures { λ r. ⌜ r ≡ record { registers = stretch .registers; number = stretch .number; offset = from + stretch .count } ⌝ }
 {
     let registers = stretch.registers;
     Ending {
         registers,
         number: stretch.number,
-        offset: from + stretch.taken,
+        offset: from + stretch.count,
     }
 }
 

@@ -9,21 +9,21 @@ use denote.Ref.{now}
 use lib.ListN.{length}
 use Rattle.bus.specs.Events.{numberOf}
 use Rattle.bus.specs.Chip.{commandByte, step}
-use Rattle.bus.specs.Recorded.{command, chipOf, replay}
+use Rattle.bus.specs.Recorded.{recordedCommand, chipOf, replay}
 use Rattle.bus.specs.Stretch.{stretch}
 use Rattle.bus.proofs.Replayed.{event-taken, event-refused}
-use Rattle.bus.proofs.Stretches.{stretchFrom, all-left, none-left, turn-refused, turn-given}
+use Rattle.bus.proofs.StretchLaws.{stretchFrom, all-left, none-left, turn-refused, turn-given}
 use Rattle.bus.proofs.stretch.commands.Statement.{statement}
 use Rattle.bus.proofs.stretch.commands.Tie as tie
 
 abbrev Inv-loop : tie.InvT-loop
-Inv-loop registers₀ bytes at₀ registers at = (at ≤ length bytes) × ((memory : List ℕ) → stretch replay (map command bytes) (chipOf registers₀ memory) ≡ stretchFrom replay command bytes at (chipOf registers memory))
+Inv-loop registers₀ bytes at₀ registers at = (at ≤ length bytes) × ((memory : List ℕ) → stretch replay (map recordedCommand bytes) (chipOf registers₀ memory) ≡ stretchFrom replay recordedCommand bytes at (chipOf registers memory))
 
 abbrev μ-loop : tie.MeasureT-loop
 μ-loop registers₀ bytes at₀ registers at = length bytes - at
 
 loop-holds : tie.Need-loop-holds Inv-loop μ-loop
-loop-holds c = (omega arith, λ memory. all-left replay command (now (c .before .args .bytes)) _)
+loop-holds c = (omega arith, λ memory. all-left replay recordedCommand (now (c .before .args .bytes)) _)
 
 shared-slice-read-command : tie.Need-shared-slice-read-command Inv-loop μ-loop
 shared-slice-read-command c = omega arith
@@ -48,7 +48,7 @@ returns c =
     let bytes = now (d .before .before .before .before .before .args .bytes) in
     λ memory.
     rw (c .stopped .ensures, c .before .enum-told .given .1)
-    (sym (loop .inv .1 memory ∙ turn-refused replay command bytes (loop .at) (omega arith) _ _ (event-refused (commandByte _) _ _ (d .command .ensures) (c .before .enum-told .given .1))))
+    (sym (loop .inv .1 memory ∙ turn-refused replay recordedCommand bytes (loop .at) (omega arith) _ _ (event-refused (commandByte _) _ _ (d .command .ensures) (c .before .enum-told .given .1))))
 
 add-at : tie.Need-add-at Inv-loop μ-loop
 add-at c = omega arith
@@ -64,7 +64,7 @@ loop-again c =
     let bytes = now (d .before .before .before .before .before .args .bytes) in (
       omega arith,
       λ memory.
-          loop .inv .1 memory ∙ turn-given replay command bytes (loop .at) (omega arith) _ _ (event-taken (commandByte _) _ _ (d .command .ensures) refl (c .before .before .answer .given .1)),
+          loop .inv .1 memory ∙ turn-given replay recordedCommand bytes (loop .at) (omega arith) _ _ (event-taken (commandByte _) _ _ (d .command .ensures) refl (c .before .before .answer .given .1)),
     )
 
 returns-2 : tie.Need-returns-2 Inv-loop μ-loop
@@ -72,7 +72,7 @@ returns-2 c =
     let loop = c .before .loop in
     let bytes = now (c .before .before .before .args .bytes) in
     let e : loop .at ≡ length bytes = omega arith in
-    λ memory. sym (loop .inv .1 memory ∙ rw e (none-left replay command bytes _))
+    λ memory. sym (loop .inv .1 memory ∙ rw e (none-left replay recordedCommand bytes _))
 
 pub commands-spec : {M : Type 1} → statement M
 commands-spec =

@@ -12,7 +12,7 @@ use Rattle.bus.specs.Chip.{step}
 use Rattle.bus.specs.Recorded.{readAs, chipOf, replay}
 use Rattle.bus.specs.Stretch.{stretch}
 use Rattle.bus.proofs.Replayed.{read-agrees, read-differs, read-refused}
-use Rattle.bus.proofs.Stretches.{stretchFrom, all-left, none-left, turn-refused, turn-given}
+use Rattle.bus.proofs.StretchLaws.{stretchFrom, all-left, none-left, turn-refused, turn-given}
 use Rattle.bus.proofs.stretch.reads.Statement.{statement}
 use Rattle.bus.proofs.stretch.reads.Tie as tie
 

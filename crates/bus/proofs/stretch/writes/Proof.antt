@@ -9,22 +9,22 @@ use denote.Ref.{now}
 use lib.ListN.{length}
 use Rattle.bus.specs.Events.{numberOf}
 use Rattle.bus.specs.Chip.{dataWritten, step}
-use Rattle.bus.specs.Recorded.{write, chipOf, replay}
+use Rattle.bus.specs.Recorded.{recordedWrite, chipOf, replay}
 use Rattle.bus.specs.Stretch.{stretch}
 use Rattle.bus.proofs.Untouched.{refused-leaves}
 use Rattle.bus.proofs.Replayed.{event-taken, event-refused}
-use Rattle.bus.proofs.Stretches.{stretchFrom, all-left, none-left, turn-refused, turn-given}
+use Rattle.bus.proofs.StretchLaws.{stretchFrom, all-left, none-left, turn-refused, turn-given}
 use Rattle.bus.proofs.stretch.writes.Statement.{statement}
 use Rattle.bus.proofs.stretch.writes.Tie as tie
 
 abbrev Inv-loop : tie.InvT-loop
-Inv-loop registers₀ memory₀ bytes at₀ registers memory at = (at ≤ length bytes) × (length memory ≡ length memory₀) × (stretch replay (map write bytes) (chipOf registers₀ memory₀) ≡ stretchFrom replay write bytes at (chipOf registers memory))
+Inv-loop registers₀ memory₀ bytes at₀ registers memory at = (at ≤ length bytes) × (length memory ≡ length memory₀) × (stretch replay (map recordedWrite bytes) (chipOf registers₀ memory₀) ≡ stretchFrom replay recordedWrite bytes at (chipOf registers memory))
 
 abbrev μ-loop : tie.MeasureT-loop
 μ-loop registers₀ memory₀ bytes at₀ registers memory at = length bytes - at
 
 loop-holds : tie.Need-loop-holds Inv-loop μ-loop
-loop-holds c = (omega arith, refl, all-left replay write (now (c .before .before .args .bytes)) _)
+loop-holds c = (omega arith, refl, all-left replay recordedWrite (now (c .before .before .args .bytes)) _)
 
 shared-slice-read-write : tie.Need-shared-slice-read-write Inv-loop μ-loop
 shared-slice-read-write c = omega arith
@@ -53,7 +53,7 @@ returns c =
     let told = c .before .enum-told .given .1 in
     let same : d .write .last .1 .0 ≡ loop .memory = d .write .ensures .1 ∙ refused-leaves (dataWritten _) _ (loop .memory) _ (sym (d .write .ensures .0) ∙ told) in
     rw (c .stopped .ensures, told, same)
-    (sym (loop .inv .2 ∙ turn-refused replay write bytes (loop .at) (omega arith) _ _ (event-refused (dataWritten _) _ _ (d .write .ensures .0) told)))
+    (sym (loop .inv .2 ∙ turn-refused replay recordedWrite bytes (loop .at) (omega arith) _ _ (event-refused (dataWritten _) _ _ (d .write .ensures .0) told)))
 
 add-at : tie.Need-add-at Inv-loop μ-loop
 add-at c = omega arith
@@ -67,7 +67,7 @@ loop-again c =
     let d = c .before .before .before .before .before .before in
     let loop = d .before .before .before .before .loop in
     let bytes = now (d .before .before .before .before .before .before .before .args .bytes) in
-    (omega arith, d .write .kept .1 .0 ∙ loop .inv .1, loop .inv .2 ∙ turn-given replay write bytes (loop .at) (omega arith) _ _ (event-taken (dataWritten _) _ _ (d .write .ensures .0) (d .write .ensures .1) (c .before .before .answer .given .1)))
+    (omega arith, d .write .kept .1 .0 ∙ loop .inv .1, loop .inv .2 ∙ turn-given replay recordedWrite bytes (loop .at) (omega arith) _ _ (event-taken (dataWritten _) _ _ (d .write .ensures .0) (d .write .ensures .1) (c .before .before .answer .given .1)))
 
 same-length-2 : tie.Need-same-length-2 Inv-loop μ-loop
 same-length-2 c = search needs
@@ -77,7 +77,7 @@ returns-2 c =
     let loop = c .before .loop in
     let bytes = now (c .before .before .before .before .args .bytes) in
     let e : loop .at ≡ length bytes = omega arith in
-    sym (loop .inv .2 ∙ rw e (none-left replay write bytes _))
+    sym (loop .inv .2 ∙ rw e (none-left replay recordedWrite bytes _))
 
 pub writes-spec : {M : Type 1} → statement M
 writes-spec =

@@ -5,10 +5,10 @@ use mathlib.Core.Path.{sym, _∙_}
 use mathlib.Core.List.{[]}
 use native.Mathlib.Omega.{arith}
 use denote.Ref.{now}
-use Rattle.trace.specs.Kinds.{command, write, readAs}
+use Rattle.trace.specs.Kinds.{recordedCommand, recordedWrite, readAs}
 use Rattle.trace.specs.Code.{endingOf}
 use Rattle.trace.proofs.WhatStands.{within-trace}
-use Rattle.trace.proofs.Stretched.{ends, takes, reaches, ends-there}
+use Rattle.trace.proofs.RecordsAreStretches.{ends, takes, reaches, ends-there}
 use Rattle.trace.proofs.ChipKinds.{kind-1, kind-2, kind-3, kind-4, kind-4-loaded, kind-unknown}
 use Rattle.trace.proofs.record.obey.Statement.{statement}
 use Rattle.trace.proofs.record.obey.Tie as tie
@@ -35,7 +35,7 @@ ended-requires : tie.Need-ended-requires
 ended-requires c κs =
     let d = c .before .before .before .before .before in
     let fits = within-trace (now (d .args .trace)) (d .args .at) (d .args .header) (d .pre) in
-    omega (arith, fits, reaches command (now (d .args .trace)) _ _ (omega arith) fits _ _ [] (c .commands .ensures []))
+    omega (arith, fits, reaches recordedCommand (now (d .args .trace)) _ _ (omega arith) fits _ _ [] (c .commands .ensures []))
 
 sub-writes : tie.Need-sub-writes
 sub-writes c = search needs
@@ -53,7 +53,7 @@ ended-requires-2 : tie.Need-ended-requires-2
 ended-requires-2 c κs =
     let d = c .before .before .before .before .before .before .before .before in
     let fits = within-trace (now (d .args .trace)) (d .args .at) (d .args .header) (d .pre) in
-    omega (arith, fits, reaches write (now (d .args .trace)) _ _ (omega arith) fits _ _ _ (c .before .before .writes .ensures))
+    omega (arith, fits, reaches recordedWrite (now (d .args .trace)) _ _ (omega arith) fits _ _ _ (c .before .before .writes .ensures))
 
 sub-reads : tie.Need-sub-reads
 sub-reads c = search needs
@@ -96,7 +96,7 @@ returns-2 : tie.Need-returns-2
 returns-2 c =
     let d = c .before .before .before .before .before .before in
     let fits = within-trace (now (d .args .trace)) (d .args .at) (d .args .header) (d .pre) in
-    rw (c .ended .ensures) (ends-there command (now (d .args .trace)) _ _ (omega arith) fits _ _ _ (c .before .commands .ensures _) ∙ sym (kind-1 (now (d .args .trace)) (d .args .at) (d .args .header) (d .pre) _ (c .before .before .before .match .keys1)))
+    rw (c .ended .ensures) (ends-there recordedCommand (now (d .args .trace)) _ _ (omega arith) fits _ _ _ (c .before .commands .ensures _) ∙ sym (kind-1 (now (d .args .trace)) (d .args .at) (d .args .header) (d .pre) _ (c .before .before .before .match .keys1)))
 
 same-length : tie.Need-same-length
 same-length c = search needs
@@ -105,7 +105,7 @@ returns-3 : tie.Need-returns-3
 returns-3 c =
     let d = c .before .before .before .before .before .before .before .before .before in
     let fits = within-trace (now (d .args .trace)) (d .args .at) (d .args .header) (d .pre) in
-    rw (c .ended2 .ensures) (ends-there write (now (d .args .trace)) _ _ (omega arith) fits _ _ _ (c .before .before .before .writes .ensures) ∙ sym (kind-2 (now (d .args .trace)) (d .args .at) (d .args .header) (d .pre) _ (c .before .before .before .before .before .before .match .keys2)))
+    rw (c .ended2 .ensures) (ends-there recordedWrite (now (d .args .trace)) _ _ (omega arith) fits _ _ _ (c .before .before .before .writes .ensures) ∙ sym (kind-2 (now (d .args .trace)) (d .args .at) (d .args .header) (d .pre) _ (c .before .before .before .before .before .before .match .keys2)))
 
 same-length-2 : tie.Need-same-length-2
 same-length-2 c = search needs

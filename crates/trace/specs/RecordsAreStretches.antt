@@ -6,13 +6,13 @@ use mathlib.Core.List.{List}
 use lib.Dec.{eqb}
 use Rattle.constants.specs.Numbers.{taken}
 use Rattle.bus.specs.Stretch.{Stretched, stretch}
-use Rattle.bus.specs.Stretches.{NeverZero}
+use Rattle.bus.specs.StretchLaws.{NeverZero}
 use Rattle.trace.specs.Play.{Machine, Ending, stopped, done, playEvents}
 
 -- How a stretch ends whose first event has its byte at an offset.
 abbrev pub endingAt : {S : Type 0} → ℕ → Stretched S → Ending S
-endingAt offset r = cond (eqb (r .number) taken) (done (r .state)) (stopped (r .number) (offset + r .taken) (r .state))
+endingAt offset r = cond (eqb (r .number) taken) (done (r .state)) (stopped (r .number) (offset + r .count) (r .state))
 
 -- Over any machine that refuses with no 0.
-abbrev pub AreStretches : {S E : Type 0} → Machine S E → Type 0
-AreStretches {S} {E} machine = NeverZero (machine .step) → (events : List E) (offset : ℕ) (s : S) → playEvents machine events offset s ≡ endingAt offset (stretch (machine .step) events s)
+abbrev pub RecordsAreStretches : {S E : Type 0} → Machine S E → Type 0
+RecordsAreStretches {S} {E} machine = NeverZero (machine .step) → (events : List E) (offset : ℕ) (s : S) → playEvents machine events offset s ≡ endingAt offset (stretch (machine .step) events s)
