@@ -3,8 +3,8 @@
 use mathlib.Core.Path.{_≡_, sym, _∙_, ap}
 use mathlib.Core.List.{List, []}
 use Prim.Native.Nat.{ℕ}
-use Rattle.codes.specs.Settled.{Settles}
-use Rattle.codes.proofs.Settled.{equation}
+use Rattle.constants.specs.Settles.{Settles}
+use Rattle.constants.proofs.Settles.{equation}
 use Rattle.bus.specs.Calls.{Called, called}
 use Rattle.bus.specs.Start.{Started}
 use Rattle.bus.specs.Chip.{Chip}

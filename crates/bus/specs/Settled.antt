@@ -4,7 +4,7 @@ use mathlib.Core.Path.{_≡_}
 use mathlib.Core.Bool.{Bool}
 use mathlib.Core.List.{List, [], _∷_, map}
 use lib.ListN.{length}
-use Rattle.codes.specs.Settled.{Settles}
+use Rattle.constants.specs.Settles.{Settles}
 use Rattle.bus.specs.Places.{column, fresh}
 use Rattle.bus.specs.Registers.{imageOf, _with_≔_, powerOn, powerState}
 use Rattle.bus.specs.Events.{command, write, written, read, resetPin}

@@ -3,7 +3,7 @@ use Prim.Native.Nat.{ℕ}
 use mathlib.Core.Path.{_≡_}
 use mathlib.Core.List.{List}
 use lib.ListN.{drop}
-use Rattle.codes.specs.Settled.{Settles}
+use Rattle.constants.specs.Settles.{Settles}
 use Rattle.trace.specs.Front.{frontOf}
 use Rattle.trace.specs.Run.{ran, stopOf, run}
 use Rattle.picture.specs.Draw.{drawn, draw}

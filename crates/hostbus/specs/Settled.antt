@@ -2,7 +2,7 @@
 use Prim.Native.Nat.{ℕ}
 use mathlib.Core.Path.{_≡_}
 use mathlib.Core.List.{List}
-use Rattle.codes.specs.Settled.{Settles}
+use Rattle.constants.specs.Settles.{Settles}
 use Rattle.bus.specs.Chip.{commandByte, dataWritten, dataRead, resetPulse}
 use Rattle.bus.specs.Calls.{call}
 use Rattle.bus.specs.Start.{started, startOf}

@@ -1,10 +1,12 @@
--- Each public call has one outcome.
+-- What each public call states has one result.
 -- Assumes nothing.
 use mathlib.Core.Path.{sym, _∙_, ap}
+use Rattle.constants.proofs.Settles.{equation}
+use Rattle.picture.specs.Draw.{Drawn}
 use Rattle.picture.specs.Settled.{Settled}
 
 pub settled : Settled
 settled = record {
-  drawing = λ state memory was number number′ left left′ p q. (ap (λ d. d .number) (p ∙ sym q), ap (λ d. d .frame) (p ∙ sym q));
-  showing = λ r row shown shown′ p q. p ∙ sym q;
+  «draw::draw» = λ state memory was a b p q. ap (λ (o : Drawn). (o .number, o .frame)) (p ∙ sym q);
+  «rows::row_shows» = λ r row. equation _;
 }

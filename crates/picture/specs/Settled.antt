@@ -1,4 +1,4 @@
--- Document 01, "Two results that satisfy one statement are shown equal": each public call of this crate, its statement taken twice.
+-- Any two results that satisfy what a public call of this crate states are equal: its answer, and what it leaves of the lent frame. A field has the name of its call.
 use Prim.Native.Nat.{ℕ}
 use mathlib.Core.Path.{_≡_}
 use mathlib.Core.List.{List}
@@ -8,9 +8,9 @@ use Rattle.picture.specs.Rows.{scanOf}
 use Rattle.picture.specs.Draw.{drawn, draw}
 use Rattle.picture.specs.declared.rows.PanelRow.{PanelRow}
 use Rattle.picture.specs.declared.rows.Shown.{Shown}
+use Rattle.constants.specs.Settles.{Settles}
 
 pub record Settled : Type 0 where
-  -- draw::draw: the number and the lent frame afterwards; state and memory are only read.
-  pub drawing : (state memory was : List ℕ) (number number′ : ℕ) (left left′ : List ℕ) → drawn number left ≡ draw state memory was → drawn number′ left′ ≡ draw state memory was → (number ≡ number′) × (left ≡ left′)
-  -- rows::row_shows: what the row shows.
-  pub showing : (r : Registers) (row : PanelRow) (shown shown′ : Shown) → shown ≡ rowShows (scanOf r) row → shown′ ≡ rowShows (scanOf r) row → shown ≡ shown′
+  -- number, frame
+  pub «draw::draw» : (state memory was : List ℕ) → Settles (λ (o : ℕ × List ℕ). drawn (o .0) (o .1) ≡ draw state memory was)
+  pub «rows::row_shows» : (r : Registers) (row : PanelRow) → Settles (λ (shown : Shown). shown ≡ rowShows (scanOf r) row)

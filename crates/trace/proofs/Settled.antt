@@ -4,19 +4,14 @@ use mathlib.Core.Path.{_≡_, sym, _∙_, ap}
 use mathlib.Core.List.{List}
 use Prim.Native.Nat.{ℕ}
 use denote.Ref.{RefT}
+use Rattle.constants.proofs.Settles.{equation}
 use Rattle.bus.specs.Chip.{Chip}
 use Rattle.trace.specs.Play.{Played}
 use Rattle.trace.specs.Code.{playedOf}
-use Rattle.trace.specs.Run.{Ran, ran}
+use Rattle.trace.specs.Run.{Ran}
 use Rattle.trace.specs.Settled.{Settled}
 use Rattle.trace.specs.declared.reader.Reader.{Reader}
-use Rattle.trace.specs.declared.run.Stop.{Stop}
 use Rattle.trace.specs.declared.run.Played as code
-
-same-run : {stated : Ran} (s s′ : Stop) (later later′ left left′ : List ℕ) → ran s later left ≡ stated → ran s′ later′ left′ ≡ stated → (s ≡ s′) × (later ≡ later′) × (left ≡ left′)
-same-run s s′ later later′ left left′ p q =
-    let e = p ∙ sym q in
-    (ap (λ r. r .stop) e, ap (λ r. r .state) e, ap (λ r. r .memory) e)
 
 same-play : {stated : Played Chip} (f f′ : code.Played) (left left′ : List ℕ) → playedOf f left ≡ stated → playedOf f′ left′ ≡ stated → (f ≡ f′) × (left ≡ left′)
 unfolding playedOf
@@ -31,13 +26,12 @@ same-reader lent at q q′ m m′ =
     rw (one, two)
 
 pub settled : Settled
-settled =
-    record {
-      run = λ state memory trace s s′ later later′ left left′. same-run s s′ later later′ left left′;
-      play = λ registers memory trace f f′ left left′. same-play f f′ left left′;
-      frontAt = λ trace at f f′ p q. p ∙ sym q;
-      readAt = λ trace at f f′ p q. p ∙ sym q;
-      new = λ lent q q′. same-reader lent 0 q q′;
-      moved = λ r at q q′. same-reader (r .trace) at q q′;
-      next = λ r f f′ p q. p ∙ sym q;
-    }
+settled = record {
+  «run::run» = λ state memory trace a b p q. ap (λ (o : Ran). (o .stop, o .state, o .memory)) (p ∙ sym q);
+  «run::play» = λ registers memory trace a b p q. let e = same-play (a .0) (b .0) (a .1) (b .1) p q in rw (e .0, e .1);
+  «records::front_at» = λ trace at. equation _;
+  «reader::read_at» = λ trace at. equation _;
+  «reader::new» = λ lent. same-reader lent 0;
+  «reader::moved» = λ r at. same-reader (r .trace) at;
+  «reader::next» = λ r. equation _;
+}

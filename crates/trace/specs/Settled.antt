@@ -1,4 +1,4 @@
--- "Two results that satisfy one statement are shown equal": for each public call of the crate, its clause taken twice of the same inputs gives the same answer, and the same later contents of all that is lent. proofs/Settled.antt proves it.
+-- Any two results that satisfy what a public call of this crate states are equal: its answer, and what it leaves of everything lent to be changed. A field has the name of its call.
 use Prim.Native.Nat.{ℕ}
 use mathlib.Core.Path.{_≡_}
 use mathlib.Core.List.{List}
@@ -16,20 +16,16 @@ use Rattle.trace.specs.declared.reader.Reader.{Reader}
 use Rattle.trace.specs.declared.records.Front.{Front}
 use Rattle.trace.specs.declared.run.Played.{Played}
 use Rattle.trace.specs.declared.run.Stop.{Stop}
+use Rattle.constants.specs.Settles.{Settles}
 
 pub record Settled : Type 0 where
-  -- `run::run`: the stop, and the state and memory that are left.
-  pub run : (state memory trace : List ℕ) (s s′ : Stop) (later later′ left left′ : List ℕ) → ran s later left ≡ run state memory trace → ran s′ later′ left′ ≡ run state memory trace → (s ≡ s′) × (later ≡ later′) × (left ≡ left′)
-  -- `run::play`: the stop, the registers and the memory that are left.
-  pub play : (registers : Registers) (memory trace : List ℕ) (p p′ : Played) (left left′ : List ℕ)
-      → playedOf p left ≡ play theChip (split trace) (chipOf registers memory) → playedOf p′ left′ ≡ play theChip (split trace) (chipOf registers memory) → (p ≡ p′) × (left ≡ left′)
-  -- `records::front_at`: what stands at an offset of the trace.
-  pub frontAt : (trace : List ℕ) (at : ℕ) (f f′ : Front) → f ≡ frontOf (drop at trace) → f′ ≡ frontOf (drop at trace) → f ≡ f′
-  -- `reader::read_at`: the same, by a reader.
-  pub readAt : (trace : List ℕ) (at : ℕ) (f f′ : Front) → f ≡ frontOf (drop at trace) → f′ ≡ frontOf (drop at trace) → f ≡ f′
-  -- `reader::new`: the reader, which holds the caller's own bytes.
-  pub new : (lent : RefT (List ℕ)) (q q′ : Reader) → New lent q → New lent q′ → q ≡ q′
-  -- `reader::moved`.
-  pub moved : (r : Reader) (at : ℕ) (q q′ : Reader) → Moved r at q → Moved r at q′ → q ≡ q′
-  -- `reader::next`.
-  pub next : (r : Reader) (f f′ : Front) → Next r f → Next r f′ → f ≡ f′
+  -- stop, state, memory
+  pub «run::run» : (state memory trace : List ℕ) → Settles (λ (o : Stop × List ℕ × List ℕ). ran (o .0) (o .1) (o .2) ≡ run state memory trace)
+  -- stop and registers, memory
+  pub «run::play» : (registers : Registers) (memory trace : List ℕ) → Settles (λ (o : Played × List ℕ). playedOf (o .0) (o .1) ≡ play theChip (split trace) (chipOf registers memory))
+  pub «records::front_at» : (trace : List ℕ) (at : ℕ) → Settles (λ (f : Front). f ≡ frontOf (drop at trace))
+  pub «reader::read_at» : (trace : List ℕ) (at : ℕ) → Settles (λ (f : Front). f ≡ frontOf (drop at trace))
+  -- a reader holds the caller's own bytes
+  pub «reader::new» : (lent : RefT (List ℕ)) → Settles (λ (q : Reader). New lent q)
+  pub «reader::moved» : (r : Reader) (at : ℕ) → Settles (λ (q : Reader). Moved r at q)
+  pub «reader::next» : (r : Reader) → Settles (λ (f : Front). Next r f)

@@ -2,6 +2,7 @@
 ghost use mathlib.Core.Path.{_≡_};
 ghost use lib.ListN.{drop};
 ghost use Rattle.trace.specs.Front.{frontOf};
+ghost use Rattle.trace.specs.ReaderWalk.{New, Moved, Next};
 use crate::records::Front;
 use crate::records::front_at;
 
@@ -13,21 +14,21 @@ pub struct Reader<'a> {
 
 // A reader at the trace's first byte.
 pub fn new<'a>(trace: &'a [u8]) -> Reader<'a>
-    ensures { λ r. ⌜ (r .trace ≡ trace .entry) × (r .at ≡ 0) ⌝ }
+    ensures { λ r. ⌜ New (trace .entry) r ⌝ }
 {
     Reader { trace, at: 0 }
 }
 
 // The reader at another place.
 pub fn moved<'a>(r: Reader<'a>, at: usize) -> Reader<'a>
-    ensures { λ q. ⌜ (q .trace ≡ r .entry .trace) × (q .at ≡ at) ⌝ }
+    ensures { λ q. ⌜ Moved (r .entry) at q ⌝ }
 {
     Reader { trace: r.trace, at }
 }
 
 // What stands at the reader's place.
 pub fn next<'a>(r: Reader<'a>) -> Front
-    ensures { λ f. ⌜ f ≡ frontOf (drop (r .entry .at) (now (r .entry .trace))) ⌝ }
+    ensures { λ f. ⌜ Next (r .entry) f ⌝ }
 {
     front_at(r.trace, r.at)
 }

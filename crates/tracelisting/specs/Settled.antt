@@ -2,7 +2,7 @@
 use Prim.Native.Nat.{ℕ}
 use mathlib.Core.Path.{_≡_}
 use mathlib.Core.List.{List}
-use Rattle.codes.specs.Settled.{Settles}
+use Rattle.constants.specs.Settles.{Settles}
 use Rattle.tracelisting.specs.TraceListing.{textFor, printed, printedOf}
 
 pub record Settled : Type 0 where

@@ -1,0 +1,2 @@
+-- Statements that are one equation have one result.
+pub mod Settles
