@@ -18,6 +18,8 @@ pub mod Answers
 pub mod Awaiting
 -- the registers that a taken event leaves: column, fresh, read-modify-write, E2
 pub mod Moves
+-- sleep, standby and awake
+pub mod PowerSave
 -- a taken event leaves legal registers, command by command
 pub mod Kept
 -- 3. Calls.

@@ -32,6 +32,8 @@ pub mod TablesAgree
 pub mod Awaiting
 -- the registers that a taken event leaves: column, fresh, read-modify-write, E2
 pub mod Moves
+-- sleep, standby and awake
+pub mod PowerSave
 -- what is legal stays legal
 pub mod StaysLegal
 -- each number exactly when, with its byte and dummy mark

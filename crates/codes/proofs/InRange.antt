@@ -10,7 +10,7 @@ use borrow.Author.Tests.{leb-true, eqb-true}
 use Rattle.codes.proofs.Tests.{both, chosen, one-of-at-most}
 use Rattle.codes.specs.Table.{Row, one, two, table, commandBy, commandOf, operandBy, operandOf, meaningOf, offsetOf, framePhasesOf}
 use Rattle.codes.specs.OneOf.{oneOf}
-use Rattle.codes.specs.Values.{codesOf, CommandInRange}
+use Rattle.codes.specs.Values.{codesOf, CommandInRange, InRange}
 
 -- each row of one byte carries what it should, and each code of two is among the codes
 abbrev Sound : List Row → Type 0
@@ -67,6 +67,6 @@ operand-in-range : (code n : ℕ) → n < 256 → CommandInRange (operandOf code
 unfolding operandOf
 operand-in-range code n h = given-by table code n h sound-operands
 
-pub meaning-in-range : (awaited b : ℕ) → b < 256 → CommandInRange (meaningOf awaited b)
+pub meaning-in-range : InRange
 unfolding meaningOf
 meaning-in-range awaited b h = chosen CommandInRange (eqb awaited 0) _ _ (λ e. command-in-range b) (λ e. operand-in-range awaited b h)

@@ -3,7 +3,7 @@ use Prim.Native.Nat.{ℕ, _<_}
 use mathlib.Core.Path.{_≡_}
 use mathlib.Core.Bool.{true}
 use mathlib.Core.List.{List, [], _∷_}
-use Rattle.codes.specs.Table.{Row, one, two, table}
+use Rattle.codes.specs.Table.{Row, one, two, table, meaningOf}
 use Rattle.codes.specs.OneOf.{oneOf}
 use Rattle.codes.specs.declared.Command.{Command}
 
@@ -44,3 +44,7 @@ CommandInRange (Command.Await code) = oneOf (codesOf table) code ≡ true
 CommandInRange Command.NotAllowed = Unit {0}
 CommandInRange Command.NotAwaited = Unit {0}
 CommandInRange Command.Outside = Unit {0}
+
+-- Every command byte, named, carries a value in its range, whatever code is awaited.
+abbrev pub InRange : Type 0
+InRange = (awaited b : ℕ) → b < 256 → CommandInRange (meaningOf awaited b)

@@ -123,5 +123,8 @@ digit-first n s = rw (List·getD-append (digits 20 n) s 0 0 (some-digit 19 n)) (
     by (d ∷ more) p = p .1
 
 pub plain : Plain
-unfolding decimal
-plain n h = record { alone = all-digits 20 n; says = read-back 19 n (omega (arith, h)); noLeadingZero = no-leading-zero 19 n (omega (arith, h)) }
+unfolding decimal digits
+plain = record {
+  each = λ n h. record { alone = all-digits 20 n; says = read-back 19 n (omega (arith, h)); noLeadingZero = no-leading-zero 19 n (omega (arith, h)) };
+  nought = refl;
+}

@@ -24,5 +24,7 @@ pub record PlainDecimal (n : ℕ) : Type 0 where
   -- with no leading zero: only 0 begins with the digit 0
   pub noLeadingZero : getD (decimal n) 0 0 ≡ 48 → n ≡ 0
 
-abbrev pub Plain : Type 0
-Plain = (n : ℕ) → n < 2 ^ 64 → PlainDecimal n
+pub record Plain : Type 0 where
+  pub each : (n : ℕ) → n < 2 ^ 64 → PlainDecimal n
+  -- 0 is one digit.
+  pub nought : decimal 0 ≡ 48 ∷ []
