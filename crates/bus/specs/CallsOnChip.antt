@@ -39,13 +39,17 @@ afterCalls (event ∷ events) state memory = afterCalls events (call event state
 
 pub record CallsOnChip : Type 0 where
   -- A call answers the step's number, byte and dummy mark, and leaves the image of the registers and the memory that the chip has after the event.
-  pub oneCall : (event : Event) (state memory : List ℕ) → Accepted state memory → call event state memory ≡ called (replyOf (step event (registersOf state) memory .answer)) (imagedIn state (chipAfter event (chipIn state memory) .registers)) (chipAfter event (chipIn state memory) .memory)
+  pub oneCall : (event : Event) (state memory : List ℕ) → Accepted state memory
+      → call event state memory ≡ called (replyOf (step event (registersOf state) memory .answer)) (imagedIn state (chipAfter event (chipIn state memory) .registers)) (chipAfter event (chipIn state memory) .memory)
   -- The reset pin leaves the image of power-on, whatever the image was.
   pub theResetPin : (state memory : List ℕ) → short state memory ≡ false → call resetPulse state memory ≡ called (record { number = taken; byte = 0; dummy = false }) (imagedIn state powerOn) memory
   -- Calls one after another leave the image and the memory of the chip after their events.
-  pub callByCall : (events : List Event) (state memory : List ℕ) → All IsByte events → Accepted state memory → afterCalls events state memory ≡ lent (imagedIn state (afterEvents events (chipIn state memory) .registers)) (afterEvents events (chipIn state memory) .memory)
+  pub callByCall : (events : List Event) (state memory : List ℕ) → All IsByte events → Accepted state memory
+      → afterCalls events state memory ≡ lent (imagedIn state (afterEvents events (chipIn state memory) .registers)) (afterEvents events (chipIn state memory) .memory)
   -- And the next call answers as the chip after those events does.
-  pub theNext : (events : List Event) (event : Event) (state memory : List ℕ) → All IsByte events → Accepted state memory → call event (afterCalls events state memory .state) (afterCalls events state memory .memory) .reply ≡ replyOf (step event (afterEvents events (chipIn state memory) .registers) (afterEvents events (chipIn state memory) .memory) .answer)
+  pub theNext : (events : List Event) (event : Event) (state memory : List ℕ) → All IsByte events → Accepted state memory
+      → call event (afterCalls events state memory .state) (afterCalls events state memory .memory) .reply
+      ≡ replyOf (step event (afterEvents events (chipIn state memory) .registers) (afterEvents events (chipIn state memory) .memory) .answer)
   -- From the start they are those of the chip at power-on with zero memory, of which the samples speak, the bytes past 1,188 as they were lent.
   pub fromTheStart : (events : List Event) (state memory : List ℕ) → All IsByte events → short state memory ≡ false → let chip = chipOf registersAtStart (memoryAtStart ++ drop memorySize memory) in
       afterCalls events (startOf state memory .state) (startOf state memory .memory) ≡ lent (imagedIn state (afterEvents events chip .registers)) (afterEvents events chip .memory)

@@ -81,4 +81,6 @@ pub record Given (event : Event) (state memory : List ℕ) : Type 0 where
   -- A taken read with fresh 1 answers "dummy", byte 0.
   pub dummyRead : event ≡ dataRead → numberFrom event state memory ≡ taken → registersOf state .fresh ≡ 1 → (call event state memory .reply .byte ≡ 0) × (call event state memory .reply .dummy ≡ true)
   -- A taken read with fresh 0 answers the byte at page and column, of page 8 bit 0 alone.
-  pub byteRead : event ≡ dataRead → numberFrom event state memory ≡ taken → registersOf state .fresh ≡ 0 → (call event state memory .reply .byte ≡ kept (registersOf state .page) (getD memory (address (registersOf state .page) (registersOf state .column)) 0)) × (call event state memory .reply .dummy ≡ false)
+  pub byteRead : event ≡ dataRead → numberFrom event state memory ≡ taken → registersOf state .fresh ≡ 0
+      → (call event state memory .reply .byte ≡ kept (registersOf state .page) (getD memory (address (registersOf state .page) (registersOf state .column)) 0))
+      × (call event state memory .reply .dummy ≡ false)

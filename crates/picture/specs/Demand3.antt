@@ -33,7 +33,8 @@ flipped row column memory =
 -- A bit shows in row y at segment x: flipping it changes that place, and no other, in every memory.
 pub record ShowsAt (r : Registers) (row column y x : ℕ) : Type 0 where
   pub changes : (memory : List ℕ) → memorySize ≤ length memory → placeOf width y x (frame r (flipped (ramRow row) column memory)) ≢ placeOf width y x (frame r memory)
-  pub noOther : (memory : List ℕ) → memorySize ≤ length memory → (y′ x′ : ℕ) → y′ < frameRows → x′ < width → ((y′ ≡ y) × (x′ ≡ x) → ⊥) → placeOf width y′ x′ (frame r (flipped (ramRow row) column memory)) ≡ placeOf width y′ x′ (frame r memory)
+  pub noOther : (memory : List ℕ) → memorySize ≤ length memory → (y′ x′ : ℕ) → y′ < frameRows → x′ < width → ((y′ ≡ y) × (x′ ≡ x) → ⊥)
+      → placeOf width y′ x′ (frame r (flipped (ramRow row) column memory)) ≡ placeOf width y′ x′ (frame r memory)
 
 -- A place is lit exactly when a bit, turned round by reverse, is 1, in every memory.
 abbrev pub LitBy : Registers → ℕ → ℕ → ℕ → ℕ → Type 0

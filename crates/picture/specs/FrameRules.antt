@@ -22,7 +22,8 @@ pub record PanelRowRules (r : Registers) (memory : List ℕ) (p : ℕ) : Type 0 
   -- Rows normal: COM k shows RAM row (start line + k) modulo 64.
   pub normal : r .on ≡ 1 → r .entire ≡ 0 → r .«row_direction» ≡ 0 → comAt r p < rowsInUse r → rowOf width p (frame r memory) ≡ line width (shownBit r memory (ramRow ((r .start + comAt r p) % 64)))
   -- Reversed: (start line + M - 1 - k) modulo 64.
-  pub reversed : r .on ≡ 1 → r .entire ≡ 0 → r .«row_direction» ≡ 1 → comAt r p < rowsInUse r → rowOf width p (frame r memory) ≡ line width (shownBit r memory (ramRow ((r .start + rowsInUse r - 1 - comAt r p) % 64)))
+  pub reversed : r .on ≡ 1 → r .entire ≡ 0 → r .«row_direction» ≡ 1 → comAt r p < rowsInUse r
+      → rowOf width p (frame r memory) ≡ line width (shownBit r memory (ramRow ((r .start + rowsInUse r - 1 - comAt r p) % 64)))
 
 pub record IconLineRules (r : Registers) (memory : List ℕ) : Type 0 where
   -- The icon line shows RAM row 64 always,

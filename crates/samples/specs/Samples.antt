@@ -59,7 +59,8 @@ pub record Samples : Type 0 where
   -- 1. Data 03: memory byte 0 is 03, column 1.
   pub sample1 : (memoryByte 0 (fromPowerOn (dataWritten 0x03 ∷ [])) ≡ 0x03) × (fromPowerOn (dataWritten 0x03 ∷ []) .registers .column ≡ 1)
   -- 2. Commands 03 18 give column 131; data AA goes to byte 131, column 0, page 0.
-  pub sample2 : (fromPowerOn toLastColumn .registers .column ≡ 131) × (memoryByte 131 (fromPowerOn (toLastColumn ++ dataWritten 0xAA ∷ [])) ≡ 0xAA) × (fromPowerOn (toLastColumn ++ dataWritten 0xAA ∷ []) .registers .column ≡ 0) × (fromPowerOn (toLastColumn ++ dataWritten 0xAA ∷ []) .registers .page ≡ 0)
+  pub sample2 : (fromPowerOn toLastColumn .registers .column ≡ 131) × (memoryByte 131 (fromPowerOn (toLastColumn ++ dataWritten 0xAA ∷ [])) ≡ 0xAA)
+      × (fromPowerOn (toLastColumn ++ dataWritten 0xAA ∷ []) .registers .column ≡ 0) × (fromPowerOn (toLastColumn ++ dataWritten 0xAA ∷ []) .registers .page ≡ 0)
   -- 3. Commands 0F 18 give column 143; data AA: 7.
   pub sample3 : (fromPowerOn (commands (0x0F ∷ 0x18 ∷ [])) .registers .column ≡ 143) × (numberFor (dataWritten 0xAA) (fromPowerOn (commands (0x0F ∷ 0x18 ∷ []))) ≡ 7)
   -- 4. B8 taken; B9: 4.
@@ -67,7 +68,8 @@ pub record Samples : Type 0 where
   -- 5. B8, data FF: byte 1,056 is 01.
   pub sample5 : memoryByte 1056 (fromPowerOn (commandByte 0xB8 ∷ dataWritten 0xFF ∷ [])) ≡ 0x01
   -- 6. Column 5, E0, two writes, EE: column 5. Without E0 and EE: 7.
-  pub sample6 : (a b : ℕ) → (fromPowerOn (columnFive ++ commandByte 0xE0 ∷ twoWrites a b ++ commandByte 0xEE ∷ []) .registers .column ≡ 5) × (fromPowerOn (columnFive ++ twoWrites a b) .registers .column ≡ 7)
+  pub sample6 : (a b : ℕ) → (fromPowerOn (columnFive ++ commandByte 0xE0 ∷ twoWrites a b ++ commandByte 0xEE ∷ []) .registers .column ≡ 5)
+      × (fromPowerOn (columnFive ++ twoWrites a b) .registers .column ≡ 7)
   -- 7. 81, data 00: 6; then C5: contrast 5.
   pub sample7 : (numberFor (dataWritten 0x00) (fromPowerOn (commands (0x81 ∷ []))) ≡ 6) × (fromPowerOn (commandByte 0x81 ∷ dataWritten 0x00 ∷ commandByte 0xC5 ∷ []) .registers .contrast ≡ 5)
   -- 8. D3 40: 5; then 3F: offset 63.

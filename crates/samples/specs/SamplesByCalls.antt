@@ -45,7 +45,8 @@ pub record SamplesByCalls : Type 0 where
   -- 1. Data 03: memory byte 0 is 03, column 1.
   pub sample1 : (memoryByte 0 (left (dataWritten 0x03 ∷ [])) ≡ 0x03) × (register column (left (dataWritten 0x03 ∷ [])) ≡ 1)
   -- 2. Commands 03 18 give column 131; data AA goes to byte 131, column 0, page 0.
-  pub sample2 : (register column (left toLastColumn) ≡ 131) × (memoryByte 131 (left (toLastColumn ++ dataWritten 0xAA ∷ [])) ≡ 0xAA) × (register column (left (toLastColumn ++ dataWritten 0xAA ∷ [])) ≡ 0) × (register page (left (toLastColumn ++ dataWritten 0xAA ∷ [])) ≡ 0)
+  pub sample2 : (register column (left toLastColumn) ≡ 131) × (memoryByte 131 (left (toLastColumn ++ dataWritten 0xAA ∷ [])) ≡ 0xAA)
+      × (register column (left (toLastColumn ++ dataWritten 0xAA ∷ [])) ≡ 0) × (register page (left (toLastColumn ++ dataWritten 0xAA ∷ [])) ≡ 0)
   -- 3. Commands 0F 18 give column 143; data AA: 7.
   pub sample3 : (register column (left (commands (0x0F ∷ 0x18 ∷ []))) ≡ 143) × (answerTo (dataWritten 0xAA) (left (commands (0x0F ∷ 0x18 ∷ []))) ≡ 7)
   -- 4. B8 taken; B9: 4.
@@ -53,7 +54,8 @@ pub record SamplesByCalls : Type 0 where
   -- 5. B8, data FF: byte 1,056 is 01.
   pub sample5 : memoryByte 1056 (left (commandByte 0xB8 ∷ dataWritten 0xFF ∷ [])) ≡ 0x01
   -- 6. Column 5, E0, two writes, EE: column 5. Without E0 and EE: 7.
-  pub sample6 : (a b : ℕ) → a < 256 → b < 256 → (register column (left (columnFive ++ commandByte 0xE0 ∷ twoWrites a b ++ commandByte 0xEE ∷ [])) ≡ 5) × (register column (left (columnFive ++ twoWrites a b)) ≡ 7)
+  pub sample6 : (a b : ℕ) → a < 256 → b < 256 → (register column (left (columnFive ++ commandByte 0xE0 ∷ twoWrites a b ++ commandByte 0xEE ∷ [])) ≡ 5)
+      × (register column (left (columnFive ++ twoWrites a b)) ≡ 7)
   -- 7. 81, data 00: 6; then C5: contrast 5.
   pub sample7 : (answerTo (dataWritten 0x00) (left (commands (0x81 ∷ []))) ≡ 6) × (register contrast (left (commandByte 0x81 ∷ dataWritten 0x00 ∷ commandByte 0xC5 ∷ [])) ≡ 5)
   -- 8. D3 40: 5; then 3F: offset 63.

@@ -49,10 +49,12 @@ pub record AnyMachine {S E : Type 0} (machine : Machine S E) : Type 1 where
   -- It ends in one of four ways, and no other.
   pub ends : Sound machine → (trace : List ℕ) (s : S) (p : Played S) → play machine (split trace) s ≡ p ↔ EndsAs machine trace s p
   -- Where all is taken, the offset is the trace's length and the count is of all its records.
-  pub whole : Sound machine → (trace : List ℕ) (s : S) → play machine (split trace) s .number ≡ taken → (play machine (split trace) s .offset ≡ length trace) × (play machine (split trace) s .count ≡ recordsIn (split trace))
+  pub whole : Sound machine → (trace : List ℕ) (s : S) → play machine (split trace) s .number ≡ taken
+      → (play machine (split trace) s .offset ≡ length trace) × (play machine (split trace) s .count ≡ recordsIn (split trace))
   -- Whole records followed by more: `a ++ b` is `a`, then `b` from what it left, with offset and count added.
   pub joined : Sound machine → (a b : List ℕ) (s : S) → play machine (split a) s .number ≡ taken
       → play machine (split (a ++ b)) s ≡ further (play machine (split a) s .offset) (play machine (split a) s .count) (play machine (split b) (play machine (split a) s .state))
   -- What holds of the state, and is kept by each event that a trace whose bytes have a property can bring, holds of the state that is left.
-  pub kept : (R : ℕ → Type 0) (P : S → Type 0) (Q : E → Type 0) → ((kind : ℕ) (payload : List ℕ) → All R payload → Gives (All Q) (machine .events kind payload)) → ((event : E) (s : S) → Q event → P s → Gives P (machine .step event s))
+  pub kept : (R : ℕ → Type 0) (P : S → Type 0) (Q : E → Type 0) → ((kind : ℕ) (payload : List ℕ) → All R payload → Gives (All Q) (machine .events kind payload))
+      → ((event : E) (s : S) → Q event → P s → Gives P (machine .step event s))
       → (trace : List ℕ) (s : S) → All R trace → P s → P (play machine (split trace) s .state)

@@ -37,12 +37,14 @@ pub record RunLaws (state memory : List ℕ) : Type 0 where
   -- It is what the chip's steps give one by one from the image's registers, up to the first refused one; the image of the registers that are left is stored.
   pub bySteps : Accepted state memory → (trace : List ℕ) → run state memory trace ≡ ranOf (oneByOne theChip (scriptFrom theChip (split trace) 0) (chipOf (registersOf state) memory)) state
   -- Demand 1: a run stops at its first refused event, at its byte and with the count of the records before its own. The event has changed nothing: what the events before it left stands.
-  pub firstRefused : Accepted state memory → (trace : List ℕ) → Bytes trace → (before : List (Placed Recorded)) (p : Placed Recorded) (rest : List (Placed Recorded)) → eventsIn trace ≡ before ++ p ∷ rest → EachTaken before state memory → metAfter before p state memory ≢ taken
+  pub firstRefused : Accepted state memory → (trace : List ℕ) → Bytes trace → (before : List (Placed Recorded)) (p : Placed Recorded) (rest : List (Placed Recorded))
+      → eventsIn trace ≡ before ++ p ∷ rest → EachTaken before state memory → metAfter before p state memory ≢ taken
       → run state memory trace ≡ ran (stopOf (metAfter before p state memory) (p .offset) (p .before)) (leftBy before state memory .state) (leftBy before state memory .memory)
   -- An empty trace is taken, with offset 0, count 0 and nothing changed.
   pub empty : Accepted state memory → run state memory [] ≡ ran (stopOf taken 0 0) state memory
   -- Whole records followed by more: where `a` is taken, `a ++ b` is `a`, then `b` from what it left, with offset and count added.
-  pub joined : (a b : List ℕ) → Bytes a → run state memory a .stop .number ≡ taken → run state memory (a ++ b) ≡ runFurther (run state memory a .stop) (run (run state memory a .state) (run state memory a .memory) b)
+  pub joined : (a b : List ℕ) → Bytes a → run state memory a .stop .number ≡ taken
+      → run state memory (a ++ b) ≡ runFurther (run state memory a .stop) (run (run state memory a .state) (run state memory a .memory) b)
   -- Where all is taken, the offset is the trace's length and the count is of all its records.
   pub whole : (trace : List ℕ) → run state memory trace .stop .number ≡ taken → (run state memory trace .stop .offset ≡ length trace) × (run state memory trace .stop .count ≡ recordsIn (split trace))
   -- A legal image stays legal.

@@ -35,7 +35,8 @@ onto (r then rest) more = r then onto rest more
 
 pub record SplitLaws : Type 0 where
   -- The split undoes the writing of records: one written as document 01 says, followed by any bytes, is that record and the split of those bytes.
-  pub written : (kind : ℕ) (payload rest : List ℕ) → split (recordBytes kind payload ++ rest) ≡ (record { kind = kind; payload = payload; place = 0 } then traceFurther (headerSize + length payload) (split rest))
+  pub written : (kind : ℕ) (payload rest : List ℕ)
+      → split (recordBytes kind payload ++ rest) ≡ (record { kind = kind; payload = payload; place = 0 } then traceFurther (headerSize + length payload) (split rest))
   -- Whole records end at the trace's length.
   pub ends : (trace : List ℕ) → Ends (split trace) → endOf (split trace) ≡ length trace
   -- Whole records followed by more are these records, and then those of what follows.
