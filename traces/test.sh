@@ -283,6 +283,11 @@ check 'typed.py: a trace by itself' [ -n "$(line_of 'refused 4 at 8')" ]
 rm "$own/mine.trace"
 typed "$own/mine.trace"
 check 'typed.py: no such trace: status 2' status_is 2
+# More than a pipe holds, to a tool that reads none of it.
+printf 'write 00 x 65535\nwrite 00 x 65535\n' > "$own/long.txt"
+ran env SSD1815B_TOOL=true "$copy/traces/typed.py" "$own/long.txt"
+check 'typed.py: a tool that ends before it has read all: its status' status_is 0
+rm "$own/long.txt"
 ran env -u SSD1815B_TOOL PATH=/usr/bin:/bin "$copy/traces/typed.py" "$own/site7.txt"
 check 'typed.py: no tool: status 2' status_is 2
 # shellcheck disable=SC2016

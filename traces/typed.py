@@ -112,8 +112,10 @@ def run(command, options, path):
     lines = lines_typed(path) if typed else lines_behind(path)
     source = path.with_suffix(".txt")
     output = None if command in TOLD_ON_STANDARD_ERROR else subprocess.PIPE
-    done = subprocess.run([*tool(), command, *options, "-" if typed else str(path)], input=make.trace(lines),
+    done = subprocess.run([*tool(), command, *options, "-" if typed else str(path)], input=make.trace(lines) if typed else b"",
                           stdout=output, stderr=subprocess.PIPE, check=False)
+    # From here on a reader that has seen enough ends this; a tool that ends before it has read all does not.
+    signal.signal(signal.SIGPIPE, signal.SIG_DFL)
     sys.stderr.buffer.write(told(done.stderr, source, lines))
     sys.stdout.buffer.write(told(done.stdout or b"", source, lines))
     sys.stdout.flush()
@@ -132,7 +134,6 @@ def main(arguments):
 
 
 if __name__ == "__main__":
-    signal.signal(signal.SIGPIPE, signal.SIG_DFL)
     try:
         sys.exit(main(sys.argv[1:]))
     except OSError as failure:
