@@ -54,7 +54,7 @@ pub record AnyMachine {S E : Type 0} (machine : Machine S E) : Type 1 where
   -- Whole records followed by more: `a ++ b` is `a`, then `b` from what it left, with offset and count added.
   pub joined : Sound machine → (a b : List ℕ) (s : S) → play machine (split a) s .number ≡ taken
       → play machine (split (a ++ b)) s ≡ further (play machine (split a) s .offset) (play machine (split a) s .count) (play machine (split b) (play machine (split a) s .state))
-  -- What holds of the state, and is kept by each event that a trace whose bytes have a property can bring, holds of the state that is left.
+  -- What holds of the state (P) and is kept by each event (Q) that a trace whose bytes have a property (R) can bring, holds of the state that is left.
   pub kept : (R : ℕ → Type 0) (P : S → Type 0) (Q : E → Type 0) → ((kind : ℕ) (payload : List ℕ) → All R payload → Gives (All Q) (machine .events kind payload))
       → ((event : E) (s : S) → Q event → P s → Gives P (machine .step event s))
       → (trace : List ℕ) (s : S) → All R trace → P s → P (play machine (split trace) s .state)
