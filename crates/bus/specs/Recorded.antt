@@ -14,12 +14,14 @@ pub data Recorded : Type 0 where
   event : Event → Recorded
   readAs : ℕ → Recorded
 
+-- A command byte, and a data byte written, as recorded.
 abbrev pub recordedCommand : ℕ → Recorded
 recordedCommand byte = event (commandByte byte)
 
 abbrev pub recordedWrite : ℕ → Recorded
 recordedWrite byte = event (dataWritten byte)
 
+-- The chip with these registers and this memory.
 abbrev pub chipOf : Registers → List ℕ → Chip
 chipOf r left = record { registers = r; memory = left }
 

@@ -11,7 +11,7 @@ use constants::refusal::TAKEN;
 use constants::refusal::TOO_SHORT;
 use constants::sizes::MEMORY_SIZE;
 
-// Puts the power-on image into the state and zeros into the memory, or refuses 1.
+// Puts the image of the registers at the start into the state and zeros into the memory, or refuses 1.
 pub fn start(state: &mut [u8], memory: &mut [u8]) -> u8
     ensures { λ r. ⌜ started r (now (state .exit)) (now (memory .exit)) ≡ startOf (now (state .entry)) (now (memory .entry)) ⌝ }
 {

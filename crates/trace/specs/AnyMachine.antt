@@ -8,6 +8,7 @@ use lib.ListN.{length, take, drop}
 use Rattle.constants.specs.Numbers.{taken, headerCut}
 use Rattle.constants.specs.Sizes.{headerSize}
 use Rattle.bus.specs.Bytes.{All}
+use Rattle.bus.specs.StretchLaws.{NeverZero}
 use Rattle.trace.specs.Records.{kindOf, payloadOf, whole, CutShort, split, recordsIn}
 use Rattle.trace.specs.Play.{Result, refuses, gives, Machine, done, Played, played, playEvents, play}
 use Rattle.trace.specs.OneByOne.{scriptFrom, oneByOne}
@@ -15,7 +16,7 @@ use Rattle.trace.specs.OneByOne.{scriptFrom, oneByOne}
 -- A machine that refuses with no 0, which is the number of what is taken.
 pub record Sound {S E : Type 0} (machine : Machine S E) : Type 0 where
   pub events : (kind : ℕ) (payload : List ℕ) (number : ℕ) → machine .events kind payload ≡ refuses number → number ≡ taken → ⊥
-  pub step : (event : E) (s : S) (number : ℕ) → machine .step event s ≡ refuses number → number ≡ taken → ⊥
+  pub step : NeverZero (machine .step)
 
 -- What is played from an offset on, after so many records: offset and count are added.
 abbrev pub further : {S : Type 0} → ℕ → ℕ → Played S → Played S

@@ -24,7 +24,8 @@ use Rattle.framelisting.specs.Decimal.{digits, decimal}
 use Rattle.framelisting.specs.Runs.{lit, anyLit, leading, runsFrom, runs}
 use Rattle.framelisting.specs.Text.{runText, runsText, line, rowOf, lines, frameText, refusedText, listingOf}
 use Rattle.tracelisting.specs.TraceListing.{ranFromStart, frameAfter, listingOfTrace, textFor}
-use Rattle.tracelisting.specs.Sample.{ownTrace, ownText, OwnSample}
+use Rattle.tracelisting.specs.Sample.{ownText, OwnSample}
+use Rattle.trace.specs.Samples.{own}
 
 abbrev ownRan : Ran
 ownRan = ran (stopOf 0 11 2) (imageOf (powerOn with on ≔ 1 with column ≔ 2)) (set (set (replicate memorySize 0) 0 0x03) 1 0x01)
@@ -32,7 +33,7 @@ ownRan = ran (stopOf 0 11 2) (imageOf (powerOn with on ≔ 1 with column ≔ 2))
 abbrev ownFrame : List ℕ
 ownFrame = set (set (set (replicate frameSize 0) 0 1) 1 1) width 1
 
-runs-so : ranFromStart ownTrace ≡ ownRan
+runs-so : ranFromStart own ≡ ownRan
 unfolding powerOn largestValues run runOn ranOf asked short legal within awaitedCodes stored split splitFrom playFrom playRecord playEvents eventsOf replay happened step command obeyed write written access kept onward commandOf commandBy meaningOf table ranFromStart
 runs-so = refl
 
