@@ -103,7 +103,7 @@ fn address(page: u8, column: u8) -> usize
 }
 
 // What the memory keeps of a byte: on page 8 its bit 0.
-fn kept(page: u8, byte: u8) -> u8
+pub fn kept(page: u8, byte: u8) -> u8
     ensures { λ r. ⌜ r ≡ kept page byte ⌝ }
 {
     if page == ICON_PAGE { byte % 2 } else { byte }

@@ -1,4 +1,4 @@
--- Document 01, "Numbers given": each number by name.
+-- Document 01, "Numbers given", and the refusals of document 02: each number by name.
 use Prim.Native.Nat.{ℕ}
 
 abbrev pub taken : ℕ
@@ -43,3 +43,11 @@ kindUnknown = 9
 -- a compared read differs; that read has not happened
 abbrev pub readDiffers : ℕ
 readDiffers = 10
+
+-- a list buffer is too small for all entries
+abbrev pub listTooSmall : ℕ
+listTooSmall = 11
+
+-- a byte of a compared frame is above 1
+abbrev pub frameByteAbove : ℕ
+frameByteAbove = 12

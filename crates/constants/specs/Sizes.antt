@@ -1,4 +1,4 @@
--- The sizes of document 01.
+-- The sizes of documents 01 and 02.
 use Prim.Native.Nat.{ℕ, _+_, _*_}
 
 -- columns of the display memory, and of each row of the frame
@@ -48,3 +48,19 @@ longestTrace = 65536
 -- bytes of the longest listing: a buffer of that length is enough for any
 abbrev pub longestListing : ℕ
 longestListing = 27408
+
+-- bytes of an entry in the list of differing runs of two frames
+abbrev pub frameEntrySize : ℕ
+frameEntrySize = 5
+
+-- bytes of an entry in the list of differing bytes of two memories
+abbrev pub memoryEntrySize : ℕ
+memoryEntrySize = 4
+
+-- bytes of the longest list of differing runs, 42,900: a buffer of that length is enough for any
+abbrev pub longestFrameList : ℕ
+longestFrameList = frameSize * frameEntrySize
+
+-- bytes of the longest list of differing bytes, 4,752
+abbrev pub longestMemoryList : ℕ
+longestMemoryList = memorySize * memoryEntrySize

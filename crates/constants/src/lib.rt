@@ -1,3 +1,3 @@
-// The sizes and the refusal numbers of document 01, each named once.
+// The sizes and the refusal numbers of documents 01 and 02, each named once.
 pub mod refusal;
 pub mod sizes;

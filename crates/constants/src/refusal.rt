@@ -1,4 +1,4 @@
-// Document 01, "Numbers given": each number by name.
+// Document 01, "Numbers given", and the refusals of document 02: each number by name.
 
 pub const TAKEN: u8 = 0;
 // A lent state, memory or frame is too short.
@@ -21,3 +21,7 @@ pub const HEADER_CUT: u8 = 8;
 pub const KIND_UNKNOWN: u8 = 9;
 // A compared read differs; that read has not happened.
 pub const READ_DIFFERS: u8 = 10;
+// A list buffer is too small for all entries.
+pub const LIST_TOO_SMALL: u8 = 11;
+// A byte of a compared frame is above 1.
+pub const FRAME_BYTE_ABOVE: u8 = 12;

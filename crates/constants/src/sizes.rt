@@ -1,4 +1,4 @@
-// The sizes of document 01.
+// The sizes of documents 01 and 02.
 
 // Columns of the display memory, bytes of a page, and places of each row of the frame.
 pub const WIDTH: usize = 132;
@@ -24,3 +24,11 @@ pub const HEADER_SIZE: usize = 4;
 pub const LONGEST_TRACE: usize = 65536;
 // Bytes of the longest listing: a buffer of that length is enough for any.
 pub const LONGEST_LISTING: usize = 27408;
+// Bytes of an entry in the list of differing runs of two frames.
+pub const FRAME_ENTRY_SIZE: usize = 5;
+// Bytes of an entry in the list of differing bytes of two memories.
+pub const MEMORY_ENTRY_SIZE: usize = 4;
+// Bytes of the longest list of differing runs: a buffer of that length is enough for any.
+pub const LONGEST_FRAME_LIST: usize = 42900;
+// Bytes of the longest list of differing bytes.
+pub const LONGEST_MEMORY_LIST: usize = 4752;

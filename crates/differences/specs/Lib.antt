@@ -1,0 +1,26 @@
+-- what is found row by row
+pub mod ByRows
+-- the differing runs of two frames
+pub mod Runs
+-- the differing bytes of two memories
+pub mod Bytes
+-- an entry as bytes
+pub mod Entries
+-- the whole outcome of each call
+pub mod Compare
+-- how the code's own functions put an entry
+pub mod Put
+-- lists in order, and one of a list
+pub mod InOrder
+-- the order's rule for frames, and that the runs are the only list it allows
+pub mod FrameRule
+-- the same for memories
+pub mod MemoryRule
+-- what is listed, put into the first, gives the second
+pub mod PutBack
+-- each number exactly when, and how large the buffer must be
+pub mod Given
+-- what drawing leaves never meets 12
+pub mod DrawnFrames
+-- one result for each call's statement
+pub mod Settled

@@ -1,0 +1,89 @@
+// Where two frames differ.
+ghost use mathlib.Core.Path.{_≡_};
+ghost use Prim.Native.Nat.{_≤_};
+ghost use lib.ListN.{length, take};
+ghost use Rattle.constants.specs.Sizes.{frameSize, frameEntrySize};
+ghost use Rattle.differences.specs.Runs.{runsOf};
+ghost use Rattle.differences.specs.Entries.{runEntry};
+ghost use Rattle.differences.specs.Put.{Put};
+ghost use Rattle.differences.specs.Compare.{outcome, listed, anyAbove, compareFrames};
+use crate::compared::Compared;
+use crate::row::put_row;
+use constants::refusal::FRAME_BYTE_ABOVE;
+use constants::refusal::LIST_TOO_SMALL;
+use constants::refusal::TOO_SHORT;
+use constants::sizes::FRAME_ENTRY_SIZE;
+use constants::sizes::FRAME_ROWS;
+use constants::sizes::FRAME_SIZE;
+use constants::sizes::LONGEST_FRAME_LIST;
+use constants::sizes::WIDTH;
+
+// Lists each run of differing places of two frames into a lent buffer, or refuses and writes nothing.
+pub fn compare_frames(first: &[u8], second: &[u8], list: &mut [u8]) -> Compared
+    ensures { λ r. ⌜ outcome r (now (list .exit)) ≡ compareFrames (now (first .entry)) (now (second .entry)) (now (list .entry)) ⌝ }
+{
+    if first.len() < FRAME_SIZE {
+        return Compared::Refused(TOO_SHORT);
+    }
+    if second.len() < FRAME_SIZE {
+        return Compared::Refused(TOO_SHORT);
+    }
+    if any_above(first) {
+        return Compared::Refused(FRAME_BYTE_ABOVE);
+    }
+    if any_above(second) {
+        return Compared::Refused(FRAME_BYTE_ABOVE);
+    }
+    list_runs(first, second, list)
+}
+
+// Lists the runs where they all fit. A buffer that holds any list is written at once; another is measured first.
+fn list_runs(first: &[u8], second: &[u8], list: &mut [u8]) -> Compared
+    requires { ⌜ (frameSize ≤ length (now first)) × (frameSize ≤ length (now second)) ⌝ }
+    ensures { λ r. ⌜ outcome r (now (list .exit)) ≡ listed runEntry (runsOf (now (first .entry)) (now (second .entry))) (now (list .entry)) ⌝ }
+{
+    if LONGEST_FRAME_LIST <= list.len() {
+        let count = put_rows(list, first, second);
+        return Compared::Listed(count);
+    }
+    let needed = put_rows(&mut list[..0], first, second);
+    if list.len() < needed * FRAME_ENTRY_SIZE {
+        return Compared::Refused(LIST_TOO_SMALL);
+    }
+    put_rows(list, first, second);
+    Compared::Listed(needed)
+}
+
+// Whether one of a frame's bytes is above 1.
+fn any_above(frame: &[u8]) -> bool
+    requires { ⌜ frameSize ≤ length (now frame) ⌝ }
+    ensures { λ r. ⌜ r ≡ anyAbove (take frameSize (now (frame .entry))) ⌝ }
+{
+    let mut largest = 0;
+    let mut i = 0;
+    while i < FRAME_SIZE {
+        if largest < frame[i] {
+            largest = frame[i];
+            i += 1;
+        } else {
+            i += 1;
+        }
+    }
+    1 < largest
+}
+
+// Puts the runs of the 65 rows.
+fn put_rows(list: &mut [u8], first: &[u8], second: &[u8]) -> usize
+    requires { ⌜ (frameSize ≤ length (now first)) × (frameSize ≤ length (now second)) ⌝ }
+    ensures { λ r. ⌜ Put frameEntrySize runEntry (now (list .entry)) 0 (runsOf (now (first .entry)) (now (second .entry))) r (now (list .exit)) ⌝ }
+{
+    let mut next = 0;
+    let mut p = 0;
+    while p < FRAME_ROWS {
+        let start = p * WIDTH;
+        let end = start + WIDTH;
+        next = put_row(list, next, p, &first[start..end], &second[start..end]);
+        p += 1;
+    }
+    next
+}

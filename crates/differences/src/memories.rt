@@ -1,0 +1,64 @@
+// Where two memories differ.
+ghost use mathlib.Core.Path.{_≡_};
+ghost use Prim.Native.Nat.{_≤_};
+ghost use lib.ListN.{length};
+ghost use Rattle.constants.specs.Sizes.{memorySize, memoryEntrySize};
+ghost use Rattle.differences.specs.Bytes.{bytesOf};
+ghost use Rattle.differences.specs.Entries.{byteEntry};
+ghost use Rattle.differences.specs.Put.{Put};
+ghost use Rattle.differences.specs.Compare.{outcome, listed, compareMemories};
+use crate::compared::Compared;
+use crate::page::put_page;
+use constants::refusal::LIST_TOO_SMALL;
+use constants::refusal::TOO_SHORT;
+use constants::sizes::LONGEST_MEMORY_LIST;
+use constants::sizes::MEMORY_ENTRY_SIZE;
+use constants::sizes::MEMORY_SIZE;
+use constants::sizes::PAGES;
+use constants::sizes::WIDTH;
+
+// Lists each differing byte of two memories into a lent buffer, or refuses and writes nothing.
+pub fn compare_memories(first: &[u8], second: &[u8], list: &mut [u8]) -> Compared
+    ensures { λ r. ⌜ outcome r (now (list .exit)) ≡ compareMemories (now (first .entry)) (now (second .entry)) (now (list .entry)) ⌝ }
+{
+    if first.len() < MEMORY_SIZE {
+        return Compared::Refused(TOO_SHORT);
+    }
+    if second.len() < MEMORY_SIZE {
+        return Compared::Refused(TOO_SHORT);
+    }
+    list_bytes(first, second, list)
+}
+
+// Lists the bytes where they all fit. A buffer that holds any list is written at once; another is measured first.
+fn list_bytes(first: &[u8], second: &[u8], list: &mut [u8]) -> Compared
+    requires { ⌜ (memorySize ≤ length (now first)) × (memorySize ≤ length (now second)) ⌝ }
+    ensures { λ r. ⌜ outcome r (now (list .exit)) ≡ listed byteEntry (bytesOf (now (first .entry)) (now (second .entry))) (now (list .entry)) ⌝ }
+{
+    if LONGEST_MEMORY_LIST <= list.len() {
+        let count = put_pages(list, first, second);
+        return Compared::Listed(count);
+    }
+    let needed = put_pages(&mut list[..0], first, second);
+    if list.len() < needed * MEMORY_ENTRY_SIZE {
+        return Compared::Refused(LIST_TOO_SMALL);
+    }
+    put_pages(list, first, second);
+    Compared::Listed(needed)
+}
+
+// Puts the differing bytes of the nine pages.
+fn put_pages(list: &mut [u8], first: &[u8], second: &[u8]) -> usize
+    requires { ⌜ (memorySize ≤ length (now first)) × (memorySize ≤ length (now second)) ⌝ }
+    ensures { λ r. ⌜ Put memoryEntrySize byteEntry (now (list .entry)) 0 (bytesOf (now (first .entry)) (now (second .entry))) r (now (list .exit)) ⌝ }
+{
+    let mut next = 0;
+    let mut page = 0;
+    while page < PAGES {
+        let start = (page as usize) * WIDTH;
+        let end = start + WIDTH;
+        next = put_page(list, next, page, &first[start..end], &second[start..end]);
+        page += 1;
+    }
+    next
+}

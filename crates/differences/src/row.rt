@@ -1,0 +1,81 @@
+// The differing runs of one row.
+ghost use mathlib.Core.Path.{_≡_};
+ghost use mathlib.Core.List.{[], _∷_};
+ghost use Prim.Native.Nat.{_+_, _-_, _≤_, _<_};
+ghost use lib.ListN.{length};
+ghost use Rattle.constants.specs.Sizes.{width, frameRows, frameSize, frameEntrySize};
+ghost use Rattle.differences.specs.Runs.{more, rowRuns};
+ghost use Rattle.differences.specs.Entries.{runEntry};
+ghost use Rattle.differences.specs.Put.{Put, putOne};
+use crate::same::same;
+use constants::sizes::FRAME_ENTRY_SIZE;
+use constants::sizes::WIDTH;
+
+// Puts the runs of row p, left to right; a row that is the same in both frames has none.
+pub fn put_row(list: &mut [u8], at: usize, p: usize, first: &[u8], second: &[u8]) -> usize
+    requires { ⌜ (at + width ≤ frameSize) × (p < frameRows) × (length (now first) ≡ width) × (length (now second) ≡ width) ⌝ }
+    ensures { λ r. ⌜ Put frameEntrySize runEntry (now (list .entry)) at (rowRuns width p (now (first .entry)) (now (second .entry))) r (now (list .exit)) ⌝ }
+{
+    if same(first, second) {
+        return at;
+    }
+    put_runs(list, at, p as u8, first, second)
+}
+
+// Puts the runs of a row: each from the differing place where it begins to its end, and the next from there on.
+fn put_runs(list: &mut [u8], at: usize, p: u8, first: &[u8], second: &[u8]) -> usize
+    requires { ⌜ (at + width ≤ frameSize) × (length (now first) ≡ width) × (length (now second) ≡ width) ⌝ }
+    ensures { λ r. ⌜ Put frameEntrySize runEntry (now (list .entry)) at (rowRuns width p (now (first .entry)) (now (second .entry))) r (now (list .exit)) ⌝ }
+{
+    let mut next = at;
+    let mut x = 0;
+    while x < WIDTH {
+        if first[x] == second[x] {
+            x += 1;
+        } else {
+            let end = run_end(first, second, x);
+            let last = end - 1;
+            put_run(list, next, p, x as u8, last as u8, first[x], second[x]);
+            next += 1;
+            x = end;
+        }
+    }
+    next
+}
+
+// The place after the run that begins at a place.
+fn run_end(first: &[u8], second: &[u8], from: usize) -> usize
+    requires { ⌜ (from < width) × (length (now first) ≡ width) × (length (now second) ≡ width) ⌝ }
+    ensures { λ r. ⌜ r ≡ from + 1 + more (now (first .entry)) (now (second .entry)) (width - (from + 1)) from ⌝ }
+{
+    let was = first[from];
+    let is = second[from];
+    let mut x = from + 1;
+    while x < WIDTH {
+        if first[x] != was {
+            return x;
+        }
+        if second[x] != is {
+            return x;
+        }
+        x += 1;
+    }
+    x
+}
+
+// Puts one run where it fits.
+fn put_run(list: &mut [u8], at: usize, p: u8, first: u8, last: u8, was: u8, is: u8)
+    requires { ⌜ at < frameSize ⌝ }
+    ensures { λ _. ⌜ now (list .exit) ≡ putOne frameEntrySize (now (list .entry)) at (p ∷ first ∷ last ∷ was ∷ is ∷ []) ⌝ }
+{
+    let start = at * FRAME_ENTRY_SIZE;
+    let end = start + FRAME_ENTRY_SIZE;
+    if list.len() < end {
+        return;
+    }
+    list[start] = p;
+    list[start + 1] = first;
+    list[start + 2] = last;
+    list[start + 3] = was;
+    list[start + 4] = is;
+}
