@@ -33,34 +33,33 @@ fn put_runs(list: &mut [u8], at: usize, p: u8, first: &[u8], second: &[u8]) -> u
         if first[x] == second[x] {
             x += 1;
         } else {
-            let end = run_end(first, second, x);
-            let last = end - 1;
+            let last = run_last(first, second, x);
             put_run(list, next, p, x as u8, last as u8, first[x], second[x]);
             next += 1;
-            x = end;
+            x = last + 1;
         }
     }
     next
 }
 
-// The place after the run that begins at a place.
-fn run_end(first: &[u8], second: &[u8], from: usize) -> usize
+// The last place of the run that begins at a place.
+fn run_last(first: &[u8], second: &[u8], from: usize) -> usize
     requires { ⌜ (from < width) × (length (now first) ≡ width) × (length (now second) ≡ width) ⌝ }
-    ensures { λ r. ⌜ r ≡ from + 1 + more (now (first .entry)) (now (second .entry)) (width - (from + 1)) from ⌝ }
+    ensures { λ r. ⌜ r ≡ from + more (now (first .entry)) (now (second .entry)) (width - (from + 1)) from ⌝ }
 {
     let was = first[from];
     let is = second[from];
-    let mut x = from + 1;
-    while x < WIDTH {
-        if first[x] != was {
-            return x;
+    let mut last = from;
+    while last + 1 < WIDTH {
+        if first[last + 1] != was {
+            return last;
         }
-        if second[x] != is {
-            return x;
+        if second[last + 1] != is {
+            return last;
         }
-        x += 1;
+        last += 1;
     }
-    x
+    last
 }
 
 // Puts one run where it fits.

@@ -1,0 +1,172 @@
+-- A row walked from left to right: what the place under the walk says of the runs from there on.
+-- Assumes nothing.
+use Prim.Native.Nat.{ℕ, zero, suc, _+_, _-_, _≤_, _<_}
+use mathlib.Core.Path.{_≡_, refl, sym, _∙_, ap}
+use mathlib.Core.Bool.{Bool, true, false, _&&_, not, cond, true≢false}
+use mathlib.Core.List.{List, [], _∷_}
+use native.Mathlib.Nat.{not-suc-le-zero, add-zero, add-suc, suc-add}
+use native.Mathlib.Numerals.{add-one}
+use native.Mathlib.Omega.{arith}
+use borrow.Author.Tests.{eqb-true, eq-eqb, ne-eqb}
+use lib.Dec.{eqb}
+use lib.ListN.{length, getD}
+use Rattle.differences.specs.Runs.{Run, differs, alike, goesOn, begins, more, runAt, runsFrom}
+
+module _ (p : ℕ) (a b : List ℕ) where
+  -- a place that is the same in both begins no run
+  none-here : (n x : ℕ) → getD a x 0 ≡ getD b x 0 → runsFrom p a b (suc n) x ≡ runsFrom p a b n (suc x)
+  unfolding runsFrom begins
+  none-here n x e = rw (eq-eqb (getD a x 0) (getD b x 0) e)
+
+  -- a differing place that does not go on begins one
+  one-here : (n x : ℕ) → (getD a x 0 ≡ getD b x 0 → ⊥) → goesOn a b x ≡ false → runsFrom p a b (suc n) x ≡ runAt p a b n x ∷ runsFrom p a b n (suc x)
+  unfolding runsFrom begins
+  one-here n x d e = rw (ne-eqb (getD a x 0) (getD b x 0) d, e)
+
+  -- a place that goes on begins none
+  goes-on : (n x : ℕ) → alike a b x ≡ true → runsFrom p a b (suc n) (suc x) ≡ runsFrom p a b n (suc (suc x))
+  unfolding runsFrom begins goesOn
+  goes-on n x e = by (eqb (getD a (suc x) 0) (getD b (suc x) 0))
+    where
+      rest : List Run
+      rest = runsFrom p a b n (suc (suc x))
+
+      by : (t : Bool) → cond (not t && not (alike a b x)) (runAt p a b n (suc x) ∷ rest) rest ≡ rest
+      by true = refl
+      by false = rw e
+
+  -- the places that go on with a place begin none
+  pub passed-over : (n x : ℕ) → runsFrom p a b n (suc x) ≡ runsFrom p a b (n - more a b n x) (suc x + more a b n x)
+  unfolding more
+  passed-over zero x = rw add-zero
+  passed-over (suc n) x = by (alike a b x) refl (passed-over n (suc x))
+    where
+      k : ℕ
+      k = more a b n (suc x)
+
+      by : (t : Bool) → alike a b x ≡ t → runsFrom p a b n (suc (suc x)) ≡ runsFrom p a b (n - k) (suc (suc x) + k) → runsFrom p a b (suc n) (suc x) ≡ runsFrom p a b (suc n - cond t (suc k) 0) (suc x + cond t (suc k) 0)
+      by true e later =
+          let f : suc (suc x) + k ≡ suc x + suc k = omega arith in
+          let g : n - k ≡ suc n - suc k = omega arith in
+          goes-on n x e ∙ later ∙ rw (f, g)
+      by false e later =
+          let g : suc n - 0 ≡ suc n = omega arith in
+          rw (add-zero, g)
+
+-- no more places go on than there are
+pub more-most : (a b : List ℕ) (n x : ℕ) → more a b n x ≤ n
+unfolding more
+more-most a b zero x = omega arith
+more-most a b (suc n) x = by (alike a b x) (more-most a b n (suc x))
+  where
+    by : (t : Bool) → more a b n (suc x) ≤ n → cond t (suc (more a b n (suc x))) 0 ≤ suc n
+    by true h = omega (arith, h)
+    by false h = omega arith
+
+-- the place after those that go on does not
+pub more-ends : (a b : List ℕ) (n x : ℕ) → more a b n x < n → alike a b (x + more a b n x) ≡ false
+unfolding more
+more-ends a b zero x h = absurd (not-suc-le-zero h)
+more-ends a b (suc n) x h = by (alike a b x) refl (more-ends a b n (suc x)) h
+  where
+    k : ℕ
+    k = more a b n (suc x)
+
+    by : (t : Bool) → alike a b x ≡ t → (k < n → alike a b (suc x + k) ≡ false) → cond t (suc k) 0 < suc n → alike a b (x + cond t (suc k) 0) ≡ false
+    by true e later h = rw (add-suc, ← suc-add) (later (omega (arith, h)))
+    by false e later h = rw add-zero e
+
+-- the next place goes on, or does not, in either frame
+pub more-on : (a b : List ℕ) (w x : ℕ) → x + 1 < w → getD a (x + 1) 0 ≡ getD a x 0 → getD b (x + 1) 0 ≡ getD b x 0 → more a b (w - (x + 1)) x ≡ suc (more a b (w - (x + 1 + 1)) (x + 1))
+unfolding more alike
+more-on a b w x h e f =
+    let g : w - (x + 1) ≡ suc (w - (x + 1 + 1)) = omega arith in
+    rw (g, ← add-one x, eq-eqb (getD a (x + 1) 0) (getD a x 0) e, eq-eqb (getD b (x + 1) 0) (getD b x 0) f)
+
+pub more-first : (a b : List ℕ) (w x : ℕ) → x + 1 < w → (getD a (x + 1) 0 ≡ getD a x 0 → ⊥) → more a b (w - (x + 1)) x ≡ 0
+unfolding more alike
+more-first a b w x h d =
+    let g : w - (x + 1) ≡ suc (w - (x + 1 + 1)) = omega arith in
+    rw (g, ← add-one x, ne-eqb (getD a (x + 1) 0) (getD a x 0) d)
+
+pub more-second : (a b : List ℕ) (w x : ℕ) → x + 1 < w → (getD b (x + 1) 0 ≡ getD b x 0 → ⊥) → more a b (w - (x + 1)) x ≡ 0
+unfolding more alike
+more-second a b w x h d =
+    let g : w - (x + 1) ≡ suc (w - (x + 1 + 1)) = omega arith in
+    rw (g, ← add-one x, ne-eqb (getD b (x + 1) 0) (getD b x 0) d) (by (eqb (getD a (x + 1) 0) (getD a x 0)))
+  where
+    by : (t : Bool) → cond (t && false) (suc (more a b (w - (x + 1 + 1)) (x + 1))) 0 ≡ 0
+    by true = refl
+    by false = refl
+
+pub more-end : (a b : List ℕ) (w x : ℕ) → w ≤ x + 1 → more a b (w - (x + 1)) x ≡ 0
+unfolding more
+more-end a b w x h =
+    let g : w - (x + 1) ≡ 0 = omega arith in
+    rw g
+
+-- A run may begin here: a place that differs does not go on with the one before it.
+abbrev pub Open : ℕ → List ℕ → List ℕ → ℕ → Type 0
+Open w a b x = x < w → (getD a x 0 ≡ getD b x 0 → ⊥) → goesOn a b x ≡ false
+
+-- at the first place,
+pub open-first : (w : ℕ) (a b : List ℕ) → Open w a b 0
+unfolding goesOn
+open-first w a b h d = refl
+
+-- after a place that is the same in both,
+pub open-same : (w : ℕ) (a b : List ℕ) (x : ℕ) → getD a x 0 ≡ getD b x 0 → Open w a b (x + 1)
+unfolding goesOn alike
+open-same w a b x e h d = rw (add-one x) (by (eqb (getD a (suc x) 0) (getD a x 0)) refl (eqb (getD b (suc x) 0) (getD b x 0)) refl)
+  where
+    by : (t : Bool) → eqb (getD a (suc x) 0) (getD a x 0) ≡ t → (u : Bool) → eqb (getD b (suc x) 0) (getD b x 0) ≡ u → (t && u) ≡ false
+    by true m true n = absurd (rw (add-one x) at d (eqb-true _ _ m ∙ e ∙ sym (eqb-true _ _ n)))
+    by true m false n = refl
+    by false m true n = refl
+    by false m false n = refl
+
+-- and after a run
+pub open-after : (w : ℕ) (a b : List ℕ) (x last : ℕ) → x < w → last ≡ x + more a b (w - (x + 1)) x → Open w a b (last + 1)
+unfolding goesOn
+open-after w a b x last l e h d = rw (add-one last, e) (more-ends a b (w - (x + 1)) x (omega (arith, e, h, l)))
+
+-- The runs from x on, of a row of w places: those after it where x is the same in both, the one that begins here where it differs, none at the end.
+pub runs-on : (w p : ℕ) (a b : List ℕ) (x : ℕ) → x < w → getD a x 0 ≡ getD b x 0 → runsFrom p a b (w - x) x ≡ runsFrom p a b (w - (x + 1)) (x + 1)
+runs-on w p a b x h e =
+    let g : w - x ≡ suc (w - (x + 1)) = omega arith in
+    rw g (none-here p a b (w - (x + 1)) x e ∙ rw (add-one x))
+
+pub runs-here : (w p : ℕ) (a b : List ℕ) (x last : ℕ) → x < w → (getD a x 0 ≡ getD b x 0 → ⊥) → Open w a b x → last ≡ x + more a b (w - (x + 1)) x
+    → runsFrom p a b (w - x) x ≡ record { row = p; first = x; last = last; inFirst = getD a x 0; inSecond = getD b x 0 } ∷ runsFrom p a b (w - (last + 1)) (last + 1)
+runs-here w p a b x last h d o e =
+    let k = more a b (w - (x + 1)) x in
+    let g : w - x ≡ suc (w - (x + 1)) = omega arith in
+    let m : w - (x + 1) - k ≡ w - (last + 1) = omega (arith, e) in
+    let n : suc x + k ≡ last + 1 = omega (arith, e) in
+    rw (g, one-here p a b (w - (x + 1)) x d (o h d), passed-over p a b (w - (x + 1)) x, m, n, ← e)
+
+pub runs-end : (w p : ℕ) (a b : List ℕ) (x : ℕ) → w ≤ x → runsFrom p a b (w - x) x ≡ []
+unfolding runsFrom
+runs-end w p a b x h =
+    let g : w - x ≡ 0 = omega arith in
+    rw g
+
+-- rows that are the same have no run
+pub runs-same : (p : ℕ) (a : List ℕ) (n x : ℕ) → runsFrom p a a n x ≡ []
+unfolding runsFrom
+runs-same p a zero x = refl
+runs-same p a (suc n) x = none-here p a a n x refl ∙ runs-same p a n (suc x)
+
+-- no more runs begin than there are places
+pub runs-most : (p : ℕ) (a b : List ℕ) (n x : ℕ) → length (runsFrom p a b n x) ≤ n
+unfolding runsFrom
+runs-most p a b zero x = omega arith
+runs-most p a b (suc n) x = by (begins a b x) (runs-most p a b n (suc x))
+  where
+    by : (t : Bool) → length (runsFrom p a b n (suc x)) ≤ n → length (cond t (runAt p a b n x ∷ runsFrom p a b n (suc x)) (runsFrom p a b n (suc x))) ≤ suc n
+    by true h = omega (arith, h)
+    by false h = omega (arith, h)
+
+-- a run ends within its row
+pub run-within : (w : ℕ) (a b : List ℕ) (x last : ℕ) → x < w → last ≡ x + more a b (w - (x + 1)) x → last < w
+run-within w a b x last h e = omega (arith, e, more-most a b (w - (x + 1)) x)
