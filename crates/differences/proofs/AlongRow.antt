@@ -157,16 +157,6 @@ unfolding runsFrom
 runs-same p a zero x = refl
 runs-same p a (suc n) x = none-here p a a n x refl ∙ runs-same p a n (suc x)
 
--- no more runs begin than there are places
-pub runs-most : (p : ℕ) (a b : List ℕ) (n x : ℕ) → length (runsFrom p a b n x) ≤ n
-unfolding runsFrom
-runs-most p a b zero x = omega arith
-runs-most p a b (suc n) x = by (begins a b x) (runs-most p a b n (suc x))
-  where
-    by : (t : Bool) → length (runsFrom p a b n (suc x)) ≤ n → length (cond t (runAt p a b n x ∷ runsFrom p a b n (suc x)) (runsFrom p a b n (suc x))) ≤ suc n
-    by true h = omega (arith, h)
-    by false h = omega (arith, h)
-
 -- a run ends within its row
 pub run-within : (w : ℕ) (a b : List ℕ) (x last : ℕ) → x < w → last ≡ x + more a b (w - (x + 1)) x → last < w
 run-within w a b x last h e = omega (arith, e, more-most a b (w - (x + 1)) x)

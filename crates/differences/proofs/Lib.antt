@@ -1,3 +1,19 @@
+-- Lists in order, and what is said of all or one of a list.
+pub mod InOrder
+-- Lists of what is found place by place, and row by row.
+pub mod Found
+-- The differing bytes are the only list that the order's rule allows.
+pub mod MemoryRule
+-- How long entries are, where each lies, how many there can be.
+pub mod Entries
+-- A list put into a list buffer, or too long for it.
+pub mod Listed
+-- The ways that a call can go: its number tells the way, and the way what is left.
+pub mod Ways
+-- Each number exactly when, and how large the list buffer must be.
+pub mod Given
+-- What each call states has one result.
+pub mod Settled
 -- For the code: entries put one after the other.
 pub mod PutEntries
 -- For the code: a row walked from left to right.

@@ -4,14 +4,16 @@ use Prim.Native.Nat.{ℕ, suc, _+_, _*_, _≤_, _<_}
 use mathlib.Core.Path.{_≡_, refl, sym, _∙_, ap}
 use mathlib.Core.Bool.{Bool, true, false, cond}
 use mathlib.Core.List.{List, [], _∷_, _++_}
-use native.Mathlib.Nat.{add-zero, add-suc, suc-add}
+use native.Mathlib.Nat.{add-zero, add-suc, suc-add, zero-add, zero-mul}
 use native.Mathlib.Numerals.{add-one}
 use native.Mathlib.Omega.{arith}
 use borrow.Author.Tests.{le-leb, lt-leb}
 use lib.Dec.{leb}
-use lib.ListN.{length, length-append, set}
-use lib.Seq.{sets, length-sets}
+use lib.ListN.{length, length-append, drop, set}
+use lib.Seq.{sets, length-sets, sets-eq}
+use Rattle.differences.specs.Entries.{entries}
 use Rattle.differences.specs.Put.{putOne, putAll, Put}
+use Rattle.differences.proofs.Entries.{entries-length}
 
 -- an entry that fits is stored, another is not
 pub fits : (size : ℕ) (list : List ℕ) (at : ℕ) (bytes : List ℕ) → at * size + size ≤ length list → putOne size list at bytes ≡ sets list (at * size) bytes
@@ -21,6 +23,11 @@ fits size list at bytes h = rw (le-leb (at * size + size) (length list) h)
 pub fits-not : (size : ℕ) (list : List ℕ) (at : ℕ) (bytes : List ℕ) → length list < at * size + size → putOne size list at bytes ≡ list
 unfolding putOne
 fits-not size list at bytes h = rw (lt-leb (at * size + size) (length list) h)
+
+-- two pieces stored one after the other are the two as one piece
+sets-append : (list : List ℕ) (at : ℕ) (p q : List ℕ) → sets list at (p ++ q) ≡ sets (sets list at p) (at + length p) q
+sets-append list at [] q = rw add-zero
+sets-append list at (b ∷ p) q = sets-append (set list at b) (suc at) p q ∙ rw (suc-add, ← add-suc)
 
 -- no buffer changes its length
 pub one-length : (size : ℕ) (list : List ℕ) (at : ℕ) (bytes : List ℕ) → length (putOne size list at bytes) ≡ length list
@@ -80,6 +87,31 @@ module _ {A : Type 0} (size : ℕ) (entry : A → List ℕ) where
   -- where an entry is still to be put, fewer are put than there are
   pub not-all : {list₀ : List ℕ} {at : ℕ} {whole : List A} {list : List ℕ} {next : ℕ} {a : A} {q : List A} → Rest list₀ at whole list next (a ∷ q) → next < at + length whole
   not-all r = omega (arith, r .counted)
+
+-- Entries that are all of one size.
+module _ {A : Type 0} (size : ℕ) (entry : A → List ℕ) (sized : (a : A) → length (entry a) ≡ size) where
+  -- where all fit, they stand one after the other
+  all-fit : (list : List ℕ) (at : ℕ) (found : List A) → (at + length found) * size ≤ length list → putAll size entry list at found ≡ sets list (at * size) (entries entry found)
+  unfolding putAll entries
+  all-fit list at [] h = refl
+  all-fit list at (a ∷ rest) h =
+      let e : suc at * size ≡ at * size + length (entry a) = rw (sized a) (omega arith) in
+      let here : at * size + size ≤ length list = omega (arith, h) in
+      rw (fits size list at (entry a) here) (all-fit (sets list (at * size) (entry a)) (suc at) rest (rw length-sets (omega (arith, h))) ∙ rw e (sym (sets-append list (at * size) (entry a) (entries entry rest))))
+
+  -- from the start of a buffer that has room for them
+  pub at-start : {list : List ℕ} {found : List A} {next : ℕ} {later : List ℕ} → Put size entry list 0 found next later → length found * size ≤ length list → later ≡ entries entry found ++ drop (length (entries entry found)) list
+  at-start {list} {found} {next} {later} f h =
+      let e : length (entries entry found) ≡ length found * size = entries-length size entry sized found in
+      f .stored ∙ all-fit list 0 found (rw zero-add h) ∙ rw zero-mul (sets-eq (entries entry found) list 0 (rw (zero-add, e) h) ∙ rw zero-add)
+
+-- a buffer of which only the first 0 bytes were lent is as it was
+pub unchanged : {A : Type 0} {size : ℕ} {entry : A → List ℕ} {at : ℕ} {found : List A} {next : ℕ} {left : List ℕ} (list : List ℕ) → Put size entry [] at found next left → left ++ list ≡ list
+unchanged {A} {size} {entry} {at} {found} {next} {left} list f = rw (empty left (ap length (f .stored) ∙ all-length size entry [] at found))
+  where
+    empty : (l : List ℕ) → length l ≡ 0 → l ≡ []
+    empty [] e = refl
+    empty (b ∷ l) e = absurd (omega (arith, e))
 
 -- bytes stored one by one are the entry of them
 pub five : (list : List ℕ) (s a b c d e : ℕ) → set (set (set (set (set list s a) (s + 1) b) (s + 2) c) (s + 3) d) (s + 4) e ≡ sets list s (a ∷ b ∷ c ∷ d ∷ e ∷ [])
