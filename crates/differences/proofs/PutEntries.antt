@@ -100,10 +100,10 @@ module _ {A : Type 0} (size : ℕ) (entry : A → List ℕ) (sized : (a : A) →
       rw (fits size list at (entry a) here) (all-fit (sets list (at * size) (entry a)) (suc at) rest (rw length-sets (omega (arith, h))) ∙ rw e (sym (sets-append list (at * size) (entry a) (entries entry rest))))
 
   -- from the start of a buffer that has room for them
-  pub at-start : {list : List ℕ} {found : List A} {next : ℕ} {later : List ℕ} → Put size entry list 0 found next later → length found * size ≤ length list → later ≡ entries entry found ++ drop (length (entries entry found)) list
+  pub at-start : {list : List ℕ} {found : List A} {next : ℕ} {later : List ℕ} → Put size entry list 0 found next later → length found * size ≤ length list → later ≡ entries entry found ++ drop (length found * size) list
   at-start {list} {found} {next} {later} f h =
       let e : length (entries entry found) ≡ length found * size = entries-length size entry sized found in
-      f .stored ∙ all-fit list 0 found (rw zero-add h) ∙ rw zero-mul (sets-eq (entries entry found) list 0 (rw (zero-add, e) h) ∙ rw zero-add)
+      f .stored ∙ all-fit list 0 found (rw zero-add h) ∙ rw zero-mul (sets-eq (entries entry found) list 0 (rw (zero-add, e) h) ∙ rw (zero-add, e))
 
 -- a buffer of which only the first 0 bytes were lent is as it was
 pub unchanged : {A : Type 0} {size : ℕ} {entry : A → List ℕ} {at : ℕ} {found : List A} {next : ℕ} {left : List ℕ} (list : List ℕ) → Put size entry [] at found next left → left ++ list ≡ list

@@ -1,46 +1,69 @@
+-- `differences::frames::compare_frames` meets its contract: what is asked first refuses first.
+-- Assumes nothing.
 use borrow.Author.Needs.{needs}
 use Rattle.differences.proofs.frames.compare_frames.Statement.{statement}
 use Rattle.differences.proofs.frames.compare_frames.Tie as tie
-use Rattle.differences.proofs.frames.compare_frames.Reads as reads
-use Rattle.differences.proofs.frames.compare_frames.Lts as lts
-use Rattle.differences.proofs.frames.any_above.Reads as any-above-reads
-use Rattle.differences.proofs.frames.list_runs.Reads as list-runs-reads
+use mathlib.Core.Path.{_≡_, sym, _∙_}
+use mathlib.Core.Bool.{true, false}
+use mathlib.Core.List.{List}
+use Prim.Native.Nat.{ℕ, _≤_, _<_}
+use native.Mathlib.Omega.{arith}
+use borrow.Author.Tests.{lt-ltb, le-ltb}
+use denote.Ref.{now}
+use lib.ListN.{length, take}
+use Rattle.constants.specs.Sizes.{frameSize}
+use Rattle.differences.specs.Runs.{runsOf}
+use Rattle.differences.specs.Entries.{runEntry}
+use Rattle.differences.specs.Compare.{outcome, listed, anyAbove, compareFrames}
+use Rattle.differences.specs.declared.compared.Compared.{Compared}
 
--- src/frames.rt:26:9
+-- each thing that is asked
+first-short : (f g list : List ℕ) → length f < frameSize → compareFrames f g list ≡ outcome (Compared.Refused 1) list
+unfolding compareFrames
+first-short f g list h = rw (lt-ltb (length f) frameSize h)
+
+second-short : (f g list : List ℕ) → frameSize ≤ length f → length g < frameSize → compareFrames f g list ≡ outcome (Compared.Refused 1) list
+unfolding compareFrames
+second-short f g list h k = rw (le-ltb (length f) frameSize h, lt-ltb (length g) frameSize k)
+
+first-above : (f g list : List ℕ) → frameSize ≤ length f → frameSize ≤ length g → anyAbove (take frameSize f) ≡ true → compareFrames f g list ≡ outcome (Compared.Refused 12) list
+unfolding compareFrames
+first-above f g list h k e = rw (le-ltb (length f) frameSize h, le-ltb (length g) frameSize k, e)
+
+second-above : (f g list : List ℕ) → frameSize ≤ length f → frameSize ≤ length g → anyAbove (take frameSize f) ≡ false → anyAbove (take frameSize g) ≡ true → compareFrames f g list ≡ outcome (Compared.Refused 12) list
+unfolding compareFrames
+second-above f g list h k e d = rw (le-ltb (length f) frameSize h, le-ltb (length g) frameSize k, e, d)
+
+all-in-order : (f g list : List ℕ) → frameSize ≤ length f → frameSize ≤ length g → anyAbove (take frameSize f) ≡ false → anyAbove (take frameSize g) ≡ false → compareFrames f g list ≡ listed runEntry (runsOf f g) list
+unfolding compareFrames
+all-in-order f g list h k e d = rw (le-ltb (length f) frameSize h, le-ltb (length g) frameSize k, e, d)
+
 returns : tie.Need-returns
-returns c = ?
+returns c = sym (first-short _ _ _ (c .if1 .taken))
 
--- src/frames.rt:29:9
 returns-2 : tie.Need-returns-2
-returns-2 c = ?
+returns-2 c = sym (second-short _ _ _ (c .before .if1 .left) (c .if2 .taken))
 
--- src/frames.rt:31:8
 any-above-requires : tie.Need-any-above-requires
 any-above-requires c κs = search needs
 
--- src/frames.rt:32:9
 returns-3 : tie.Need-returns-3
-returns-3 c = ?
+returns-3 c = sym (first-above _ _ _ (c .before .before .before .if1 .left) (c .before .before .if2 .left) (sym (c .before .any-above .ensures) ∙ c .if3 .taken))
 
--- src/frames.rt:34:8
 any-above-requires-2 : tie.Need-any-above-requires-2
 any-above-requires-2 c κs = search needs
 
--- src/frames.rt:35:9
 returns-4 : tie.Need-returns-4
-returns-4 c = ?
+returns-4 c = sym (second-above _ _ _ (c .before .before .before .before .before .if1 .left) (c .before .before .before .before .if2 .left) (sym (c .before .before .before .any-above .ensures) ∙ c .before .before .if3 .left) (sym (c .before .any-above2 .ensures) ∙ c .if4 .taken))
 
--- src/frames.rt:37:5
 list-runs-requires : tie.Need-list-runs-requires
 list-runs-requires c κs = search needs
 
--- src/frames.rt:22:1
 same-length : tie.Need-same-length
 same-length c = search needs
 
--- src/frames.rt:22:1
 returns-5 : tie.Need-returns-5
-returns-5 c = ?
+returns-5 c = c .before .before .list-runs .ensures ∙ sym (all-in-order _ _ _ (c .before .before .before .before .before .before .before .before .before .if1 .left) (c .before .before .before .before .before .before .before .before .if2 .left) (sym (c .before .before .before .before .before .before .before .any-above .ensures) ∙ c .before .before .before .before .before .before .if3 .left) (sym (c .before .before .before .before .before .any-above2 .ensures) ∙ c .before .before .before .before .if4 .left))
 
 pub compare-frames-spec : {M : Type 1} → statement M
 compare-frames-spec =

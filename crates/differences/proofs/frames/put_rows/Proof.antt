@@ -12,7 +12,7 @@ use Rattle.differences.specs.Entries.{runEntry}
 use Rattle.picture.specs.Frame.{rowOf}
 use Rattle.differences.proofs.PutEntries.{Rest, begin, turns, done, rest-length}
 use Rattle.differences.proofs.ByRows.{rows-on, rows-end, part, part-length}
-use Rattle.differences.proofs.AlongRow.{runs-most}
+use Rattle.differences.proofs.Entries.{runs-few}
 
 abbrev Inv-loop : tie.InvT-loop
 Inv-loop list₀ first second next₀ p₀ list next p = (p ≤ frameRows) × (next ≤ p * width) × Rest frameEntrySize runEntry list₀ 0 (runsOf first second) list next (byRows width (rowRuns width) first second (frameRows - p) p)
@@ -68,7 +68,7 @@ loop-again c =
     let g = now (a .second) in
     let put = rw (part f (at .loop .p), part g (at .loop .p)) at (c .before .before .put-row .ensures) in (
       omega arith,
-      omega (arith, put .counted, runs-most (at .loop .p) (rowOf width (at .loop .p) f) (rowOf width (at .loop .p) g) width 0),
+      omega (arith, put .counted, runs-few (at .loop .p) (rowOf width (at .loop .p) f) (rowOf width (at .loop .p) g) width 0),
       turns _ _ (rw (rows-on width (rowRuns width) f g frameRows (at .loop .p) (omega arith)) at (at .loop .inv .2)) put,
     )
 

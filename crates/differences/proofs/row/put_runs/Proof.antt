@@ -9,7 +9,8 @@ use Rattle.constants.specs.Sizes.{width, frameEntrySize}
 use Rattle.differences.specs.Runs.{runsFrom}
 use Rattle.differences.specs.Entries.{runEntry}
 use Rattle.differences.proofs.PutEntries.{Rest, begin, turn, done, rest-length, not-all}
-use Rattle.differences.proofs.AlongRow.{Open, open-first, open-same, open-after, run-within, runs-on, runs-here, runs-end, runs-most}
+use Rattle.differences.proofs.AlongRow.{Open, open-first, open-same, open-after, run-within, runs-on, runs-here, runs-end}
+use Rattle.differences.proofs.Entries.{runs-few}
 
 abbrev Inv-loop : tie.InvT-loop
 Inv-loop list₀ at p first second next₀ x₀ list next x = (x ≤ width) × Open width first second x × Rest frameEntrySize runEntry list₀ at (runsFrom p first second width 0) list next (runsFrom p first second (width - x) x)
@@ -63,7 +64,7 @@ put-run-requires c κs =
     let found = c .before .before .before in
     let start = at .before .before .before .before in
     let a = start .args in
-    omega (arith, start .pre .0, runs-most (a .p) (now (a .first)) (now (a .second)) width 0, not-all _ _ (rw (runs-here width (a .p) (now (a .first)) (now (a .second)) (at .loop .x) (found .run-last .result) (omega arith) (found .before .if1 .left) (at .loop .inv .1) (found .run-last .ensures)) at (at .loop .inv .2)))
+    omega (arith, start .pre .0, runs-few (a .p) (now (a .first)) (now (a .second)) width 0, not-all _ _ (rw (runs-here width (a .p) (now (a .first)) (now (a .second)) (at .loop .x) (found .run-last .result) (omega arith) (found .before .if1 .left) (at .loop .inv .1) (found .run-last .ensures)) at (at .loop .inv .2)))
 
 add-next : tie.Need-add-next Inv-loop μ-loop
 add-next c = 
@@ -71,7 +72,7 @@ add-next c =
     let found = c .before .before .before .before .before .before in
     let start = at .before .before .before .before in
     let a = start .args in
-    omega (arith, start .pre .0, runs-most (a .p) (now (a .first)) (now (a .second)) width 0, not-all _ _ (rw (runs-here width (a .p) (now (a .first)) (now (a .second)) (at .loop .x) (found .run-last .result) (omega arith) (found .before .if1 .left) (at .loop .inv .1) (found .run-last .ensures)) at (at .loop .inv .2)))
+    omega (arith, start .pre .0, runs-few (a .p) (now (a .first)) (now (a .second)) width 0, not-all _ _ (rw (runs-here width (a .p) (now (a .first)) (now (a .second)) (at .loop .x) (found .run-last .result) (omega arith) (found .before .if1 .left) (at .loop .inv .1) (found .run-last .ensures)) at (at .loop .inv .2)))
 
 add-x-2 : tie.Need-add-x-2 Inv-loop μ-loop
 add-x-2 c = 
@@ -87,6 +88,7 @@ loop-less-2 c =
     omega (arith, found .run-last .ensures)
 
 loop-again-2 : tie.Need-loop-again-2 Inv-loop μ-loop
+unfolding runEntry
 loop-again-2 c = 
     let at = c .before .before .before .before .before .before .before .before .before .before .before in
     let found = c .before .before .before .before .before .before in
