@@ -20,3 +20,5 @@ pub mod PutEntries
 pub mod AlongRow
 -- For the code: rows walked one after the other.
 pub mod ByRows
+-- For the code: a page walked column by column.
+pub mod AlongPage

@@ -72,7 +72,7 @@ loop-less : tie.Need-loop-less Inv-loop μ-loop
 loop-less c = omega arith
 
 loop-again : tie.Need-loop-again Inv-loop μ-loop
-loop-again c = 
+loop-again c =
     let at = c .before .before .before .before in
     (omega arith, raise (now (at .before .args .frame)) (at .loop .i) (at .loop .largest) (omega arith) (at .loop .inv .1) (c .before .if1 .taken))
 
@@ -83,12 +83,12 @@ loop-less-2 : tie.Need-loop-less-2 Inv-loop μ-loop
 loop-less-2 c = omega arith
 
 loop-again-2 : tie.Need-loop-again-2 Inv-loop μ-loop
-loop-again-2 c = 
+loop-again-2 c =
     let at = c .before .before .before in
     (omega arith, keep (now (at .before .args .frame)) (at .loop .i) (at .loop .largest) (omega arith) (at .loop .inv .1) (c .if1 .left))
 
 returns : tie.Need-returns Inv-loop μ-loop
-returns c = 
+returns c =
     let e : c .before .loop .i ≡ frameSize = omega arith in
     rw e at (c .before .loop .inv .1)
 

@@ -25,7 +25,7 @@ same-length : tie.Need-same-length
 same-length c = search needs
 
 returns : tie.Need-returns
-returns c = 
+returns c =
     let put = c .before .before .put-rows .ensures in
     let a = c .before .before .before .before .before .before .before .before .args in
     let room : length (runsOf (now (a .first)) (now (a .second))) * frameEntrySize ≤ length (now (a .list)) = omega (arith, runs-at-most width frameRows (now (a .first)) (now (a .second)), c .before .before .before .before .if1 .taken) in
@@ -41,7 +41,7 @@ put-rows-requires-2 : tie.Need-put-rows-requires-2
 put-rows-requires-2 c κs = search needs
 
 mul-if2 : tie.Need-mul-if2
-mul-if2 c = 
+mul-if2 c =
     let a = c .before .before .before .before .before .before .before .before .args in
     omega (arith, c .before .before .put-rows2 .ensures .counted, runs-at-most width frameRows (now (a .first)) (now (a .second)))
 
@@ -49,7 +49,7 @@ same-length-2 : tie.Need-same-length-2
 same-length-2 c = search needs
 
 returns-2 : tie.Need-returns-2
-returns-2 c = 
+returns-2 c =
     let put = c .before .before .before .put-rows2 .ensures in
     let a = c .before .before .before .before .before .before .before .before .before .args in
     let same = unchanged (now (a .list)) put in
@@ -62,7 +62,7 @@ same-length-3 : tie.Need-same-length-3
 same-length-3 c = search needs
 
 returns-3 : tie.Need-returns-3
-returns-3 c = 
+returns-3 c =
     let put = c .before .before .put-rows3 .ensures in
     let measured = c .before .before .before .before .before .before .before .put-rows2 .ensures in
     let a = c .before .before .before .before .before .before .before .before .before .before .before .before .before .args in

@@ -49,7 +49,7 @@ part-put-row-end-2 : tie.Need-part-put-row-end-2 Inv-loop μ-loop
 part-put-row-end-2 c = omega arith
 
 put-row-requires : tie.Need-put-row-requires Inv-loop μ-loop
-put-row-requires c κs = 
+put-row-requires c κs =
     let at = c .before .before .before .before in
     let a = at .before .before .before .before .args in
     (omega arith, omega arith, part-length (now (a .first)) (at .loop .p) (omega arith), part-length (now (a .second)) (at .loop .p) (omega arith))
@@ -61,7 +61,7 @@ loop-less : tie.Need-loop-less Inv-loop μ-loop
 loop-less c = omega arith
 
 loop-again : tie.Need-loop-again Inv-loop μ-loop
-loop-again c = 
+loop-again c =
     let at = c .before .before .before .before .before .before .before in
     let a = at .before .before .before .before .args in
     let f = now (a .first) in
@@ -76,7 +76,7 @@ same-length : tie.Need-same-length Inv-loop μ-loop
 same-length c = rest-length _ _ (c .before .loop .inv .2)
 
 returns : tie.Need-returns Inv-loop μ-loop
-returns c = 
+returns c =
     let a = c .before .before .before .before .before .args in
     done _ _ (rw (rows-end width (rowRuns width) (now (a .first)) (now (a .second)) frameRows (c .before .loop .p) (c .loop-test .left)) at (c .before .loop .inv .2))
 

@@ -1,29 +1,46 @@
+-- `differences::memories::compare_memories` meets its contract: what is asked first refuses first.
+-- Assumes nothing.
 use borrow.Author.Needs.{needs}
 use Rattle.differences.proofs.memories.compare_memories.Statement.{statement}
 use Rattle.differences.proofs.memories.compare_memories.Tie as tie
-use Rattle.differences.proofs.memories.compare_memories.Reads as reads
-use Rattle.differences.proofs.memories.compare_memories.Lts as lts
-use Rattle.differences.proofs.memories.list_bytes.Reads as list-bytes-reads
+use mathlib.Core.Path.{_≡_, sym, _∙_}
+use mathlib.Core.List.{List}
+use Prim.Native.Nat.{ℕ, _≤_, _<_}
+use borrow.Author.Tests.{lt-ltb, le-ltb}
+use lib.ListN.{length}
+use Rattle.constants.specs.Sizes.{memorySize}
+use Rattle.differences.specs.Bytes.{bytesOf}
+use Rattle.differences.specs.Entries.{byteEntry}
+use Rattle.differences.specs.Compare.{outcome, listed, compareMemories}
+use Rattle.differences.specs.declared.compared.Compared.{Compared}
 
--- src/memories.rt:25:9
+-- each thing that is asked
+first-short : (f g list : List ℕ) → length f < memorySize → compareMemories f g list ≡ outcome (Compared.Refused 1) list
+unfolding compareMemories
+first-short f g list h = rw (lt-ltb (length f) memorySize h)
+
+second-short : (f g list : List ℕ) → memorySize ≤ length f → length g < memorySize → compareMemories f g list ≡ outcome (Compared.Refused 1) list
+unfolding compareMemories
+second-short f g list h k = rw (le-ltb (length f) memorySize h, lt-ltb (length g) memorySize k)
+
+all-in-order : (f g list : List ℕ) → memorySize ≤ length f → memorySize ≤ length g → compareMemories f g list ≡ listed byteEntry (bytesOf f g) list
+unfolding compareMemories
+all-in-order f g list h k = rw (le-ltb (length f) memorySize h, le-ltb (length g) memorySize k)
+
 returns : tie.Need-returns
-returns c = ?
+returns c = sym (first-short _ _ _ (c .if1 .taken))
 
--- src/memories.rt:28:9
 returns-2 : tie.Need-returns-2
-returns-2 c = ?
+returns-2 c = sym (second-short _ _ _ (c .before .if1 .left) (c .if2 .taken))
 
--- src/memories.rt:30:5
 list-bytes-requires : tie.Need-list-bytes-requires
 list-bytes-requires c κs = search needs
 
--- src/memories.rt:21:1
 same-length : tie.Need-same-length
 same-length c = search needs
 
--- src/memories.rt:21:1
 returns-3 : tie.Need-returns-3
-returns-3 c = ?
+returns-3 c = c .before .before .list-bytes .ensures ∙ sym (all-in-order _ _ _ (c .before .before .before .before .before .if1 .left) (c .before .before .before .before .if2 .left))
 
 pub compare-memories-spec : {M : Type 1} → statement M
 compare-memories-spec =

@@ -1,64 +1,58 @@
+-- `differences::page::put_byte` meets its contract: the four bytes where they fit, and nothing where they do not.
+-- Assumes nothing.
 use borrow.Author.Needs.{needs}
 use Rattle.differences.proofs.page.put_byte.Statement.{statement}
 use Rattle.differences.proofs.page.put_byte.Tie as tie
-use Rattle.differences.proofs.page.put_byte.Reads as reads
-use Rattle.differences.proofs.page.put_byte.Lts as lts
+use Prim.Native.Nat.{_*_, _/_, _%_}
+use mathlib.Core.Path.{sym, _∙_}
+use native.Mathlib.Omega.{arith}
+use denote.Ref.{now}
+use lib.ListN.{length-set}
+use Rattle.differences.proofs.PutEntries.{fits, fits-not, four}
 
--- src/page.rt:53:17
 mul-start : tie.Need-mul-start
 mul-start c = search needs
 
--- src/page.rt:54:15
 add-end : tie.Need-add-end
 add-end c = search needs
 
--- src/page.rt:56:9
 returns : tie.Need-returns
-returns c = ?
+returns c = sym (fits-not _ _ _ _ (c .if1 .taken))
 
--- src/page.rt:58:19
 cast-list : tie.Need-cast-list
 cast-list c = search needs
 
--- src/page.rt:58:5
 slice-write-list : tie.Need-slice-write-list
 slice-write-list c = search needs
 
--- src/page.rt:59:23
 cast-list-2 : tie.Need-cast-list-2
 cast-list-2 c = search needs
 
--- src/page.rt:59:10
 add-list : tie.Need-add-list
 add-list c = search needs
 
--- src/page.rt:59:5
 slice-write-list-2 : tie.Need-slice-write-list-2
-slice-write-list-2 c = ?
+slice-write-list-2 c = rw length-set (omega arith)
 
--- src/page.rt:60:10
 add-list-2 : tie.Need-add-list-2
 add-list-2 c = search needs
 
--- src/page.rt:60:5
 slice-write-list-3 : tie.Need-slice-write-list-3
-slice-write-list-3 c = ?
+slice-write-list-3 c = rw (length-set, length-set) (omega arith)
 
--- src/page.rt:61:10
 add-list-3 : tie.Need-add-list-3
 add-list-3 c = search needs
 
--- src/page.rt:61:5
 slice-write-list-4 : tie.Need-slice-write-list-4
-slice-write-list-4 c = ?
+slice-write-list-4 c = rw (length-set, length-set, length-set) (omega arith)
 
--- src/page.rt:49:1
 same-length : tie.Need-same-length
 same-length c = search needs
 
--- src/page.rt:49:1
 returns-2 : tie.Need-returns-2
-returns-2 c = ?
+returns-2 c =
+    let a = c .before .args in
+    four (now (a .list)) (a .at * 4) (a .place % 256) (a .place / 256) (a .was) (a .is) ∙ sym (fits 4 (now (a .list)) (a .at) _ (c .if1 .left))
 
 pub put-byte-spec : {M : Type 1} → statement M
 put-byte-spec =

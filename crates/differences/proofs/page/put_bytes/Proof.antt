@@ -1,83 +1,99 @@
+-- `differences::page::put_bytes` meets its contract: the differing bytes from here on are put from here on.
+-- Assumes nothing.
 use Rattle.differences.proofs.page.put_bytes.Statement.{statement}
 use Rattle.differences.proofs.page.put_bytes.Tie as tie
-use Rattle.differences.proofs.page.put_bytes.Reads as reads
-use Rattle.differences.proofs.page.put_bytes.Lts as lts
-use Rattle.bus.proofs.data.kept.Reads as kept-reads
-use Rattle.differences.proofs.page.put_byte.Reads as put-byte-reads
+use Prim.Native.Nat.{_≤_, _-_}
+use mathlib.Core.Path.{_≡_, sym, _∙_}
+use native.Mathlib.Omega.{arith}
+use denote.Ref.{now}
+use Rattle.constants.specs.Sizes.{width, memoryEntrySize}
+use Rattle.differences.specs.Bytes.{held, bytesFrom, pageBytes}
+use Rattle.differences.specs.Entries.{byteEntry}
+use Rattle.differences.proofs.Entries.{bytes-few}
+use Rattle.differences.proofs.PutEntries.{Rest, begin, turn, done, rest-length, not-all}
+use Rattle.differences.proofs.AlongPage.{bytes-on, bytes-here, bytes-end}
 
 abbrev Inv-loop : tie.InvT-loop
-Inv-loop list₀ at page first second start next₀ column₀ list next column = ?
+Inv-loop list₀ at page first second start next₀ column₀ list next column = (column ≤ width) × Rest memoryEntrySize byteEntry list₀ at (pageBytes page first second) list next (bytesFrom page first second (width - column) column)
 
 abbrev μ-loop : tie.MeasureT-loop
-μ-loop list₀ at page first second start next₀ column₀ list next column = ?
+μ-loop list₀ at page first second start next₀ column₀ list next column = width - column
 
--- src/page.rt:31:17
 mul-start : tie.Need-mul-start Inv-loop μ-loop
-mul-start c = ?
+mul-start c = omega arith
 
--- src/page.rt:34:5
 loop-holds : tie.Need-loop-holds Inv-loop μ-loop
-loop-holds c = ?
+loop-holds c = (omega arith, begin _ _ _ _ _)
 
--- src/page.rt:35:30
 shared-slice-read-kept : tie.Need-shared-slice-read-kept Inv-loop μ-loop
-shared-slice-read-kept c = ?
+shared-slice-read-kept c = omega arith
 
--- src/page.rt:35:13
 kept-requires : tie.Need-kept-requires Inv-loop μ-loop
-kept-requires c κs = ?
+kept-requires c κs = tt
 
--- src/page.rt:36:29
 shared-slice-read-kept-2 : tie.Need-shared-slice-read-kept-2 Inv-loop μ-loop
-shared-slice-read-kept-2 c = ?
+shared-slice-read-kept-2 c = omega arith
 
--- src/page.rt:36:13
 kept-requires-2 : tie.Need-kept-requires-2 Inv-loop μ-loop
-kept-requires-2 c κs = ?
+kept-requires-2 c κs = tt
 
--- src/page.rt:38:13
 add-column : tie.Need-add-column Inv-loop μ-loop
-add-column c = ?
+add-column c = omega arith
 
--- src/page.rt:34:5
 loop-less : tie.Need-loop-less Inv-loop μ-loop
-loop-less c = ?
+loop-less c = omega arith
 
--- src/page.rt:34:5
 loop-again : tie.Need-loop-again Inv-loop μ-loop
-loop-again c = ?
+loop-again c =
+    let at = c .before .before .before .before .before .before in
+    let a = at .before .before .before .before .args in
+    let same : held (a .page) (now (a .first)) (at .loop .column) ≡ held (a .page) (now (a .second)) (at .loop .column) = sym (c .before .before .before .kept .ensures) ∙ c .if1 .taken ∙ c .before .kept2 .ensures in
+    (omega arith, rw (bytes-on width (a .page) (now (a .first)) (now (a .second)) (at .loop .column) (omega arith) same) at (at .loop .inv .1))
 
--- src/page.rt:40:34
 add-put-byte : tie.Need-add-put-byte Inv-loop μ-loop
-add-put-byte c = ?
+add-put-byte c = omega arith
 
--- src/page.rt:40:13
 put-byte-requires : tie.Need-put-byte-requires Inv-loop μ-loop
-put-byte-requires c κs = ?
+put-byte-requires c κs =
+    let at = c .before .before .before .before .before .before .before in
+    let start = at .before .before .before .before in
+    let a = start .args in
+    let inside = c .before .before .before .before .before .before .loop-test .taken in
+    let differs : held (a .page) (now (a .first)) (at .loop .column) ≡ held (a .page) (now (a .second)) (at .loop .column) → ⊥ = λ same. c .before .if1 .left (c .before .before .before .before .kept .ensures ∙ same ∙ sym (c .before .before .kept2 .ensures)) in
+    (omega (arith, start .pre .0, bytes-few (a .page) (now (a .first)) (now (a .second)) width 0, not-all _ _ (rw (bytes-here width (a .page) (now (a .first)) (now (a .second)) (at .loop .column) inside differs) at (at .loop .inv .1))), omega (arith, start .pre .1))
 
--- src/page.rt:41:13
 add-next : tie.Need-add-next Inv-loop μ-loop
-add-next c = ?
+add-next c =
+    let at = c .before .before .before .before .before .before .before .before .before .before in
+    let start = at .before .before .before .before in
+    let a = start .args in
+    let inside = c .before .before .before .before .before .before .before .before .before .loop-test .taken in
+    let differs : held (a .page) (now (a .first)) (at .loop .column) ≡ held (a .page) (now (a .second)) (at .loop .column) → ⊥ = λ same. c .before .before .before .before .if1 .left (c .before .before .before .before .before .before .before .kept .ensures ∙ same ∙ sym (c .before .before .before .before .before .kept2 .ensures)) in
+    omega (arith, start .pre .0, bytes-few (a .page) (now (a .first)) (now (a .second)) width 0, not-all _ _ (rw (bytes-here width (a .page) (now (a .first)) (now (a .second)) (at .loop .column) inside differs) at (at .loop .inv .1)))
 
--- src/page.rt:42:13
 add-column-2 : tie.Need-add-column-2 Inv-loop μ-loop
-add-column-2 c = ?
+add-column-2 c = omega arith
 
--- src/page.rt:34:5
 loop-less-2 : tie.Need-loop-less-2 Inv-loop μ-loop
-loop-less-2 c = ?
+loop-less-2 c = omega arith
 
--- src/page.rt:34:5
 loop-again-2 : tie.Need-loop-again-2 Inv-loop μ-loop
-loop-again-2 c = ?
+unfolding byteEntry
+loop-again-2 c =
+    let at = c .before .before .before .before .before .before .before .before .before .before in
+    let start = at .before .before .before .before in
+    let a = start .args in
+    let inside = c .before .before .before .before .before .before .before .before .before .loop-test .taken in
+    let differs : held (a .page) (now (a .first)) (at .loop .column) ≡ held (a .page) (now (a .second)) (at .loop .column) → ⊥ = λ same. c .before .before .before .before .if1 .left (c .before .before .before .before .before .before .before .kept .ensures ∙ same ∙ sym (c .before .before .before .before .before .kept2 .ensures)) in
+    (omega arith, turn _ _ (rw (bytes-here width (a .page) (now (a .first)) (now (a .second)) (at .loop .column) inside differs) at (at .loop .inv .1)) (c .before .before .put-byte .ensures ∙ rw (c .before .before .before .before .before .before .before .kept .ensures, c .before .before .before .before .before .kept2 .ensures)))
 
--- src/page.rt:27:1
 same-length : tie.Need-same-length Inv-loop μ-loop
-same-length c = ?
+same-length c = rest-length _ _ (c .before .loop .inv .1)
 
--- src/page.rt:27:1
 returns : tie.Need-returns Inv-loop μ-loop
-returns c = ?
+returns c =
+    let a = c .before .before .before .before .before .args in
+    done _ _ (rw (bytes-end width (a .page) (now (a .first)) (now (a .second)) (c .before .loop .column) (c .loop-test .left)) at (c .before .loop .inv .1))
 
 pub put-bytes-spec : {M : Type 1} → statement M
 put-bytes-spec =

@@ -1,28 +1,29 @@
+-- `differences::page::put_page` meets its contract: a page that is the same in both has no differing byte.
+-- Assumes nothing.
 use borrow.Author.Needs.{needs}
 use Rattle.differences.proofs.page.put_page.Statement.{statement}
 use Rattle.differences.proofs.page.put_page.Tie as tie
-use Rattle.differences.proofs.page.put_page.Reads as reads
-use Rattle.differences.proofs.page.put_page.Lts as lts
-use Rattle.differences.proofs.page.put_bytes.Reads as put-bytes-reads
-use Rattle.differences.proofs.same.same.Reads as same-reads
+use mathlib.Core.Path.{_≡_}
+use denote.Ref.{now}
+use Rattle.constants.specs.Sizes.{width}
+use Rattle.differences.proofs.PutEntries.{none}
+use Rattle.differences.proofs.AlongPage.{bytes-same}
 
--- src/page.rt:20:8
 same-requires : tie.Need-same-requires
 same-requires c κs = search needs
 
--- src/page.rt:21:9
 returns : tie.Need-returns
-returns c = ?
+returns c =
+    let a = c .before .before .before .before .before .args in
+    let e : now (a .first) ≡ now (a .second) = c .before .same .ensures (c .if1 .taken) in
+    rw (e, bytes-same (a .page) (now (a .second)) width 0) (none _ _ _ _)
 
--- src/page.rt:23:5
 put-bytes-requires : tie.Need-put-bytes-requires
 put-bytes-requires c κs = search needs
 
--- src/page.rt:16:1
 same-length : tie.Need-same-length
 same-length c = search needs
 
--- src/page.rt:16:1
 returns-2 : tie.Need-returns-2
 returns-2 c = search needs
 

@@ -14,7 +14,7 @@ same-requires : tie.Need-same-requires
 same-requires c κs = search needs
 
 returns : tie.Need-returns
-returns c = 
+returns c =
     let a = c .before .before .before .before .before .args in
     let e : now (a .first) ≡ now (a .second) = c .before .same .ensures (c .if1 .taken) in
     rw (e, runs-same (a .p) (now (a .second)) width 0) (none _ _ _ _)

@@ -50,7 +50,7 @@ same-length : tie.Need-same-length
 same-length c = search needs
 
 returns-2 : tie.Need-returns-2
-returns-2 c = 
+returns-2 c =
     let a = c .before .args in
     five (now (a .list)) (a .at * 5) (a .p) (a .first) (a .last) (a .was) (a .is) ∙ sym (fits 5 (now (a .list)) (a .at) _ (c .if1 .left))
 

@@ -34,7 +34,7 @@ loop-less : tie.Need-loop-less Inv-loop μ-loop
 loop-less c = omega arith
 
 loop-again : tie.Need-loop-again Inv-loop μ-loop
-loop-again c = 
+loop-again c =
     let at = c .before .before .before .before in
     let a = at .before .before .before .before .args in
     (omega arith, open-same width _ _ (at .loop .x) (c .if1 .taken), rw (runs-on width (a .p) (now (a .first)) (now (a .second)) (at .loop .x) (omega arith) (c .if1 .taken)) at (at .loop .inv .2))
@@ -46,7 +46,7 @@ cast-put-run : tie.Need-cast-put-run Inv-loop μ-loop
 cast-put-run c = omega arith
 
 cast-put-run-2 : tie.Need-cast-put-run-2 Inv-loop μ-loop
-cast-put-run-2 c = 
+cast-put-run-2 c =
     let found = c .before in
     let at = found .before .before .before .before .before in
     let a = at .before .before .before .before .args in
@@ -59,7 +59,7 @@ shared-slice-read-put-run-2 : tie.Need-shared-slice-read-put-run-2 Inv-loop μ-l
 shared-slice-read-put-run-2 c = omega arith
 
 put-run-requires : tie.Need-put-run-requires Inv-loop μ-loop
-put-run-requires c κs = 
+put-run-requires c κs =
     let at = c .before .before .before .before .before .before .before .before in
     let found = c .before .before .before in
     let start = at .before .before .before .before in
@@ -67,7 +67,7 @@ put-run-requires c κs =
     omega (arith, start .pre .0, runs-few (a .p) (now (a .first)) (now (a .second)) width 0, not-all _ _ (rw (runs-here width (a .p) (now (a .first)) (now (a .second)) (at .loop .x) (found .run-last .result) (omega arith) (found .before .if1 .left) (at .loop .inv .1) (found .run-last .ensures)) at (at .loop .inv .2)))
 
 add-next : tie.Need-add-next Inv-loop μ-loop
-add-next c = 
+add-next c =
     let at = c .before .before .before .before .before .before .before .before .before .before .before in
     let found = c .before .before .before .before .before .before in
     let start = at .before .before .before .before in
@@ -75,21 +75,21 @@ add-next c =
     omega (arith, start .pre .0, runs-few (a .p) (now (a .first)) (now (a .second)) width 0, not-all _ _ (rw (runs-here width (a .p) (now (a .first)) (now (a .second)) (at .loop .x) (found .run-last .result) (omega arith) (found .before .if1 .left) (at .loop .inv .1) (found .run-last .ensures)) at (at .loop .inv .2)))
 
 add-x-2 : tie.Need-add-x-2 Inv-loop μ-loop
-add-x-2 c = 
+add-x-2 c =
     let at = c .before .before .before .before .before .before .before .before .before .before .before in
     let found = c .before .before .before .before .before .before in
     let a = at .before .before .before .before .args in
     omega (arith, run-within width (now (a .first)) (now (a .second)) (at .loop .x) (found .run-last .result) (omega arith) (found .run-last .ensures))
 
 loop-less-2 : tie.Need-loop-less-2 Inv-loop μ-loop
-loop-less-2 c = 
+loop-less-2 c =
     let at = c .before .before .before .before .before .before .before .before .before .before .before in
     let found = c .before .before .before .before .before .before in
     omega (arith, found .run-last .ensures)
 
 loop-again-2 : tie.Need-loop-again-2 Inv-loop μ-loop
 unfolding runEntry
-loop-again-2 c = 
+loop-again-2 c =
     let at = c .before .before .before .before .before .before .before .before .before .before .before in
     let found = c .before .before .before .before .before .before in
     let a = at .before .before .before .before .args in
@@ -104,7 +104,7 @@ same-length : tie.Need-same-length Inv-loop μ-loop
 same-length c = rest-length _ _ (c .before .loop .inv .2)
 
 returns : tie.Need-returns Inv-loop μ-loop
-returns c = 
+returns c =
     let a = c .before .before .before .before .before .args in
     done _ _ (rw (runs-end width (a .p) (now (a .first)) (now (a .second)) (c .before .loop .x) (c .loop-test .left)) at (c .before .loop .inv .2))
 

@@ -38,7 +38,7 @@ shared-slice-read-if1 : tie.Need-shared-slice-read-if1 Inv-loop μ-loop
 shared-slice-read-if1 c = omega arith
 
 returns : tie.Need-returns Inv-loop μ-loop
-returns c = 
+returns c =
     let at = c .before .before .before in
     let start = at .before .before .before .args in
     sym (at .loop .inv .2 ∙ rw (more-first (now (start .first)) (now (start .second)) width (at .loop .last) (c .before .before .loop-test .taken) (rw (at .loop .inv .3) (c .if1 .taken)), add-zero))
@@ -50,7 +50,7 @@ shared-slice-read-if2 : tie.Need-shared-slice-read-if2 Inv-loop μ-loop
 shared-slice-read-if2 c = omega arith
 
 returns-2 : tie.Need-returns-2 Inv-loop μ-loop
-returns-2 c = 
+returns-2 c =
     let test = c .before .before in
     let at = test .before .before .before in
     let start = at .before .before .before .args in
@@ -63,7 +63,7 @@ loop-less : tie.Need-loop-less Inv-loop μ-loop
 loop-less c = omega arith
 
 loop-again : tie.Need-loop-again Inv-loop μ-loop
-loop-again c = 
+loop-again c =
     let test = c .before .before in
     let at = test .before .before .before in
     let start = at .before .before .before .args in
@@ -71,7 +71,7 @@ loop-again c =
     (omega arith, inside, at .loop .inv .2 ∙ rw (more-on (now (start .first)) (now (start .second)) width (at .loop .last) inside (test .if1 .left ∙ sym (at .loop .inv .3)) (c .if2 .left ∙ sym (at .loop .inv .4)), add-suc, ← suc-add, add-one (at .loop .last)), test .if1 .left, c .if2 .left)
 
 returns-3 : tie.Need-returns-3 Inv-loop μ-loop
-returns-3 c = 
+returns-3 c =
     let at = c .before in
     let start = at .before .before .before .args in
     sym (at .loop .inv .2 ∙ rw (more-end (now (start .first)) (now (start .second)) width (at .loop .last) (c .loop-test .left), add-zero))

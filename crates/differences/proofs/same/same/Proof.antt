@@ -46,7 +46,7 @@ loop-less : tie.Need-loop-less Inv-loop μ-loop
 loop-less c = omega arith
 
 loop-again : tie.Need-loop-again Inv-loop μ-loop
-loop-again c = 
+loop-again c =
     let at = c .before .before .before .before in
     (omega arith, λ t. one-more _ (at .loop .x) (at .loop .inv .1 t) (c .if1 .taken))
 
@@ -60,7 +60,7 @@ loop-again-2 : tie.Need-loop-again-2 Inv-loop μ-loop
 loop-again-2 c = (omega arith, λ t. absurd (false≢true t))
 
 returns : tie.Need-returns Inv-loop μ-loop
-returns c = 
+returns c =
     let at = c .before in
     λ t. ext-getD 0 _ _ (at .before .pre .0 ∙ sym (at .before .pre .1)) (λ i h. at .loop .inv .1 t i (omega arith))
 
