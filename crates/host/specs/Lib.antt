@@ -4,5 +4,7 @@ pub mod Record
 pub mod RecordWalk
 -- a frame listed as text
 pub mod List
+-- where two frames or two memories differ
+pub mod Compare
 -- one result for each statement
 pub mod Settled

@@ -9,7 +9,9 @@ use Rattle.trace.specs.Run.{ran, stopOf, run}
 use Rattle.picture.specs.Draw.{drawn, draw}
 use Rattle.framelisting.specs.Listing.{listed}
 use Rattle.host.specs.Record.{recordReply, recordOf}
+use Rattle.differences.specs.Compare.{compareFrames, compareMemories}
 use Rattle.host.specs.List.{listReply, ofListed}
+use Rattle.host.specs.Compare.{compareReply, ofCompared}
 
 pub record Settled : Type 0 where
   -- number, kind, offset after the record
@@ -20,3 +22,6 @@ pub record Settled : Type 0 where
   pub «ssd1815b_draw» : (state memory frame : List ℕ) → Settles (λ (o : ℕ × List ℕ). drawn (o .0) (o .1) ≡ draw state memory frame)
   -- number, length, text
   pub «ssd1815b_list» : (number offset : ℕ) (frame text : List ℕ) → Settles (λ (o : ℕ × ℕ × List ℕ). listReply (o .0) (o .1) (o .2) ≡ ofListed (listed number offset frame text))
+  -- number, count, list
+  pub «ssd1815b_compare_frames» : (first second list : List ℕ) → Settles (λ (o : ℕ × ℕ × List ℕ). compareReply (o .0) (o .1) (o .2) ≡ ofCompared (compareFrames first second list))
+  pub «ssd1815b_compare_memories» : (first second list : List ℕ) → Settles (λ (o : ℕ × ℕ × List ℕ). compareReply (o .0) (o .1) (o .2) ≡ ofCompared (compareMemories first second list))

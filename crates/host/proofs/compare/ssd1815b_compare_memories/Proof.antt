@@ -1,0 +1,43 @@
+-- `host::compare::ssd1815b_compare_memories` meets its contract by that of the call below it.
+-- Assumes nothing.
+use borrow.Author.Needs.{needs}
+use Rattle.host.proofs.compare.ssd1815b_compare_memories.Statement.{statement}
+use Rattle.host.proofs.compare.ssd1815b_compare_memories.Tie as tie
+use mathlib.Core.Path.{ap}
+use Rattle.differences.specs.Given.{numberOf, countOf}
+use Rattle.host.specs.Compare.{ofCompared}
+
+compare-memories-requires : tie.Need-compare-memories-requires
+compare-memories-requires c κs = search needs
+
+enum-known-entries : tie.Need-enum-known-entries
+enum-known-entries c = search needs
+
+enum-known-refusal : tie.Need-enum-known-refusal
+enum-known-refusal c = search needs
+
+same-length : tie.Need-same-length
+same-length c = search needs
+
+returns : tie.Need-returns
+unfolding numberOf countOf
+returns c = rw (c .before .entries .given .1) at (ap ofCompared (c .before .before .before .before .before .compare-memories .ensures))
+
+same-length-2 : tie.Need-same-length-2
+same-length-2 c = search needs
+
+returns-2 : tie.Need-returns-2
+unfolding numberOf countOf
+returns-2 c = rw (c .before .refusal .given .1) at (ap ofCompared (c .before .before .before .before .before .compare-memories .ensures))
+
+pub ssd1815b-compare-memories-spec : {M : Type 1} → statement M
+ssd1815b-compare-memories-spec =
+    tie.close
+    (tie.spec
+    compare-memories-requires
+    enum-known-entries
+    enum-known-refusal
+    same-length
+    returns
+    same-length-2
+    returns-2)
