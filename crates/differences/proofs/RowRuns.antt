@@ -80,7 +80,7 @@ module _ (a b : List ℕ) where
       (λ e k. ⊎-elim (λ i. ap (alike a b) (sym i) ∙ e) (λ l. more-alike n (suc x) z (omega arith) (omega arith)) (eq-or-lt-of-le h))
       (λ e k. absurd (omega arith))
 
-  more-ends : (n x : ℕ) → more a b n x < n → alike a b (x + more a b n x) ≡ false
+  pub more-ends : (n x : ℕ) → more a b n x < n → alike a b (x + more a b n x) ≡ false
   unfolding more
   more-ends zero x = λ h. absurd (omega arith)
   more-ends (suc n) x =
