@@ -6,12 +6,14 @@
 //! [`trace`], [`listing`], [`compare`], each answering with the numbers of
 //! [`refusal`].
 //! The comparing: [`random`], [`generate`], [`sweep`], [`cases`], [`format`],
-//! [`coverage`], [`show`]. The script of events typed by a person: [`play`].
+//! [`coverage`], [`show`]. For a person: the script of events typed, [`play`],
+//! and where the screens of two traces differ, [`differ`].
 
 pub mod cases;
 pub mod command;
 pub mod compare;
 pub mod coverage;
+pub mod differ;
 pub mod event;
 pub mod format;
 pub mod frame;
