@@ -1,5 +1,6 @@
 //! Test cases: inputs, with the outcome the model gives for them.
 
+use crate::compare::{self, Compared, FRAME_ENTRY, MEMORY_ENTRY};
 use crate::event::{self, Answer, Event};
 use crate::frame::{self, FRAME_LENGTH};
 use crate::listing;
@@ -175,6 +176,69 @@ impl Listing {
     }
 }
 
+/// Two frames (entries of five bytes) or two memories (entries of four),
+/// compared on lent buffers of any length.
+#[derive(Clone, PartialEq, Eq, Debug)]
+pub struct Comparison<const ENTRY: usize> {
+    pub first: Vec<u8>,
+    pub second: Vec<u8>,
+    pub list_length: usize,
+    /// Chooses what the list holds before; see [`list_pattern`].
+    pub fill: u8,
+    pub number: u8,
+    /// What the list begins with afterwards; none if refused.
+    pub entries: Vec<[u8; ENTRY]>,
+}
+
+impl Comparison<FRAME_ENTRY> {
+    /// The case of these two frames.
+    #[must_use]
+    pub fn of_frames(first: Vec<u8>, second: Vec<u8>, list_length: usize, fill: u8) -> Self {
+        Comparison::by(compare::frames, first, second, list_length, fill)
+    }
+}
+
+impl Comparison<MEMORY_ENTRY> {
+    /// The case of these two memories.
+    #[must_use]
+    pub fn of_memories(first: Vec<u8>, second: Vec<u8>, list_length: usize, fill: u8) -> Self {
+        Comparison::by(compare::memories, first, second, list_length, fill)
+    }
+}
+
+impl<const ENTRY: usize> Comparison<ENTRY> {
+    fn by(
+        call: fn(&[u8], &[u8], &mut [u8]) -> Compared,
+        first: Vec<u8>,
+        second: Vec<u8>,
+        list_length: usize,
+        fill: u8,
+    ) -> Self {
+        let mut list = list_pattern(list_length, fill);
+        let Compared { number, count } = call(&first, &second, &mut list);
+        let (entries, _) = list.as_chunks();
+        Comparison {
+            first,
+            second,
+            list_length,
+            fill,
+            number,
+            entries: entries[..count].to_vec(),
+        }
+    }
+}
+
+/// What a list buffer holds before two frames or memories are compared.
+#[must_use]
+pub fn list_pattern(list_length: usize, fill: u8) -> Vec<u8> {
+    (0..list_length)
+        .map(|index| {
+            let step = (usize::from(fill) + 7 * index) % 256;
+            u8::try_from(step).expect("at most 255")
+        })
+        .collect()
+}
+
 /// Any test case.
 #[derive(Clone, PartialEq, Eq, Debug)]
 pub enum Case {
@@ -183,6 +247,8 @@ pub enum Case {
     Run(Run),
     Draw(Draw),
     Listing(Listing),
+    ComparedFrames(Comparison<FRAME_ENTRY>),
+    ComparedMemories(Comparison<MEMORY_ENTRY>),
 }
 
 impl Case {
@@ -192,7 +258,11 @@ impl Case {
         match self {
             Case::Single(_) => 1,
             Case::Sequence(sequence) => sequence.steps.len() as u64,
-            Case::Run(_) | Case::Draw(_) | Case::Listing(_) => 0,
+            Case::Run(_)
+            | Case::Draw(_)
+            | Case::Listing(_)
+            | Case::ComparedFrames(_)
+            | Case::ComparedMemories(_) => 0,
         }
     }
 }

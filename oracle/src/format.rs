@@ -2,7 +2,7 @@
 
 use std::io::{self, Read, Write};
 
-use crate::cases::{Case, Draw, Listing, Run, Sequence, Single, Step};
+use crate::cases::{Case, Comparison, Draw, Listing, Run, Sequence, Single, Step};
 use crate::event::{Answer, Event, Stored};
 use crate::frame::FRAME_LENGTH;
 use crate::memory::MEMORY_LENGTH;
@@ -14,7 +14,7 @@ use crate::trace::RunAnswer;
 pub const MAGIC: [u8; 8] = *b"1815CASE";
 
 /// The version of this format.
-pub const VERSION: u32 = 1;
+pub const VERSION: u32 = 2;
 
 /// No body is longer.
 pub const LONGEST_BODY: usize = 300_000;
@@ -25,6 +25,8 @@ const TAG_SEQUENCE: u8 = 2;
 const TAG_RUN: u8 = 3;
 const TAG_DRAW: u8 = 4;
 const TAG_LISTING: u8 = 5;
+const TAG_COMPARED_FRAMES: u8 = 6;
+const TAG_COMPARED_MEMORIES: u8 = 7;
 
 /// Writes a stream: the header, the cases, the end.
 pub struct Writer<W: Write> {
@@ -84,7 +86,7 @@ impl<W: Write> Writer<W> {
 
 fn u16_of(number: usize) -> [u8; 2] {
     u16::try_from(number)
-        .expect("lengths of lent buffers fit in two bytes")
+        .expect("lengths of lent buffers and counts of entries fit in two bytes")
         .to_le_bytes()
 }
 
@@ -148,6 +150,14 @@ fn put_case(body: &mut Vec<u8>, case: &Case) -> u8 {
             body.extend(listing.text.as_bytes());
             TAG_LISTING
         }
+        Case::ComparedFrames(comparison) => {
+            put_comparison(body, comparison);
+            TAG_COMPARED_FRAMES
+        }
+        Case::ComparedMemories(comparison) => {
+            put_comparison(body, comparison);
+            TAG_COMPARED_MEMORIES
+        }
     }
 }
 
@@ -178,6 +188,16 @@ fn put_stored(body: &mut Vec<u8>, stored: Option<Stored>) {
         }
         None => body.extend([0, 0, 0, 0]),
     }
+}
+
+fn put_comparison<const ENTRY: usize>(body: &mut Vec<u8>, comparison: &Comparison<ENTRY>) {
+    put_lent(body, &comparison.first);
+    put_lent(body, &comparison.second);
+    body.extend(u16_of(comparison.list_length));
+    body.push(comparison.fill);
+    body.push(comparison.number);
+    body.extend(u16_of(comparison.entries.len()));
+    body.extend(comparison.entries.as_flattened());
 }
 
 /// Reads a stream back.
@@ -424,7 +444,31 @@ impl Body<'_> {
                     .map_err(|_| wrong("a listing that is no text"))?;
                 Ok(Case::Listing(Listing { trace, text }))
             }
+            TAG_COMPARED_FRAMES => Ok(Case::ComparedFrames(self.comparison()?)),
+            TAG_COMPARED_MEMORIES => Ok(Case::ComparedMemories(self.comparison()?)),
             _ => Err(wrong("no such tag")),
         }
+    }
+
+    fn comparison<const ENTRY: usize>(&mut self) -> io::Result<Comparison<ENTRY>> {
+        let first = self.lent()?;
+        let second = self.lent()?;
+        let list_length = self.u16()?;
+        let fill = self.u8()?;
+        let number = self.u8()?;
+        let entries = (0..self.u16()?)
+            .map(|_| self.array())
+            .collect::<io::Result<Vec<[u8; ENTRY]>>>()?;
+        if number != TAKEN && !entries.is_empty() {
+            return Err(wrong("a refused comparison with entries"));
+        }
+        Ok(Comparison {
+            first,
+            second,
+            list_length,
+            fill,
+            number,
+            entries,
+        })
     }
 }

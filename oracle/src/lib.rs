@@ -1,14 +1,19 @@
-//! The SSD1815B as document 01 states it, written from documents 00 and 01
-//! alone, to be compared with a model written by other people.
+//! The SSD1815B as document 01 states it, with Order 1 of document 02, written
+//! from documents 00, 01 and 02 alone, to be compared with a model written by
+//! other people.
 //!
 //! The model: [`registers`], [`command`], [`memory`], [`event`], [`frame`],
-//! [`trace`], [`listing`], each answering with the numbers of [`refusal`].
+//! [`trace`], [`listing`], [`compare`], each answering with the numbers of
+//! [`refusal`].
 //! The comparing: [`random`], [`generate`], [`sweep`], [`cases`], [`format`],
-//! [`coverage`], [`show`]. The script of events typed by a person: [`play`].
+//! [`coverage`], [`show`]. For a person: the script of events typed, [`play`],
+//! and where the screens of two traces differ, [`differ`].
 
 pub mod cases;
 pub mod command;
+pub mod compare;
 pub mod coverage;
+pub mod differ;
 pub mod event;
 pub mod format;
 pub mod frame;

@@ -3,9 +3,8 @@
 use std::fmt::Write;
 
 use crate::frame::{self, FRAME_LENGTH, FRAME_ROWS, Frame};
-use crate::memory::{COLUMNS, MEMORY_LENGTH};
+use crate::memory::COLUMNS;
 use crate::refusal::TAKEN;
-use crate::registers::Registers;
 use crate::trace;
 
 /// The longest trace that is read.
@@ -17,9 +16,7 @@ pub fn listing(trace: &[u8]) -> String {
     if trace.len() > LONGEST_TRACE {
         return "input too long\n".to_string();
     }
-    let mut registers = Registers::POWER_ON;
-    let mut memory = [0; MEMORY_LENGTH];
-    let answer = trace::run(&mut registers, &mut memory, trace);
+    let (registers, memory, answer) = trace::run_from_power_on(trace);
     let mut frame = [0; FRAME_LENGTH];
     frame::draw(registers, &memory, &mut frame);
     let mut text = String::new();

@@ -5,6 +5,7 @@ use std::io::{self, BufReader, BufWriter, Read, Write};
 use std::process::ExitCode;
 
 use oracle::coverage::Coverage;
+use oracle::differ::{differing_frames, differing_memories};
 use oracle::format::{Reader, Writer};
 use oracle::frame::{self, FRAME_LENGTH};
 use oracle::listing::{LONGEST_TRACE, frame_text, listing};
@@ -18,7 +19,8 @@ use oracle::text::from_hex;
 use oracle::trace;
 
 const HELP: &str = "\
-oracle: the SSD1815B as document 01 states it, to compare another model with
+oracle: the SSD1815B as document 01 states it, with Order 1 of document 02, to
+compare another model with
 
 usage:
   oracle list < trace
@@ -30,6 +32,11 @@ usage:
       runs a trace; answers `number offset count`, then state and memory
   oracle frame [--state HEX] [--memory FILE]
       draws; the frame in the form of the listing, or `refused R`
+  oracle differ [--memory] FIRST SECOND
+      runs two files of traces from power-on with zero memory; a line for each
+      run in which the frames differ: row, first column, last column, lit in
+      the first, lit in the second; with --memory for each byte in which the
+      memories differ: place, content in the first, content in the second
   oracle cases --seed S [counts] [--no-sweep] [--summary] > stream
       writes test cases and their outcomes in binary (see README.md);
       --summary tells on stderr what was reached
@@ -43,6 +50,8 @@ counts: --singles N   cases of one event
         --runs N      trace runs
         --draws N     drawings
         --listings N  listings
+        --compared-frames N    pairs of frames compared
+        --compared-memories N  pairs of memories compared
 --state is the 23 bytes of an image in hexadecimal (another length is refused
 by the model, not here), power-on unless given. --memory is a file of 1,188
 bytes, zero unless given.
@@ -96,6 +105,7 @@ fn obey(arguments: &[String]) -> Result<(), Failure> {
         "play" => play_script(&Options::read(rest, &["--state", "--memory"])?),
         "run" => run_trace(&Options::read(rest, &["--state", "--memory"])?),
         "frame" => draw_frame(&Options::read(rest, &["--state", "--memory"])?),
+        "differ" => tell_differences(rest),
         "cases" => write_cases(&Options::read(rest, &PLAN_OPTIONS)?),
         "coverage" => tell_coverage(&Options::read(rest, &PLAN_OPTIONS)?),
         "show" => show_cases(&Options::read(rest, &["--from", "--count"])?),
@@ -103,13 +113,15 @@ fn obey(arguments: &[String]) -> Result<(), Failure> {
     }
 }
 
-const PLAN_OPTIONS: [&str; 8] = [
+const PLAN_OPTIONS: [&str; 10] = [
     "--seed",
     "--singles",
     "--events",
     "--runs",
     "--draws",
     "--listings",
+    "--compared-frames",
+    "--compared-memories",
     "--no-sweep",
     "--summary",
 ];
@@ -183,9 +195,7 @@ impl Options {
     fn memory(&self) -> Result<Vec<u8>, Failure> {
         match self.value("--memory") {
             None => Ok(vec![0; MEMORY_LENGTH]),
-            Some(file) => {
-                fs::read(file).map_err(|error| Failure::Io(format!("--memory {file}: {error}")))
-            }
+            Some(file) => read_file(file),
         }
     }
 
@@ -202,6 +212,8 @@ impl Options {
             runs: self.count("--runs", usual.runs)?,
             draws: self.count("--draws", usual.draws)?,
             listings: self.count("--listings", usual.listings)?,
+            compared_frames: self.count("--compared-frames", usual.compared_frames)?,
+            compared_memories: self.count("--compared-memories", usual.compared_memories)?,
         })
     }
 }
@@ -217,6 +229,10 @@ fn read_all() -> Result<Vec<u8>, Failure> {
     let mut input = Vec::new();
     io::stdin().lock().read_to_end(&mut input)?;
     Ok(input)
+}
+
+fn read_file(file: &str) -> Result<Vec<u8>, Failure> {
+    fs::read(file).map_err(|error| Failure::Io(format!("{file}: {error}")))
 }
 
 fn list(_: Options) -> Result<(), Failure> {
@@ -259,6 +275,22 @@ fn draw_frame(options: &Options) -> Result<(), Failure> {
         format!("refused {number}\n")
     };
     print(text.as_bytes())
+}
+
+fn tell_differences(arguments: &[String]) -> Result<(), Failure> {
+    let (options, files): (Vec<&str>, Vec<&str>) = arguments
+        .iter()
+        .map(String::as_str)
+        .partition(|argument| argument.starts_with("--"));
+    let differing = match options[..] {
+        [] => differing_frames,
+        ["--memory"] => differing_memories,
+        _ => return Err(Failure::Usage("`differ` takes only `--memory`".to_string())),
+    };
+    let [first, second] = files[..] else {
+        return Err(Failure::Usage("`differ` takes two files".to_string()));
+    };
+    print(differing(&read_file(first)?, &read_file(second)?).as_bytes())
 }
 
 fn write_cases(options: &Options) -> Result<(), Failure> {

@@ -1,6 +1,6 @@
-//! The numbers given: 0 for taken, 1 to 10 for the refusals.
+//! The numbers given: 0 for taken, 1 to 12 for the refusals.
 
-/// The number of an event, run or drawing that was taken.
+/// The number of an event, run, drawing or comparison that was taken.
 pub const TAKEN: u8 = 0;
 
 /// Why something was refused.
@@ -26,10 +26,14 @@ pub enum Refusal {
     WrongKind,
     /// 10: a compared read differs.
     ReadDiffers,
+    /// 11: the list buffer is too small for all entries.
+    ListTooSmall,
+    /// 12: a frame byte is above 1.
+    FrameByteAbove1,
 }
 
 impl Refusal {
-    /// The number document 01 gives this refusal.
+    /// The number documents 01 and 02 give this refusal.
     #[must_use]
     pub const fn number(self) -> u8 {
         match self {
@@ -43,6 +47,8 @@ impl Refusal {
             Refusal::TraceCut => 8,
             Refusal::WrongKind => 9,
             Refusal::ReadDiffers => 10,
+            Refusal::ListTooSmall => 11,
+            Refusal::FrameByteAbove1 => 12,
         }
     }
 }

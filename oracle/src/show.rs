@@ -2,7 +2,8 @@
 
 use std::fmt::Write;
 
-use crate::cases::{Case, Draw, Listing, Run, Sequence, Single};
+use crate::cases::{Case, Comparison, Draw, Listing, Run, Sequence, Single};
+use crate::differ::{bytes_text, runs_text};
 use crate::event::{Answer, Event};
 use crate::listing::frame_text;
 use crate::text::{fnv1a, hex};
@@ -17,6 +18,8 @@ pub fn show(case: &Case) -> String {
         Case::Run(run) => show_run(run),
         Case::Draw(draw) => show_draw(draw),
         Case::Listing(listing) => show_listing(listing),
+        Case::ComparedFrames(frames) => show_comparison("frame", frames, runs_text),
+        Case::ComparedMemories(memories) => show_comparison("memory", memories, bytes_text),
     }
 }
 
@@ -132,5 +135,23 @@ fn show_listing(listing: &Listing) -> String {
         "listing\n{}{}",
         image_text("trace", &listing.trace),
         listing.text,
+    )
+}
+
+/// Two things compared, with a line for each entry.
+fn show_comparison<const ENTRY: usize>(
+    thing: &str,
+    comparison: &Comparison<ENTRY>,
+    entries_text: fn(&[[u8; ENTRY]]) -> String,
+) -> String {
+    format!(
+        "{thing} compared with {thing}\n{}{}list of {} bytes, fill {}\nanswer {} {}\n{}",
+        memory_text("first", &comparison.first),
+        memory_text("second", &comparison.second),
+        comparison.list_length,
+        comparison.fill,
+        comparison.number,
+        comparison.entries.len(),
+        entries_text(&comparison.entries),
     )
 }

@@ -1,17 +1,18 @@
-//! The whole stream of cases: the sweep, then random cases of each kind.
+//! The whole stream of cases: the sweep of the base, then random cases of each
+//! of its kinds; then the same for the comparisons of Order 1.
 
 use std::io;
 
 use crate::cases::Case;
 use crate::generate;
 use crate::random::Random;
-use crate::sweep::{Sink, sweep};
+use crate::sweep::{Sink, sweep, sweep_of_comparisons};
 
 /// How many cases of each kind to make, and from what seed.
 #[derive(Clone, Copy, PartialEq, Eq, Debug)]
 pub struct Plan {
     pub seed: u64,
-    /// Whether the cases that are the same for every seed come first.
+    /// Whether the cases that are the same for every seed are among them.
     pub sweep: bool,
     /// Cases of a single event.
     pub singles: usize,
@@ -20,6 +21,10 @@ pub struct Plan {
     pub runs: usize,
     pub draws: usize,
     pub listings: usize,
+    /// Pairs of frames.
+    pub compared_frames: usize,
+    /// Pairs of memories.
+    pub compared_memories: usize,
 }
 
 impl Plan {
@@ -34,6 +39,8 @@ impl Plan {
             runs: 5_000,
             draws: 2_000,
             listings: 1_000,
+            compared_frames: 280,
+            compared_memories: 1_300,
         }
     }
 }
@@ -69,6 +76,25 @@ pub fn each_case(plan: &Plan, sink: &mut Sink) -> io::Result<()> {
     let mut random = Random::new(plan.seed, 5);
     for _ in 0..plan.listings {
         sink(Case::Listing(generate::listing(&mut random)))?;
+    }
+    each_comparison(plan, sink)
+}
+
+/// The cases of Order 1. They come last, so that the cases of the base keep
+/// their places in the stream.
+fn each_comparison(plan: &Plan, sink: &mut Sink) -> io::Result<()> {
+    if plan.sweep {
+        sweep_of_comparisons(sink)?;
+    }
+    let mut random = Random::new(plan.seed, 6);
+    for _ in 0..plan.compared_frames {
+        sink(Case::ComparedFrames(generate::compared_frames(&mut random)))?;
+    }
+    let mut random = Random::new(plan.seed, 7);
+    for _ in 0..plan.compared_memories {
+        sink(Case::ComparedMemories(generate::compared_memories(
+            &mut random,
+        )))?;
     }
     Ok(())
 }

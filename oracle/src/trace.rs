@@ -1,7 +1,7 @@
 //! The trace: its records, and the run that obeys them.
 
 use crate::event::{Event, Taken, asked, lent, meaning};
-use crate::memory::Memory;
+use crate::memory::{MEMORY_LENGTH, Memory};
 use crate::refusal::{Refusal, TAKEN};
 use crate::registers::Registers;
 
@@ -107,6 +107,16 @@ pub fn call(state: &mut [u8], memory: &mut [u8], trace: &[u8]) -> RunAnswer {
     let answer = run(&mut registers, memory, trace);
     *image = registers.image();
     answer
+}
+
+/// The run from power-on with zero memory: the registers and the memory it
+/// leaves, and its answer.
+#[must_use]
+pub fn run_from_power_on(trace: &[u8]) -> (Registers, Memory, RunAnswer) {
+    let mut registers = Registers::POWER_ON;
+    let mut memory = [0; MEMORY_LENGTH];
+    let answer = run(&mut registers, &mut memory, trace);
+    (registers, memory, answer)
 }
 
 /// The run over legal registers and memory.

@@ -1,11 +1,15 @@
 //! Random inputs, bent towards the places where models go wrong.
 
 pub mod events;
+pub mod frame_pairs;
 pub mod memories;
+pub mod memory_pairs;
 pub mod states;
 pub mod traces;
 
-use crate::cases::{Draw, Listing, Run, Sequence, Single};
+use crate::cases::{Comparison, Draw, Listing, Run, Sequence, Single};
+use crate::compare::{self, FRAME_ENTRY, MEMORY_ENTRY};
+use crate::frame::FRAME_LENGTH;
 use crate::listing::LONGEST_TRACE;
 use crate::memory::MEMORY_LENGTH;
 use crate::random::Random;
@@ -19,6 +23,15 @@ pub const MEMORY_LENGTHS: [usize; 6] = [0, 1, 1187, 1188, 1189, 1300];
 
 /// Frame lengths lent, around the 8,580 needed.
 pub const FRAME_LENGTHS: [usize; 4] = [0, 8579, 8580, 8600];
+
+/// Lengths of frames lent to be compared, around the 8,580 needed.
+pub const COMPARED_FRAME_LENGTHS: [usize; 6] = [0, 1, 8579, 8580, 8581, 10_000];
+
+/// Lengths of memories lent to be compared, around the 1,188 needed.
+pub const COMPARED_MEMORY_LENGTHS: [usize; 6] = [0, 1, 1187, 1188, 1189, 3000];
+
+/// The longest list lent.
+pub const LONGEST_LIST: usize = 65_535;
 
 /// The longest sequence of events in one case.
 pub const LONGEST_SEQUENCE: usize = 1000;
@@ -129,4 +142,71 @@ pub fn listing(random: &mut Random) -> Listing {
         _ => {}
     }
     Listing::new(trace)
+}
+
+/// Lengths of lists around what so many entries need.
+#[must_use]
+pub fn list_lengths(entry: usize, count: usize) -> [usize; 9] {
+    let needed = entry * count;
+    [
+        0,
+        1,
+        needed.saturating_sub(entry),
+        needed.saturating_sub(1),
+        needed,
+        needed + 1,
+        needed + entry,
+        needed + 500,
+        LONGEST_LIST,
+    ]
+}
+
+/// A length of list: half of the time just what the entries need.
+fn list_length(random: &mut Random, entry: usize, count: usize) -> usize {
+    if random.flag() {
+        entry * count
+    } else {
+        random.pick(&list_lengths(entry, count))
+    }
+}
+
+/// The lengths of two things: now and then both the same other one.
+fn two_lengths(random: &mut Random, needed: usize, lengths: &[usize]) -> (usize, usize) {
+    if random.one_in(16) {
+        let both = random.pick(lengths);
+        (both, both)
+    } else {
+        (
+            length(random, needed, lengths),
+            length(random, needed, lengths),
+        )
+    }
+}
+
+/// Two frames compared.
+#[must_use]
+pub fn compared_frames(random: &mut Random) -> Comparison<FRAME_ENTRY> {
+    let (mut first, mut second) = frame_pairs::pair(random);
+    if random.one_in(8) {
+        frame_pairs::spoil(random, &mut first, &mut second);
+    }
+    let (first_length, second_length) = two_lengths(random, FRAME_LENGTH, &COMPARED_FRAME_LENGTHS);
+    let first = lent(random, &first, first_length);
+    let second = lent(random, &second, second_length);
+    let count = compare::frame_entries(&first, &second).map_or(1, |entries| entries.len());
+    let list_length = list_length(random, FRAME_ENTRY, count);
+    Comparison::of_frames(first, second, list_length, random.byte())
+}
+
+/// Two memories compared.
+#[must_use]
+pub fn compared_memories(random: &mut Random) -> Comparison<MEMORY_ENTRY> {
+    let (first, second) = memory_pairs::pair(random);
+    let (first_length, second_length) =
+        two_lengths(random, MEMORY_LENGTH, &COMPARED_MEMORY_LENGTHS);
+    let first = lent(random, &first, first_length);
+    let second = lent(random, &second, second_length);
+    let count = compare::memory_entries(&first, &second).map_or(1, |entries| entries.len());
+    let list_length = list_length(random, MEMORY_ENTRY, count);
+    Comparison::of_memories(first, second, list_length, random.byte())
 }

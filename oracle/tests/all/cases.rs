@@ -2,7 +2,8 @@
 
 use std::io;
 
-use oracle::cases::{Case, pattern};
+use oracle::cases::{Case, Comparison, list_pattern, pattern};
+use oracle::compare::{self, Compared};
 use oracle::coverage::Coverage;
 use oracle::event::{self, Answer, Event};
 use oracle::format::{LONGEST_BODY, Reader, Writer};
@@ -20,6 +21,8 @@ fn small(seed: u64) -> Plan {
         runs: 150,
         draws: 60,
         listings: 60,
+        compared_frames: 60,
+        compared_memories: 120,
     }
 }
 
@@ -123,7 +126,7 @@ fn the_bytes_of_a_single_event() {
     let length = u32::try_from(body.len()).unwrap();
     let expected = [
         &b"1815CASE"[..],
-        &[1, 0, 0, 0],
+        &[2, 0, 0, 0],
         &[2, 1, 0, 0, 0, 0, 0, 0],
         &[1],
         &length.to_le_bytes(),
@@ -186,17 +189,19 @@ fn the_bytes_of_a_sequence() {
     assert!(stream[25..25 + body.len()] == body);
 }
 
+/// The tag and the body of a case.
+fn body_of(case: &Case) -> (u8, Vec<u8>) {
+    let mut stream = Vec::new();
+    let mut writer = Writer::begin(&mut stream, 0).unwrap();
+    writer.write(case).unwrap();
+    writer.end().unwrap();
+    // Without the header of 20, tag and length, and the end of 21.
+    (stream[20], stream[25..stream.len() - 21].to_vec())
+}
+
 /// The bytes of a run, a drawing that is refused and a listing.
 #[test]
 fn the_bytes_of_the_other_kinds() {
-    let body_of = |case: &Case| {
-        let mut stream = Vec::new();
-        let mut writer = Writer::begin(&mut stream, 0).unwrap();
-        writer.write(case).unwrap();
-        writer.end().unwrap();
-        // Without the header of 20, tag and length, and the end of 21.
-        (stream[20], stream[25..stream.len() - 21].to_vec())
-    };
     let run = cases::Run::new(
         POWER_ON.to_vec(),
         vec![0; 1188],
@@ -230,6 +235,80 @@ fn the_bytes_of_the_other_kinds() {
     let text = b"refused 8 at 0\nframe 132 65\nend\n";
     let expected = [&[1, 0, 0, 0, 9][..], &[32, 0, 0, 0], text].concat();
     assert_eq!(body_of(&Case::Listing(listing)), (5, expected));
+}
+
+/// The bytes of two frames and of two memories compared, taken and refused.
+#[test]
+fn the_bytes_of_comparisons() {
+    // 8,580 is 0x2184, 1,188 is 0x04A4.
+    let mut lit_at_133 = vec![0; 8580];
+    lit_at_133[133] = 1;
+    let frames = Comparison::of_frames(vec![0; 8580], lit_at_133.clone(), 300, 9);
+    let expected = [
+        &[0x84, 0x21][..],
+        &[0; 8580],
+        &[0x84, 0x21],
+        &lit_at_133,
+        &[0x2C, 0x01, 9, 0, 1, 0],
+        &[1, 1, 1, 0, 1],
+    ]
+    .concat();
+    assert!(body_of(&Case::ComparedFrames(frames)) == (6, expected));
+
+    let frames = Comparison::of_frames(vec![7; 3], Vec::new(), 2, 200);
+    let expected = vec![3, 0, 7, 7, 7, 0, 0, 2, 0, 200, 1, 0, 0];
+    assert_eq!(body_of(&Case::ComparedFrames(frames)), (6, expected));
+
+    let mut first = vec![0; 1188];
+    first[257] = 0x5A;
+    first[1187] = 0xFF;
+    let memories = Comparison::of_memories(first.clone(), vec![0; 1188], 8, 255);
+    let expected = [
+        &[0xA4, 0x04][..],
+        &first,
+        &[0xA4, 0x04],
+        &[0; 1188],
+        &[8, 0, 255, 0, 2, 0],
+        &[1, 1, 0x5A, 0, 0xA3, 0x04, 1, 0],
+    ]
+    .concat();
+    assert!(body_of(&Case::ComparedMemories(memories)) == (7, expected));
+
+    let memories = Comparison::of_memories(first.clone(), vec![0; 1188], 7, 1);
+    let (tag, body) = body_of(&Case::ComparedMemories(memories));
+    assert_eq!(tag, 7);
+    assert_eq!(body[2380..], [7, 0, 1, 11, 0, 0]);
+}
+
+#[test]
+fn the_pattern_of_a_list_before() {
+    assert_eq!(list_pattern(4, 0), [0, 7, 14, 21]);
+    assert_eq!(list_pattern(3, 250), [250, 1, 8]);
+    assert_eq!(list_pattern(0, 3), [] as [u8; 0]);
+    // 250 + 7 * 1,000 is 7,250, which is 28 * 256 + 82.
+    assert_eq!(list_pattern(1001, 250)[1000], 82);
+}
+
+#[test]
+fn comparisons_come_after_all_cases_of_the_base() {
+    let base = Plan {
+        compared_frames: 0,
+        compared_memories: 0,
+        ..small(4)
+    };
+    let cases = cases_of(&base);
+    assert!(cases_of(&small(4))[..cases.len()] == cases);
+    let more = Plan {
+        compared_frames: 70,
+        ..small(4)
+    };
+    let only_memories = |plan: &Plan| {
+        let mut cases = cases_of(plan);
+        cases.retain(|case| matches!(case, Case::ComparedMemories(_)));
+        cases
+    };
+    assert_eq!(only_memories(&small(4)).len(), 120);
+    assert!(only_memories(&small(4)) == only_memories(&more));
 }
 
 #[test]
@@ -286,8 +365,28 @@ fn the_outcomes_are_those_of_the_calls() {
                 assert!(drawn == expected);
             }
             Case::Listing(case) => assert_eq!(listing::listing(&case.trace), case.text),
+            Case::ComparedFrames(case) => is_as_called(compare::frames, &case),
+            Case::ComparedMemories(case) => is_as_called(compare::memories, &case),
         }
     }
+}
+
+/// The list begins with the entries, and the rest of it is as it was.
+fn is_as_called<const ENTRY: usize>(
+    call: fn(&[u8], &[u8], &mut [u8]) -> Compared,
+    case: &Comparison<ENTRY>,
+) {
+    let mut list = list_pattern(case.list_length, case.fill);
+    let answer = call(&case.first, &case.second, &mut list);
+    assert_eq!(
+        (answer.number, answer.count),
+        (case.number, case.entries.len())
+    );
+    assert!(answer.number == 0 || answer.count == 0);
+    let mut expected = list_pattern(case.list_length, case.fill);
+    let entries = case.entries.as_flattened();
+    expected[..entries.len()].copy_from_slice(entries);
+    assert!(list == expected);
 }
 
 /// The random cases alone reach everything that is counted.
@@ -301,6 +400,8 @@ fn everything_is_reached_without_the_sweep() {
         runs: 10_000,
         draws: 5_000,
         listings: 2_000,
+        compared_frames: 3_000,
+        compared_memories: 6_000,
     };
     let mut coverage = Coverage::new();
     each_case(&plan, &mut |case| {
@@ -309,6 +410,31 @@ fn everything_is_reached_without_the_sweep() {
     })
     .unwrap();
     assert_eq!(coverage.faults(), Vec::<String>::new());
+}
+
+/// The sweep alone reaches every class of comparisons, whatever the seed.
+#[test]
+fn every_comparison_is_reached_by_the_sweep() {
+    let plan = Plan {
+        sweep: true,
+        singles: 0,
+        events: 0,
+        runs: 0,
+        draws: 0,
+        listings: 0,
+        compared_frames: 0,
+        compared_memories: 0,
+        ..small(0)
+    };
+    let mut coverage = Coverage::new();
+    each_case(&plan, &mut |case| {
+        coverage.see(&case);
+        Ok(())
+    })
+    .unwrap();
+    let mut faults = coverage.faults();
+    faults.retain(|fault| fault.starts_with("compared "));
+    assert_eq!(faults, Vec::<String>::new());
 }
 
 /// What was never met is told, and so is what cannot be.
@@ -323,6 +449,7 @@ fn what_is_not_reached_is_told() {
     coverage.see(&impossible);
     let faults = coverage.faults();
     assert!(faults.contains(&"numbers of draws: 5 impossible".to_string()));
+    assert!(faults.contains(&"compared memories, numbers: 11 not reached".to_string()));
     assert!(faults.contains(&"numbers of draws: 0 not reached".to_string()));
     assert!(!faults.contains(&"numbers of draws: 5 not reached".to_string()));
 }
@@ -337,6 +464,8 @@ fn the_sweep_is_a_good_stream() {
         runs: 0,
         draws: 0,
         listings: 0,
+        compared_frames: 0,
+        compared_memories: 0,
         ..small(0)
     };
     let stream = stream_of(&plan);

@@ -1,7 +1,8 @@
-//! Every expectation here is worked out by hand from document 01.
+//! Every expectation here is worked out by hand from documents 01 and 02.
 
 mod cases;
 mod commands;
+mod compare;
 mod data;
 mod demands;
 mod earlier_errors;

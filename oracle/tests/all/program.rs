@@ -1,6 +1,7 @@
 //! The program as a person or a script meets it.
 
 use std::io::Write;
+use std::path::PathBuf;
 use std::process::{Command, Output, Stdio};
 
 fn oracle(arguments: &[&str], input: &[u8]) -> Output {
@@ -100,6 +101,10 @@ fn cases_are_shown() {
         "1",
         "--listings",
         "1",
+        "--compared-frames",
+        "1",
+        "--compared-memories",
+        "1",
     ];
     let arguments = [&["cases"][..], &counts].concat();
     let stream = oracle(&arguments, b"");
@@ -111,20 +116,119 @@ fn cases_are_shown() {
         "case 4: run\n",
         "case 5: draw\n",
         "case 6: listing\n",
+        "case 7: frame compared with frame\n",
+        "case 8: memory compared with memory\n",
     ] {
         assert!(text.contains(part), "{part}");
     }
     assert!(!text.contains("case 1:"));
     let arguments = [&["coverage"][..], &counts].concat();
-    assert!(text_of(&arguments, b"").contains("cases: 5 of 5"));
+    assert!(text_of(&arguments, b"").contains("cases: 7 of 7"));
     let summary = [&["cases", "--summary"][..], &counts].concat();
     let output = oracle(&summary, b"");
     assert_eq!(output.stdout, stream.stdout);
     assert!(
         String::from_utf8(output.stderr)
             .unwrap()
-            .contains("cases: 5 of 5")
+            .contains("cases: 7 of 7")
     );
+}
+
+/// A file of a trace, taken away with the value.
+struct TraceFile(PathBuf);
+
+impl TraceFile {
+    fn new(name: &str, trace: &[u8]) -> TraceFile {
+        let name = format!("oracle-test-{}-{name}", std::process::id());
+        let path = std::env::temp_dir().join(name);
+        std::fs::write(&path, trace).unwrap();
+        TraceFile(path)
+    }
+
+    fn name(&self) -> &str {
+        self.0.to_str().unwrap()
+    }
+}
+
+impl Drop for TraceFile {
+    fn drop(&mut self) {
+        // A file left behind is no fault of the program.
+        let _ = std::fs::remove_file(&self.0);
+    }
+}
+
+#[test]
+fn differ_tells_where_the_frames_differ() {
+    // Rows 0 and 1 of column 0 and row 0 of column 1 are lit.
+    let document = TraceFile::new("document", &DOCUMENT_TRACE);
+    // Display on; columns 0, 1 and 2 of row 0 are lit.
+    let other = TraceFile::new(
+        "other",
+        &[
+            0x01, 0x00, 0x01, 0x00, 0xAF, 0x03, 0x00, 0x02, 0x00, 0x01, 0x01, 0x01,
+        ],
+    );
+    assert_eq!(
+        text_of(&["differ", document.name(), other.name()], b""),
+        "0 2 2 0 1\n1 0 0 1 0\n"
+    );
+    assert_eq!(
+        text_of(&["differ", other.name(), document.name()], b""),
+        "0 2 2 1 0\n1 0 0 0 1\n"
+    );
+    assert_eq!(
+        text_of(&["differ", "--memory", document.name(), other.name()], b""),
+        "0 3 1\n2 0 1\n"
+    );
+    for arguments in [
+        &["differ", document.name(), document.name()][..],
+        &["differ", "--memory", other.name(), other.name()],
+    ] {
+        assert_eq!(text_of(arguments, b""), "");
+    }
+}
+
+#[test]
+fn differ_uses_a_refused_trace_where_it_stopped() {
+    // Column 131 of page 8 is written; then B9 is refused, and the display is
+    // never on.
+    let stopped = TraceFile::new(
+        "stopped",
+        &[
+            0x03, 0x00, 0x01, 0x00, 0x03, 0x18, 0xB8, //
+            0x01, 0x00, 0x02, 0x00, 0xFF, //
+            0x02, 0x00, 0x01, 0x00, 0xB9, 0xAF,
+        ],
+    );
+    let empty = TraceFile::new("empty", &[]);
+    assert_eq!(text_of(&["differ", stopped.name(), empty.name()], b""), "");
+    assert_eq!(
+        text_of(&["differ", "--memory", stopped.name(), empty.name()], b""),
+        "1187 1 0\n"
+    );
+    // A8 00, AF, A5: row 0 and the icons are lit, then 80 is refused.
+    let lit = TraceFile::new(
+        "lit",
+        &[0x05, 0x00, 0x01, 0x00, 0xA8, 0x00, 0xAF, 0xA5, 0x80],
+    );
+    assert_eq!(
+        text_of(&["differ", empty.name(), lit.name()], b""),
+        "0 0 131 0 1\n64 0 131 0 1\n"
+    );
+}
+
+#[test]
+fn differ_has_status_1_where_a_file_cannot_be_read() {
+    let empty = TraceFile::new("readable", &[]);
+    for arguments in [
+        &["differ", empty.name(), "no/such/file"][..],
+        &["differ", "no/such/file", empty.name()],
+        &["differ", "--memory", empty.name(), "no/such/file"],
+    ] {
+        let output = oracle(arguments, b"");
+        assert_eq!(output.status.code(), Some(1));
+        assert!(output.stdout.is_empty());
+    }
 }
 
 #[test]
@@ -141,6 +245,13 @@ fn wrong_usage_is_told_with_status_2() {
         &["play", "--state", "0"],
         &["play", "--state", "+1"],
         &["play", "--state", "0G"],
+        &["differ"],
+        &["differ", "one"],
+        &["differ", "--memory", "one"],
+        &["differ", "one", "two", "three"],
+        &["differ", "--frames", "one", "two"],
+        &["differ", "--memory", "--memory", "one", "two"],
+        &["cases", "--seed", "1", "--compared-frames", "x"],
     ] {
         let output = oracle(arguments, b"");
         assert_eq!(output.status.code(), Some(2), "{arguments:?}");

@@ -1,5 +1,7 @@
 //! Counts of what a stream of cases has reached.
 
+mod compared;
+
 use std::fmt;
 
 use crate::cases::{Case, Draw, Listing, Run, Sequence, Single};
@@ -10,6 +12,7 @@ use crate::memory::{COLUMNS, ICON_PAGE, LAST_COLUMN, MEMORY_LENGTH, place};
 use crate::refusal::TAKEN;
 use crate::registers::{Awaited, FIELDS, IMAGE_LENGTH, Image, Registers};
 use crate::trace::{HEADER_LENGTH, Payload, Record, first_record};
+use compared::ComparedCoverage;
 
 /// Counts of things of one sort.
 #[derive(Clone, PartialEq, Eq, Debug)]
@@ -32,11 +35,11 @@ impl Group {
         }
     }
 
-    /// The numbers 0 to 10, of which only these can be answered.
+    /// The numbers 0 to 12, of which only these can be answered.
     fn numbers(name: &'static str, possible: &[u8]) -> Group {
         Group {
-            possible: (0..=10).map(|number| possible.contains(&number)).collect(),
-            ..Group::new(name, 0..=10)
+            possible: (0..=12).map(|number| possible.contains(&number)).collect(),
+            ..Group::new(name, 0..=12)
         }
     }
 
@@ -213,6 +216,7 @@ pub struct Coverage {
     lights: Group,
     run_situations: Group,
     listing_situations: Group,
+    compared: ComparedCoverage,
 }
 
 impl Default for Coverage {
@@ -232,7 +236,18 @@ impl Coverage {
             ["write", "read"].map(|event| format!("{:02X}, {event}", code.code()))
         });
         Coverage {
-            cases: Group::new("cases", ["single", "sequence", "run", "draw", "listing"]),
+            cases: Group::new(
+                "cases",
+                [
+                    "single",
+                    "sequence",
+                    "run",
+                    "draw",
+                    "listing",
+                    "compared frames",
+                    "compared memories",
+                ],
+            ),
             command_numbers: Group::numbers("numbers of commands", &[0, 1, 2, 3, 4, 5]),
             write_numbers: Group::numbers("numbers of writes", &[0, 1, 2, 6, 7]),
             read_numbers: Group::numbers("numbers of reads", &[0, 1, 2, 6, 7]),
@@ -289,13 +304,14 @@ impl Coverage {
             ),
             run_situations: Group::new("situations of runs", RUN_SITUATIONS),
             listing_situations: Group::new("situations of listings", LISTING_SITUATIONS),
+            compared: ComparedCoverage::new(),
         }
     }
 
     /// Every group.
     #[must_use]
-    pub fn groups(&self) -> [&Group; 31] {
-        [
+    pub fn groups(&self) -> Vec<&Group> {
+        let mut groups = vec![
             &self.cases,
             &self.command_numbers,
             &self.write_numbers,
@@ -327,7 +343,9 @@ impl Coverage {
             &self.lights,
             &self.run_situations,
             &self.listing_situations,
-        ]
+        ];
+        groups.extend(self.compared.groups());
+        groups
     }
 
     /// What was not reached but could be, or was reached but should not.
@@ -344,6 +362,14 @@ impl Coverage {
             Case::Run(run) => self.see_run(run),
             Case::Draw(draw) => self.see_draw(draw),
             Case::Listing(listing) => self.see_listing(listing),
+            Case::ComparedFrames(frames) => {
+                self.cases.hit_label("compared frames");
+                self.compared.see_frames(frames);
+            }
+            Case::ComparedMemories(memories) => {
+                self.cases.hit_label("compared memories");
+                self.compared.see_memories(memories);
+            }
         }
     }
 

@@ -1,6 +1,9 @@
 //! Cases that are the same for every seed: the small spaces, gone through
 //! value by value.
 
+mod compared_frames;
+mod compared_memories;
+
 use std::io;
 
 use crate::cases::{Case, Draw, Listing, Run, Sequence, Single};
@@ -14,7 +17,7 @@ use crate::registers::{Awaited, IMAGE_LENGTH, Image, Registers};
 /// Takes the cases one by one.
 pub type Sink<'a> = dyn FnMut(Case) -> io::Result<()> + 'a;
 
-/// Gives every case of the sweep to the sink.
+/// Gives every case of the sweep of the base to the sink.
 ///
 /// # Errors
 /// Those of the sink.
@@ -26,6 +29,15 @@ pub fn sweep(sink: &mut Sink) -> io::Result<()> {
     lengths(sink)?;
     pictures(sink)?;
     traces(sink)
+}
+
+/// Gives every pair of frames and of memories of the sweep to the sink.
+///
+/// # Errors
+/// Those of the sink.
+pub fn sweep_of_comparisons(sink: &mut Sink) -> io::Result<()> {
+    compared_frames::compared_frames(sink)?;
+    compared_memories::compared_memories(sink)
 }
 
 /// Registers of which each differs from power-on.
