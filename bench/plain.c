@@ -609,3 +609,122 @@ uint8_t plain_list(uint8_t number, size_t offset, const uint8_t *frame,
   *length = needed;
   return SSD1815B_TAKEN;
 }
+
+/* ---- where two frames or two memories differ ---- */
+
+static bool any_above_1(const uint8_t *frame)
+{
+  uint8_t bits = 0;
+  for (size_t i = 0; i < FRAME_SIZE; i++) {
+    bits |= frame[i];
+  }
+  return bits > 1;
+}
+
+/* Puts a row's runs into a list that is long enough; the place after them. */
+static uint8_t *put_runs(uint8_t *to, const uint8_t *first,
+                         const uint8_t *second, size_t row)
+{
+  if (memcmp(first, second, COLUMNS) == 0) {
+    return to;
+  }
+  for (size_t x = 0; x < COLUMNS; x++) {
+    if (first[x] == second[x]) {
+      continue;
+    }
+    size_t from = x;
+    while (x + 1 < COLUMNS && first[x + 1] == first[from]
+           && second[x + 1] == second[from]) {
+      x++;
+    }
+    *to++ = (uint8_t)row;
+    *to++ = (uint8_t)from;
+    *to++ = (uint8_t)x;
+    *to++ = first[from];
+    *to++ = second[from];
+  }
+  return to;
+}
+
+/* All runs into a list that is long enough for any; their bytes. */
+static size_t put_all_runs(uint8_t *list, const uint8_t *first,
+                           const uint8_t *second)
+{
+  uint8_t *to = list;
+  for (size_t row = 0; row <= ICON_ROW; row++) {
+    to = put_runs(to, first + row * COLUMNS, second + row * COLUMNS, row);
+  }
+  return (size_t)(to - list);
+}
+
+uint8_t plain_compare_frames(const uint8_t *first, size_t first_len,
+                             const uint8_t *second, size_t second_len,
+                             uint8_t *list, size_t list_len, size_t *count)
+{
+  *count = 0;
+  if (first_len < FRAME_SIZE || second_len < FRAME_SIZE) {
+    return SSD1815B_TOO_SHORT;
+  }
+  if (any_above_1(first) || any_above_1(second)) {
+    return SSD1815B_FRAME_BYTE_ABOVE;
+  }
+  if (list_len >= SSD1815B_FRAME_LIST_SIZE) {
+    *count = put_all_runs(list, first, second) / SSD1815B_FRAME_ENTRY_SIZE;
+    return SSD1815B_TAKEN;
+  }
+  uint8_t room[SSD1815B_FRAME_LIST_SIZE];
+  size_t needed = put_all_runs(room, first, second);
+  if (list_len < needed) {
+    return SSD1815B_LIST_TOO_SMALL;
+  }
+  memcpy(list, room, needed);
+  *count = needed / SSD1815B_FRAME_ENTRY_SIZE;
+  return SSD1815B_TAKEN;
+}
+
+/* Puts the bytes that differ in some of their bits, from a place on up to
+** another, into a list that is long enough; the place after them. */
+static uint8_t *put_bytes(uint8_t *to, const uint8_t *first,
+                          const uint8_t *second, size_t from, size_t end,
+                          uint8_t bits)
+{
+  for (size_t i = from; i < end; i++) {
+    uint8_t was = first[i] & bits;
+    uint8_t is = second[i] & bits;
+    if (was != is) {
+      *to++ = (uint8_t)i;
+      *to++ = (uint8_t)(i >> 8);
+      *to++ = was;
+      *to++ = is;
+    }
+  }
+  return to;
+}
+
+/* All bytes into a list that is long enough for any; the list's bytes. */
+static size_t put_all_bytes(uint8_t *list, const uint8_t *first,
+                            const uint8_t *second)
+{
+  uint8_t *to = list;
+  to = put_bytes(to, first, second, 0, ICON_PAGE * COLUMNS, 0xFF);
+  to = put_bytes(to, first, second, ICON_PAGE * COLUMNS, MEMORY_SIZE, 0x01);
+  return (size_t)(to - list);
+}
+
+uint8_t plain_compare_memories(const uint8_t *first, size_t first_len,
+                               const uint8_t *second, size_t second_len,
+                               uint8_t *list, size_t list_len, size_t *count)
+{
+  *count = 0;
+  if (first_len < MEMORY_SIZE || second_len < MEMORY_SIZE) {
+    return SSD1815B_TOO_SHORT;
+  }
+  uint8_t room[SSD1815B_MEMORY_LIST_SIZE];
+  size_t needed = put_all_bytes(room, first, second);
+  if (list_len < needed) {
+    return SSD1815B_LIST_TOO_SMALL;
+  }
+  memcpy(list, room, needed);
+  *count = needed / SSD1815B_MEMORY_ENTRY_SIZE;
+  return SSD1815B_TAKEN;
+}
