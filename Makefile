@@ -55,6 +55,7 @@ TOOL     := $(OUT)/ssd1815b
 NO_PNG   := $(OUT)/ssd1815b-without-png
 COMPARE  := $(OUT)/compare
 CALLS    := $(OUT)/calls
+DIFFERENCES := $(OUT)/differences
 SAMPLES  := $(OUT)/samples
 PARTS    := $(OUT)/parts
 HEADER   := $(OUT)/header
@@ -114,8 +115,9 @@ test: compare calls check-tool check-traces \
 compare: $(COMPARE) oracle
 	host/compare/compare.sh $(ORACLE) $(SEED) $(TIMES) -- $(RUN) $(COMPARE)
 
-calls: $(CALLS) $(SAMPLES) $(HEADER)
+calls: $(CALLS) $(DIFFERENCES) $(SAMPLES) $(HEADER)
 	$(RUN) $(CALLS)
+	$(RUN) $(DIFFERENCES)
 	$(RUN) $(SAMPLES)
 	$(RUN) $(HEADER)
 ifeq ($(MODEL),proved)
@@ -201,6 +203,7 @@ $(TOOL): $(call objects,host/tool/*.c) $(LINKED)
 $(COMPARE): $(call objects,host/compare/*.c) $(LINKED) \
             $(addprefix $(OUT)/host/tool/,listing.o played.o registers.o)
 $(CALLS): $(OUT)/host/test/calls.o $(OUT)/host/compare/room.o $(LINKED)
+$(DIFFERENCES): $(OUT)/host/test/differences.o $(OUT)/host/compare/room.o $(LINKED)
 $(SAMPLES): $(OUT)/host/test/samples.o $(LINKED)
 $(PARTS): $(OUT)/host/test/parts.o $(LINKED) \
           $(addprefix $(OUT)/host/tool/,played.o progress.o replay.o)
@@ -210,7 +213,7 @@ $(NO_PNG): $(filter-out %/png.o,$(call objects,host/tool/*.c)) \
 $(BENCH): $(OUT)/bench/bench.o $(OUT)/bench/workloads.o $(OUT)/bench/plain.o \
           $(LINKED)
 
-$(TOOL) $(NO_PNG) $(COMPARE) $(CALLS) $(SAMPLES) $(PARTS) $(BENCH):
+$(TOOL) $(NO_PNG) $(COMPARE) $(CALLS) $(DIFFERENCES) $(SAMPLES) $(PARTS) $(BENCH):
 	$(Q)$(CC) $(CFLAGS) $^ -o $@
 
 # The header as C++ takes it.

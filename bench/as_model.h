@@ -12,3 +12,5 @@
 #define plain_power_state ssd1815b_power_state
 #define plain_draw ssd1815b_draw
 #define plain_list ssd1815b_list
+#define plain_compare_frames ssd1815b_compare_frames
+#define plain_compare_memories ssd1815b_compare_memories

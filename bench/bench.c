@@ -21,13 +21,20 @@ static const char usage[] =
 
 static const struct model models[] = {
   { "library", ssd1815b_command, ssd1815b_write, ssd1815b_read, ssd1815b_run,
-    ssd1815b_draw, ssd1815b_list },
+    ssd1815b_draw, ssd1815b_list, ssd1815b_compare_frames,
+    ssd1815b_compare_memories },
   { "plain", plain_command, plain_write, plain_read, plain_run, plain_draw,
-    plain_list },
+    plain_list, plain_compare_frames, plain_compare_memories },
 };
 
 enum { LIBRARY, PLAIN, MODELS };
 enum { REPETITIONS = 25 };
+
+static double seconds_between(struct timespec from, struct timespec to)
+{
+  return (double)(to.tv_sec - from.tv_sec)
+         + (double)(to.tv_nsec - from.tv_nsec) / 1e9;
+}
 
 static double seconds_of(const struct workload *workload,
                          const struct model *model, size_t times)
@@ -37,8 +44,19 @@ static double seconds_of(const struct workload *workload,
   clock_gettime(CLOCK_MONOTONIC, &from);
   workload_do(workload, model, times);
   clock_gettime(CLOCK_MONOTONIC, &to);
-  return (double)(to.tv_sec - from.tv_sec)
-         + (double)(to.tv_nsec - from.tv_nsec) / 1e9;
+  return seconds_between(from, to);
+}
+
+static double seconds_by_memcmp(const struct workload *workload, size_t times)
+{
+  struct timespec from;
+  struct timespec to;
+  clock_gettime(CLOCK_MONOTONIC, &from);
+  for (size_t i = 0; i < times; i++) {
+    workload->by_memcmp();
+  }
+  clock_gettime(CLOCK_MONOTONIC, &to);
+  return seconds_between(from, to);
 }
 
 /* Both models must leave the same from the same. */
@@ -66,30 +84,43 @@ static size_t times_for(const struct workload *workload)
   return times;
 }
 
+static void keep_best(double *best, double seconds)
+{
+  if (seconds < *best) {
+    *best = seconds;
+  }
+}
+
 static void measure(const struct workload *workload)
 {
   same_result(workload);
   workload->prepare();
   size_t times = times_for(workload);
   double best[MODELS] = { 1e9, 1e9 };
+  double by_memcmp = 1e9;
   for (int repetition = 0; repetition < REPETITIONS; repetition++) {
     for (int i = 0; i < MODELS; i++) {
-      double seconds = seconds_of(workload, &models[i], times);
-      if (seconds < best[i]) {
-        best[i] = seconds;
-      }
+      keep_best(&best[i], seconds_of(workload, &models[i], times));
+    }
+    if (workload->by_memcmp != NULL) {
+      keep_best(&by_memcmp, seconds_by_memcmp(workload, times));
     }
   }
   double units = (double)times * (double)workload->units();
-  printf("%-26s %10.2f %10.2f  ns per %-6s %6.2f\n", workload->name,
+  printf("%-28s %10.2f %10.2f  ns per %-6s %6.2f\n", workload->name,
          best[LIBRARY] / units * 1e9, best[PLAIN] / units * 1e9,
          workload->unit, best[LIBRARY] / best[PLAIN]);
+  if (workload->by_memcmp != NULL) {
+    printf("%-28s %10.2f %10.2f  times memcmp of the same bytes, %.2f ns\n",
+           "", best[LIBRARY] / by_memcmp, best[PLAIN] / by_memcmp,
+           by_memcmp / units * 1e9);
+  }
 }
 
 static void measure_all(void)
 {
   printf("best of %d, in turn\n", REPETITIONS);
-  printf("%-26s %10s %10s  %-13s %6s\n", "", "library", "plain C", "",
+  printf("%-28s %10s %10s  %-13s %6s\n", "", "library", "plain C", "",
          "ratio");
   for (size_t i = 0; i < workload_count; i++) {
     measure(&workloads[i]);

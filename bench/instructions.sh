@@ -60,13 +60,13 @@ per_unit() {
 }
 
 echo "executed instructions, counted by $by"
-printf '%-26s %10s %10s  %-8s %6s\n' '' library 'plain C' '' ratio
+printf '%-28s %10s %10s  %-8s %6s\n' '' library 'plain C' '' ratio
 number=0
 while read -r units unit name; do
   library=$(per_unit $number library "$units")
   plain=$(per_unit $number plain "$units")
   awk -v name="$name" -v unit="$unit" -v library="$library" -v plain="$plain" 'BEGIN {
-    printf "%-26s %10.2f %10.2f  per %-6s %4.2f\n", name, library / 100, plain / 100, unit, library / plain
+    printf "%-28s %10.2f %10.2f  per %-6s %4.2f\n", name, library / 100, plain / 100, unit, library / plain
   }'
   number=$((number + 1))
 done < <("${emulator[@]}" "$bench" names)

@@ -18,6 +18,10 @@ struct model {
                   size_t);
   uint8_t (*list)(uint8_t, size_t, const uint8_t *, size_t, uint8_t *, size_t,
                   size_t *);
+  uint8_t (*compare_frames)(const uint8_t *, size_t, const uint8_t *, size_t,
+                            uint8_t *, size_t, size_t *);
+  uint8_t (*compare_memories)(const uint8_t *, size_t, const uint8_t *, size_t,
+                              uint8_t *, size_t, size_t *);
 };
 
 #endif

@@ -16,13 +16,15 @@ mkdir -p "$out"
 include=(-Ihost -Ihost/tool -Ihost/compare -Ibench)
 stream=$out/cases
 "$oracle" cases --seed 1 --singles 20000 --events 50000 --runs 3000 \
-  --draws 2000 --listings 200 > "$stream"
+  --draws 2000 --listings 200 --compared-frames 280 --compared-memories 1300 > "$stream"
 
 # The tests themselves are compiled once, without the model.
-for source in host/compare/*.c host/tool/{listing,played,registers}.c host/test/{calls,samples}.c; do
-  "$cc" -std=c11 -O2 "${include[@]}" -c "$source" -o "$out/$(basename "$source" .c).o"
+for source in host/compare/*.c host/tool/{listing,played,registers}.c host/test/{calls,differences,samples}.c; do
+  mkdir -p "$out/$(dirname "$source")"
+  "$cc" -std=c11 -O2 "${include[@]}" -c "$source" -o "$out/${source%.c}.o"
 done
-compare=("$out"/{compare,stream,room,report,tally,events,runs,draws,listings,listing,played,registers}.o)
+compare=("$out"/host/compare/{compare,stream,room,report,tally,events,runs,draws,listings,differences}.o
+         "$out"/host/tool/{listing,played,registers}.o)
 
 # Compiles a plain.c as the model.
 compile() {
@@ -32,11 +34,13 @@ compile() {
 # Builds the tests over the model; says which of them fail.
 caught_by() {
   "$cc" "${compare[@]}" "$out/model.o" -o "$out/compare"
-  "$cc" "$out"/{calls,room}.o "$out/model.o" -o "$out/calls"
-  "$cc" "$out"/samples.o "$out/model.o" -o "$out/samples"
+  "$cc" "$out"/host/{test/calls,compare/room}.o "$out/model.o" -o "$out/calls"
+  "$cc" "$out"/host/{test/differences,compare/room}.o "$out/model.o" -o "$out/differences"
+  "$cc" "$out"/host/test/samples.o "$out/model.o" -o "$out/samples"
   local caught=
   "${run[@]}" "$out/compare" < "$stream" > "$out/report" 2>&1 || caught+=" compare"
   "${run[@]}" "$out/calls" > /dev/null 2>&1 || caught+=" calls"
+  "${run[@]}" "$out/differences" > /dev/null 2>&1 || caught+=" differences"
   "${run[@]}" "$out/samples" > /dev/null 2>&1 || caught+=" samples"
   echo "$caught"
 }

@@ -31,5 +31,11 @@ uint8_t plain_draw(const uint8_t *state, size_t state_len,
 uint8_t plain_list(uint8_t number, size_t offset, const uint8_t *frame,
                    size_t frame_len, uint8_t *text, size_t text_len,
                    size_t *length);
+uint8_t plain_compare_frames(const uint8_t *first, size_t first_len,
+                             const uint8_t *second, size_t second_len,
+                             uint8_t *list, size_t list_len, size_t *count);
+uint8_t plain_compare_memories(const uint8_t *first, size_t first_len,
+                               const uint8_t *second, size_t second_len,
+                               uint8_t *list, size_t list_len, size_t *count);
 
 #endif

@@ -254,24 +254,167 @@ static size_t singles(void)
   return SINGLES;
 }
 
+/* ---- two frames compared ---- */
+
+/* A second frame or memory to compare the first with, and their list. */
+static uint8_t second_frame[SSD1815B_FRAME_SIZE];
+static uint8_t second_memory[SSD1815B_MEMORY_SIZE];
+static uint8_t entries[SSD1815B_FRAME_LIST_SIZE];
+static size_t entries_lent;  /* bytes of it that are lent */
+static size_t entries_count;
+
+static void compare_frames(const struct model *model)
+{
+  taken(model->compare_frames(frame, sizeof frame, second_frame,
+                              sizeof second_frame, entries, entries_lent,
+                              &entries_count));
+}
+
+static void frames_by_memcmp(void)
+{
+  answer((uint64_t)memcmp(frame, second_frame, sizeof frame));
+}
+
+/* Two frames full of the letter P, and a list for all that may differ. */
+static void equal_frames(void)
+{
+  drawn();
+  memcpy(second_frame, frame, sizeof frame);
+  memset(entries, 0, sizeof entries);
+  entries_lent = sizeof entries;
+}
+
+/* A line between two rows of letters. */
+static void one_run(void)
+{
+  equal_frames();
+  memset(second_frame + 39 * SSD1815B_COLUMNS + 40, 1, 20);
+}
+
+/* Six letters of the second frame are a K. */
+static void letters(void)
+{
+  static const uint8_t letter[] = { 0x7F, 0x08, 0x14, 0x22, 0x41, 0x00 };
+  static const size_t changed[] = { 26, 27, 28, 30, 115, 116 };
+  equal_frames();
+  for (size_t i = 0; i < sizeof changed / sizeof changed[0]; i++) {
+    memcpy(memory + changed[i] * sizeof letter, letter, sizeof letter);
+  }
+  plain_draw(state, sizeof state, memory, sizeof memory, second_frame,
+             sizeof second_frame);
+}
+
+/* The same, and a list for just these runs. */
+static void letters_exact(void)
+{
+  letters();
+  plain_compare_frames(frame, sizeof frame, second_frame, sizeof second_frame,
+                       entries, entries_lent, &entries_count);
+  entries_lent = entries_count * SSD1815B_FRAME_ENTRY_SIZE;
+}
+
+/* Every second place is lit, and the others in the second frame: 8,580 runs. */
+static void alternating(void)
+{
+  equal_frames();
+  for (size_t i = 0; i < sizeof frame; i++) {
+    frame[i] = i % 2;
+    second_frame[i] = 1 - frame[i];
+  }
+}
+
+/* All dark, and all lit: 65 runs. */
+static void whole_rows(void)
+{
+  equal_frames();
+  memset(frame, 0, sizeof frame);
+  memset(second_frame, 1, sizeof second_frame);
+}
+
+static void random_frames(void)
+{
+  equal_frames();
+  for (size_t i = 0; i < sizeof frame; i++) {
+    uint32_t bits = next_random();
+    frame[i] = bits >> 8 & 1;
+    second_frame[i] = bits >> 16 & 1;
+  }
+}
+
+/* ---- two memories compared ---- */
+
+static void compare_memories(const struct model *model)
+{
+  taken(model->compare_memories(memory, sizeof memory, second_memory,
+                                sizeof second_memory, entries, entries_lent,
+                                &entries_count));
+}
+
+static void memories_by_memcmp(void)
+{
+  answer((uint64_t)memcmp(memory, second_memory, sizeof memory));
+}
+
+/* Two memories of the same random bytes. */
+static void equal_memories(void)
+{
+  begin(NULL, 0);
+  memcpy(second_memory, memory, sizeof memory);
+  memset(entries, 0, sizeof entries);
+  entries_lent = SSD1815B_MEMORY_LIST_SIZE;
+}
+
+/* Two letters, and an icon. */
+static void a_few_bytes(void)
+{
+  equal_memories();
+  for (size_t i = 0; i < 12; i++) {
+    second_memory[3 * SSD1815B_COLUMNS + 50 + i] ^= 0x41;
+  }
+  second_memory[SSD1815B_ICON_PAGE * SSD1815B_COLUMNS + 7] ^= 0x01;
+}
+
+static void every_byte(void)
+{
+  equal_memories();
+  for (size_t i = 0; i < sizeof memory; i++) {
+    second_memory[i] ^= 0xFF;
+  }
+}
+
 /* ---- all of them ---- */
 
 const struct workload workloads[] = {
-  { "columns normal", "frame", columns_normal, draw, one },
-  { "columns mirrored", "frame", columns_mirrored, draw, one },
-  { "rows reversed, reverse", "frame", rows_reversed, draw, one },
-  { "all three turned", "frame", all_turned, draw, one },
-  { "16 rows in use", "frame", sixteen_rows, draw, one },
-  { "all lit", "frame", all_lit, draw, one },
-  { "display off", "frame", display_off, draw, one },
-  { "run of commands", "event", trace_of_commands, run, events_of_trace },
-  { "run of writes", "event", trace_of_writes, run, events_of_trace },
-  { "run of reads", "event", trace_of_reads, run, events_of_trace },
-  { "run of all kinds", "event", trace_of_all, run, events_of_trace },
-  { "command call", "event", idle, single_commands, singles },
-  { "write call", "event", idle, single_writes, singles },
-  { "read call", "event", idle, single_reads, singles },
-  { "listing of letters", "text", drawn, list, one },
+  { "columns normal", "frame", columns_normal, draw, one, NULL },
+  { "columns mirrored", "frame", columns_mirrored, draw, one, NULL },
+  { "rows reversed, reverse", "frame", rows_reversed, draw, one, NULL },
+  { "all three turned", "frame", all_turned, draw, one, NULL },
+  { "16 rows in use", "frame", sixteen_rows, draw, one, NULL },
+  { "all lit", "frame", all_lit, draw, one, NULL },
+  { "display off", "frame", display_off, draw, one, NULL },
+  { "run of commands", "event", trace_of_commands, run, events_of_trace, NULL },
+  { "run of writes", "event", trace_of_writes, run, events_of_trace, NULL },
+  { "run of reads", "event", trace_of_reads, run, events_of_trace, NULL },
+  { "run of all kinds", "event", trace_of_all, run, events_of_trace, NULL },
+  { "command call", "event", idle, single_commands, singles, NULL },
+  { "write call", "event", idle, single_writes, singles, NULL },
+  { "read call", "event", idle, single_reads, singles, NULL },
+  { "listing of letters", "text", drawn, list, one, NULL },
+  { "frames: equal", "pair", equal_frames, compare_frames, one,
+    frames_by_memcmp },
+  { "frames: one run", "pair", one_run, compare_frames, one, NULL },
+  { "frames: letters", "pair", letters, compare_frames, one, NULL },
+  { "frames: letters, exact list", "pair", letters_exact, compare_frames, one,
+    NULL },
+  { "frames: every place a run", "pair", alternating, compare_frames, one,
+    NULL },
+  { "frames: every row a run", "pair", whole_rows, compare_frames, one, NULL },
+  { "frames: random", "pair", random_frames, compare_frames, one, NULL },
+  { "memories: equal", "pair", equal_memories, compare_memories, one,
+    memories_by_memcmp },
+  { "memories: a few bytes", "pair", a_few_bytes, compare_memories, one,
+    NULL },
+  { "memories: every byte", "pair", every_byte, compare_memories, one, NULL },
 };
 
 const size_t workload_count = sizeof workloads / sizeof workloads[0];
@@ -298,5 +441,9 @@ uint64_t workload_left(void)
   sum = mixed(sum, state, sizeof state);
   sum = mixed(sum, memory, sizeof memory);
   sum = mixed(sum, frame, sizeof frame);
-  return mixed(sum, text, text_length);
+  sum = mixed(sum, second_frame, sizeof second_frame);
+  sum = mixed(sum, second_memory, sizeof second_memory);
+  sum = mixed(sum, entries, sizeof entries);
+  sum = mixed(sum + entries_count, text, text_length);
+  return sum;
 }

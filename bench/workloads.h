@@ -1,5 +1,5 @@
 /*
-** What is measured: frames in each drawing mode, and events.
+** What is measured: frames in each drawing mode, events, pairs compared.
 */
 #ifndef WORKLOADS_H
 #define WORKLOADS_H
@@ -12,6 +12,7 @@ struct workload {
   void (*prepare)(void);                    /* fills the buffers */
   void (*once)(const struct model *model);  /* the measured calls */
   size_t (*units)(void);                    /* how many units those are */
+  void (*by_memcmp)(void);                  /* memcmp of the same, or null */
 };
 
 extern const struct workload workloads[];

@@ -14,6 +14,8 @@
 **            and then the icon line, each 132 wide
 **   trace    recorded bus traffic, any number of bytes
 **
+**   list     where two frames or two memories differ, entry by entry
+**
 ** A typical host:
 **
 **     uint8_t state[SSD1815B_STATE_SIZE];
@@ -70,8 +72,8 @@ extern "C" {
 ** As text, and as the number 1000000 * major + 1000 * minor + patch, so that
 ** a program can ask `#if SSD1815B_VERSION_NUMBER >= 4000000`.
 */
-#define SSD1815B_VERSION         "4.0.0"
-#define SSD1815B_VERSION_NUMBER  4000000
+#define SSD1815B_VERSION         "4.1.0"
+#define SSD1815B_VERSION_NUMBER  4001000
 
 /*
 ** Sizes
@@ -79,7 +81,8 @@ extern "C" {
 ** The panel has SSD1815B_ROWS panel rows and, as one row more of the frame,
 ** the icon line; SSD1815B_COLUMNS places each.  The sizes of state, memory
 ** and frame are what the calls need; SSD1815B_TEXT_SIZE is enough for any
-** listing, and most are shorter.  A buffer may be longer.
+** listing, SSD1815B_FRAME_LIST_SIZE and SSD1815B_MEMORY_LIST_SIZE for any list
+** of differences, and most are shorter.  A buffer may be longer.
 */
 #define SSD1815B_COLUMNS     132
 #define SSD1815B_ROWS         64
@@ -93,16 +96,22 @@ extern "C" {
 #define SSD1815B_FRAME_SIZE   8580
 #define SSD1815B_TEXT_SIZE    27408  /* holds every listing (proved) */
 
+#define SSD1815B_FRAME_ENTRY_SIZE   5  /* of a list of differing runs */
+#define SSD1815B_MEMORY_ENTRY_SIZE  4  /* of a list of differing bytes */
+#define SSD1815B_FRAME_LIST_SIZE    42900  /* holds every such list (proved) */
+#define SSD1815B_MEMORY_LIST_SIZE   4752
+
 /*
 ** Numbers given
 **
 ** SSD1815B_TAKEN, or why not.  The event calls answer 0 to 7 (a command byte
 ** 0 to 5, a data byte 0 to 2, 6 and 7, the reset pin 0 and 1), the run any
-** of them, drawing and the power state 0 to 2, starting and listing 0 and 1,
-** the record at an offset 0 and 8.
+** of these up to 10, drawing and the power state 0 to 2, starting and listing
+** 0 and 1, the record at an offset 0 and 8, comparing frames 0, 1, 11 and 12,
+** comparing memories 0, 1 and 11.
 **
 ** Where several reasons hold, the lower of 1 and 2 goes first; then 8 before
-** 9; then 6 before 7 before 10.
+** 9; then 6 before 7 before 10; and 1 before 12 before 11.
 */
 #define SSD1815B_TAKEN          0
 #define SSD1815B_TOO_SHORT      1  /* something lent is shorter than needed */
@@ -117,6 +126,8 @@ extern "C" {
                                    ** past the end of the trace */
 #define SSD1815B_KIND_UNKNOWN   9  /* kind not 1 to 4, or 4 with a payload */
 #define SSD1815B_READ_DIFFERS  10  /* the byte read is not the recorded one */
+#define SSD1815B_LIST_TOO_SMALL    11  /* a list buffer for fewer entries */
+#define SSD1815B_FRAME_BYTE_ABOVE  12  /* a byte of a frame is above 1 */
 
 /*
 ** The state image
@@ -365,6 +376,72 @@ uint8_t ssd1815b_list(
   const uint8_t *frame, size_t frame_len,
   uint8_t *text, size_t text_len,          /* written if 0 */
   size_t *length                           /* OUT: bytes of text */
+);
+
+/*
+** Where two frames differ
+**
+** Lists each run of differing places, row by row and left to right: places
+** side by side in one row that differ in the same way, as many as there are.
+** Lit-to-dark beside dark-to-lit is two runs.  Entry i lies in bytes 5i to
+** 5i + 4 of list:
+**
+**   SSD1815B_RUN_ROW     the row, 0 to 64; the icon line is 64
+**   SSD1815B_RUN_FIRST   the run's first column, 0 to 131
+**   SSD1815B_RUN_LAST    its last column
+**   SSD1815B_RUN_WAS     its places in the first frame: 0 dark, 1 lit
+**   SSD1815B_RUN_IS      its places in the second
+**
+** Answers 0 with the number of entries in *count, the rest of list unchanged;
+** the count is 0 exactly where the frames are equal in their first 8,580
+** bytes, and then a list of no bytes is enough.  Answers 1 if a frame is
+** shorter than 8,580; else 12 if a byte among the first 8,580 of either is
+** above 1, which no drawn frame has; else 11 if list is shorter than the
+** entries, which a list of SSD1815B_FRAME_LIST_SIZE bytes never is.  Then list
+** is not written and *count is 0.
+**
+** Putting the runs into the first frame gives the second:
+**
+**     for (size_t i = 0; i < count; i++) {
+**       const uint8_t *run = list + i * SSD1815B_FRAME_ENTRY_SIZE;
+**       memset(first + run[SSD1815B_RUN_ROW] * SSD1815B_COLUMNS
+**                + run[SSD1815B_RUN_FIRST], run[SSD1815B_RUN_IS],
+**              (size_t)(run[SSD1815B_RUN_LAST] - run[SSD1815B_RUN_FIRST] + 1));
+**     }
+*/
+#define SSD1815B_RUN_ROW    0
+#define SSD1815B_RUN_FIRST  1
+#define SSD1815B_RUN_LAST   2
+#define SSD1815B_RUN_WAS    3
+#define SSD1815B_RUN_IS     4
+
+uint8_t ssd1815b_compare_frames(
+  const uint8_t *first, size_t first_len,
+  const uint8_t *second, size_t second_len,
+  uint8_t *list, size_t list_len,          /* written if 0 */
+  size_t *count                            /* OUT: entries */
+);
+
+/*
+** Where two memories differ
+**
+** Lists each differing byte once, in rising order; bytes of page 8 differ if
+** their bit 0 does, and their contents are listed by bit 0, as 0 or 1.  Entry
+** i lies in bytes 4i to 4i + 3 of list: the byte's place in the memory, 0 to
+** 1,187, low byte first; its content in the first memory; and in the second.
+**
+** Answers 0 with the number of entries in *count, the rest of list unchanged;
+** the count is 0 exactly where the memories hold the same 8,580 bits, and then
+** a list of no bytes is enough.  Answers 1 if a memory is shorter than 1,188;
+** else 11 if list is shorter than the entries, which a list of
+** SSD1815B_MEMORY_LIST_SIZE bytes never is.  Then list is not written and
+** *count is 0.
+*/
+uint8_t ssd1815b_compare_memories(
+  const uint8_t *first, size_t first_len,
+  const uint8_t *second, size_t second_len,
+  uint8_t *list, size_t list_len,          /* written if 0 */
+  size_t *count                            /* OUT: entries */
 );
 
 #ifdef __cplusplus

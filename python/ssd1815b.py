@@ -5,6 +5,8 @@
     chip.run(trace)          recorded bus traffic, in document 01's form
     chip.draw()              the frame on the glass
     listing(frame)           a frame as document 01's text
+    compare_frames(a, b)     where two frames differ, run by run
+    compare_memories(a, b)   where two memories differ, byte by byte
 
 Each call answers what host/ssd1815b.h says, with document 01's numbers.  A
 refusal is an answer, not an exception; an exception says that the module was
@@ -25,6 +27,7 @@ import enum
 import functools
 import os
 import pathlib
+import struct
 import warnings
 from collections.abc import Iterator
 from typing import Any, NamedTuple, Union
@@ -40,6 +43,11 @@ STATE_SIZE = 23
 MEMORY_SIZE = 1188
 FRAME_SIZE = 8580
 TEXT_SIZE = 27408
+
+FRAME_ENTRY_SIZE = 5
+MEMORY_ENTRY_SIZE = 4
+FRAME_LIST_SIZE = 42900
+MEMORY_LIST_SIZE = 4752
 
 Bytes = Union[bytes, bytearray, memoryview]
 
@@ -58,6 +66,8 @@ class Number(enum.IntEnum):
     HEADER_CUT = 8
     KIND_UNKNOWN = 9
     READ_DIFFERS = 10
+    LIST_TOO_SMALL = 11
+    FRAME_BYTE_ABOVE = 12
 
 
 class Register(enum.IntEnum):
@@ -143,6 +153,33 @@ class Record(NamedTuple):
     payload: bytes
 
 
+class DifferingRun(NamedTuple):
+    """Places of a row, from the first to the last, that differ in the same way: 0 dark, 1 lit, in the first frame
+    (was) and in the second (is_)."""
+
+    row: int
+    first: int
+    last: int
+    was: int
+    is_: int
+
+
+class Differing(NamedTuple):
+    """The answer of comparing frames: no runs where they are equal, or where it is refused."""
+
+    number: Number
+    runs: list[DifferingRun]
+
+
+class DifferingByte(NamedTuple):
+    """A byte that differs: its place in the memory, its content in the first (was) and in the second (is_); of page 8
+    bit 0 alone."""
+
+    place: int
+    was: int
+    is_: int
+
+
 class LibraryNotFound(OSError):
     """There is no library, or it cannot be loaded or is too old."""
 
@@ -156,6 +193,7 @@ SIZE = ctypes.c_size_t
 BYTES = ctypes.POINTER(BYTE)
 CONST = ctypes.c_char_p
 _CHIP = (BYTES, SIZE, BYTES, SIZE)
+_PAIR = (CONST, SIZE, CONST, SIZE, BYTES, SIZE, ctypes.POINTER(SIZE))
 
 _CALLS = {
     "ssd1815b_start": _CHIP,
@@ -168,6 +206,8 @@ _CALLS = {
     "ssd1815b_list": (BYTE, SIZE, CONST, SIZE, BYTES, SIZE, ctypes.POINTER(SIZE)),
     "ssd1815b_power_state": (BYTES, SIZE, BYTES),
     "ssd1815b_record": (CONST, SIZE, SIZE, ctypes.POINTER(SIZE), ctypes.POINTER(SIZE)),
+    "ssd1815b_compare_frames": _PAIR,
+    "ssd1815b_compare_memories": _PAIR,
 }
 
 
@@ -316,6 +356,28 @@ def listing(frame: Bytes, number: int = Number.TAKEN, offset: int = 0) -> str:
     text, length = (BYTE * TEXT_SIZE)(), SIZE()
     _call("ssd1815b_list", _byte(number), offset, content, FRAME_SIZE, text, TEXT_SIZE, ctypes.byref(length))
     return bytes(text[:length.value]).decode("ascii")
+
+
+def _compared(name: str, first: bytes, second: bytes, longest: int, entry: str) -> tuple[Number, list[tuple[Any, ...]]]:
+    """A call on two to compare, with a list that is always enough: its number, and the entries of the list."""
+    entries, count = (BYTE * longest)(), SIZE()
+    number = _call(name, first, len(first), second, len(second), entries, longest, ctypes.byref(count))
+    listed = bytes(entries)[:count.value * struct.calcsize(entry)]
+    return number, list(struct.iter_unpack(entry, listed))
+
+
+def compare_frames(first: Bytes, second: Bytes) -> Differing:
+    """Where two frames differ, row by row and left to right; or 12, a byte of a frame is above 1."""
+    pair = _bytes(first, "a frame", FRAME_SIZE), _bytes(second, "a frame", FRAME_SIZE)
+    number, runs = _compared("ssd1815b_compare_frames", *pair, FRAME_LIST_SIZE, "5B")
+    return Differing(number, [DifferingRun(*run) for run in runs])
+
+
+def compare_memories(first: Bytes, second: Bytes) -> list[DifferingByte]:
+    """Where two memories differ, in rising order, page 8 by bit 0."""
+    pair = _bytes(first, "a memory", MEMORY_SIZE), _bytes(second, "a memory", MEMORY_SIZE)
+    _, places = _compared("ssd1815b_compare_memories", *pair, MEMORY_LIST_SIZE, "<HBB")
+    return [DifferingByte(*place) for place in places]
 
 
 def records(trace: Bytes) -> Iterator[Record]:

@@ -1,5 +1,5 @@
 #!/usr/bin/env python3
-"""Tests of ssd1815b.py: document 01's samples, refusals, misuse, the search for the library, the README's example.
+"""Tests of ssd1815b.py: document 01's samples, refusals, misuse, the search for the library, the README's examples.
 
 What is expected is what document 01 says.  SSD1815B_LIBRARY names the library.
 """
@@ -24,7 +24,7 @@ HERE = pathlib.Path(__file__).resolve().parent
 sys.path.insert(0, str(HERE))
 
 import ssd1815b  # noqa: E402
-from ssd1815b import Chip, Kind, Number, Power, Register  # noqa: E402
+from ssd1815b import Chip, DifferingByte, DifferingRun, Kind, Number, Power, Register  # noqa: E402
 
 
 def commanded(*codes: int) -> Chip:
@@ -202,6 +202,54 @@ class Calls(unittest.TestCase):
                          OWN_TRACE)
 
 
+class Differences(unittest.TestCase):
+    """Where two frames and two memories differ, by Order 1."""
+
+    def changed(self, *runs: DifferingRun) -> tuple[bytes, bytes]:
+        """Two frames, else dark, that differ in these runs."""
+        first, second = bytearray(8580), bytearray(8580)
+        for run in runs:
+            for place in range(132 * run.row + run.first, 132 * run.row + run.last + 1):
+                first[place], second[place] = run.was, run.is_
+        return bytes(first), bytes(second)
+
+    def test_runs(self) -> None:
+        runs = [DifferingRun(0, 0, 131, 0, 1), DifferingRun(1, 0, 0, 0, 1), DifferingRun(1, 7, 9, 1, 0),
+                DifferingRun(1, 10, 10, 0, 1), DifferingRun(64, 131, 131, 1, 0)]
+        first, second = self.changed(*runs)
+        self.assertEqual(ssd1815b.compare_frames(first, bytearray(second)), (0, runs))
+        self.assertEqual(ssd1815b.compare_frames(second, memoryview(first)),
+                         (0, [run._replace(was=run.is_, is_=run.was) for run in runs]))
+
+    def test_equal_frames(self) -> None:
+        self.assertEqual(ssd1815b.compare_frames(bytes(8580), bytes(8580)), (0, []))
+
+    def test_every_place_a_run(self) -> None:
+        first, second = b"\0\1" * 4290, b"\1\0" * 4290
+        number, runs = ssd1815b.compare_frames(first, second)
+        self.assertEqual((number, len(runs)), (0, 8580))
+        self.assertEqual(runs[8579], (64, 131, 131, 1, 0))
+
+    def test_a_byte_above_1(self) -> None:
+        for first, second in (bytes(8579) + b"\2", bytes(8580)), (bytes(8580), b"\xFF" + bytes(8579)):
+            differing = ssd1815b.compare_frames(first, second)
+            self.assertEqual(differing, (12, []))
+            self.assertEqual(differing.number.name, "FRAME_BYTE_ABOVE")
+
+    def test_bytes(self) -> None:
+        first, second = bytearray(1188), bytearray(1188)
+        second[0], first[255], second[256] = 0x80, 0x12, 0x34
+        first[1055], first[1056], second[1057], second[1187] = 0xFE, 0xFE, 0xFF, 0x03
+        self.assertEqual(ssd1815b.compare_memories(first, second),
+                         [DifferingByte(0, 0, 0x80), DifferingByte(255, 0x12, 0), DifferingByte(256, 0, 0x34),
+                          DifferingByte(1055, 0xFE, 0), DifferingByte(1057, 0, 1), DifferingByte(1187, 0, 1)])
+        self.assertEqual(ssd1815b.compare_memories(first, first), [])
+
+    def test_every_byte(self) -> None:
+        found = ssd1815b.compare_memories(bytes(1188), b"\x81" * 1188)
+        self.assertEqual(found, [(place, 0, 0x81 if place < 1056 else 1) for place in range(1188)])
+
+
 class Misuse(unittest.TestCase):
     """What is no event at all, said in words."""
 
@@ -223,6 +271,10 @@ class Misuse(unittest.TestCase):
             chip.memory = bytes(1189)
         with self.assertRaisesRegex(ValueError, "a frame has 8580 bytes, not 0"):
             ssd1815b.listing(b"")
+        with self.assertRaisesRegex(ValueError, "a frame has 8580 bytes, not 8579"):
+            ssd1815b.compare_frames(bytes(8580), bytes(8579))
+        with self.assertRaisesRegex(ValueError, "a memory has 1188 bytes, not 1189"):
+            ssd1815b.compare_memories(bytes(1189), bytes(1188))
         with self.assertRaisesRegex(ValueError, "an offset is 0 or more, not -1"):
             ssd1815b.listing(bytes(8580), 3, -1)
         with self.assertRaisesRegex(ValueError, "a payload has at most 65,535 bytes, not 65536"):
@@ -302,6 +354,7 @@ class Header(unittest.TestCase):
         names: dict[str, int] = {name: value for name, value in vars(ssd1815b).items() if isinstance(value, int)}
         for group in (Number, Register, Power):
             names |= {member.name: member.value for member in group}
+        names |= {f"RUN_{field.strip('_').upper()}": place for place, field in enumerate(DifferingRun._fields)}
         for name, value in defined.items():
             if not name.startswith("VERSION"):
                 self.assertEqual(names[name], int(value), name)
@@ -374,17 +427,19 @@ class Library(unittest.TestCase):
 
 
 class Readme(unittest.TestCase):
-    """The example of README.md prints what is said there."""
+    """The examples of README.md, one after the other, print what is said there."""
 
-    def test_example(self) -> None:
+    def test_examples(self) -> None:
         text = (HERE / "README.md").read_text()
-        program = re.search(r"```python\n(.*?)```", text, re.S)
-        printed = re.search(r"```text\n(.*?)```", text, re.S)
-        assert program and printed
-        output = io.StringIO()
-        with contextlib.redirect_stdout(output):
-            exec(compile(program[1], "README.md", "exec"), {})
-        self.assertEqual(output.getvalue(), printed[1])
+        programs = re.findall(r"```python\n(.*?)```", text, re.S)
+        printed = re.findall(r"```text\n(.*?)```", text, re.S)
+        self.assertEqual((len(programs), len(printed)), (2, 2))
+        names: dict[str, object] = {}
+        for program, expected in zip(programs, printed):
+            output = io.StringIO()
+            with contextlib.redirect_stdout(output):
+                exec(compile(program, "README.md", "exec"), names)
+            self.assertEqual(output.getvalue(), expected)
 
 
 if __name__ == "__main__":

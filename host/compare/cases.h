@@ -12,11 +12,14 @@ void events_open(void);
 void runs_open(void);
 void draws_open(void);
 void listings_open(void);
+void differences_open(void);
 
 void compare_single(struct body *body);
 void compare_sequence(struct body *body);
 void compare_run(struct body *body);
 void compare_draw(struct body *body);
 void compare_listing(struct body *body);
+void compare_frames(struct body *body);
+void compare_memories(struct body *body);
 
 #endif

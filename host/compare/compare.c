@@ -87,6 +87,8 @@ static unsigned long compare_all(void)
     [TAG_RUN] = { "a run", compare_run },
     [TAG_DRAW] = { "a drawing", compare_draw },
     [TAG_LISTING] = { "a listing", compare_listing },
+    [TAG_FRAMES] = { "two frames", compare_frames },
+    [TAG_MEMORIES] = { "two memories", compare_memories },
   };
   unsigned long cases = 0;
   struct body body;
@@ -122,6 +124,7 @@ int main(int argc, char **argv)
   runs_open();
   draws_open();
   listings_open();
+  differences_open();
 
   unsigned long long seed = stream_begin();
   unsigned long cases = compare_all();
@@ -130,9 +133,11 @@ int main(int argc, char **argv)
 
   tally_print();
   printf("seed %llu: %lu cases, %lu single events, %lu runs, %lu drawings"
-         " (%lu frames), %lu listings compared: %u cases differ\n",
+         " (%lu frames), %lu listings, %lu pairs of frames, %lu of memories"
+         " compared: %u cases differ\n",
          seed, cases, events, tally_all(CALL_RUN), tally_all(CALL_DRAW),
-         frames, tally_all(CALL_LIST), report_differences());
+         frames, tally_all(CALL_LIST), tally_all(CALL_FRAMES),
+         tally_all(CALL_MEMORIES), report_differences());
 
   if (report_differences() > 0) {
     return 1;

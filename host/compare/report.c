@@ -111,26 +111,65 @@ static void differ(void)
   }
 }
 
-static const char *const things[] = {
-  [THE_NUMBER] = "number", [THE_BYTE] = "byte", [THE_DUMMY] = "dummy",
-  [THE_OFFSET] = "offset", [THE_COUNT] = "count", [THE_LENGTH] = "length",
-  [THE_STATE] = "state", [THE_MEMORY] = "memory", [THE_FRAME] = "frame",
-  [THE_TRACE] = "trace", [THE_TEXT] = "text",
-  [AFTER_THE_TEXT] = "the text buffer after the text"
+/* What the bytes of a thing are. */
+enum form { ANY_BYTES, IMAGE, MEMORY, FRAME, RUNS, BYTES };
+
+static const struct {
+  const char *name;
+  enum form form;
+} things[] = {
+  [THE_NUMBER] = { "number", ANY_BYTES },
+  [THE_BYTE] = { "byte", ANY_BYTES },
+  [THE_DUMMY] = { "dummy", ANY_BYTES },
+  [THE_OFFSET] = { "offset", ANY_BYTES },
+  [THE_COUNT] = { "count", ANY_BYTES },
+  [THE_LENGTH] = { "length", ANY_BYTES },
+  [THE_STATE] = { "state", IMAGE },
+  [THE_MEMORY] = { "memory", MEMORY },
+  [THE_FRAME] = { "frame", FRAME },
+  [THE_TRACE] = { "trace", ANY_BYTES },
+  [THE_TEXT] = { "text", ANY_BYTES },
+  [AFTER_THE_TEXT] = { "the text buffer after the text", ANY_BYTES },
+  [THE_FIRST_FRAME] = { "first frame", FRAME },
+  [THE_SECOND_FRAME] = { "second frame", FRAME },
+  [THE_RUNS] = { "list", RUNS },
+  [RUNS_PUT_IN] = { "runs that can be put into the first frame", ANY_BYTES },
+  [FRAME_WITH_RUNS] = { "first frame with the runs put in", FRAME },
+  [THE_FIRST_MEMORY] = { "first memory", MEMORY },
+  [THE_SECOND_MEMORY] = { "second memory", MEMORY },
+  [THE_BYTES] = { "list", BYTES },
+  [BYTES_PUT_IN] = { "bytes that can be put into the first memory", ANY_BYTES },
+  [MEMORY_WITH_BYTES] = { "first memory with the bytes put in", MEMORY },
+  [AFTER_THE_LIST] = { "the list buffer after the entries", ANY_BYTES }
 };
 
-/* A byte of a thing, by the name that document 01 has for it. */
+/* A byte of a thing, by the name that document 01 or Order 1 has for it. */
 static void print_place(enum thing thing, size_t place)
 {
-  fprintf(stderr, "  %s: byte %zu", things[thing], place);
-  if (thing == THE_STATE && place < SSD1815B_STATE_SIZE) {
+  static const char *const of_run[SSD1815B_FRAME_ENTRY_SIZE] = {
+    [SSD1815B_RUN_ROW] = "row", [SSD1815B_RUN_FIRST] = "first column",
+    [SSD1815B_RUN_LAST] = "last column", [SSD1815B_RUN_WAS] = "in the first",
+    [SSD1815B_RUN_IS] = "in the second"
+  };
+  static const char *const of_byte[SSD1815B_MEMORY_ENTRY_SIZE] = {
+    "place, low", "place, high", "in the first", "in the second"
+  };
+  enum form form = things[thing].form;
+  fprintf(stderr, "  %s: byte %zu", things[thing].name, place);
+  if (form == IMAGE && place < SSD1815B_STATE_SIZE) {
     fprintf(stderr, " (%s)", register_name((int)place));
-  } else if (thing == THE_MEMORY && place < SSD1815B_MEMORY_SIZE) {
+  } else if (form == MEMORY && place < SSD1815B_MEMORY_SIZE) {
     fprintf(stderr, " (page %zu column %zu)", place / SSD1815B_COLUMNS,
             place % SSD1815B_COLUMNS);
-  } else if (thing == THE_FRAME && place < SSD1815B_FRAME_SIZE) {
+  } else if (form == FRAME && place < SSD1815B_FRAME_SIZE) {
     fprintf(stderr, " (row %zu place %zu)", place / SSD1815B_COLUMNS,
             place % SSD1815B_COLUMNS);
+  } else if (form == RUNS) {
+    fprintf(stderr, " (run %zu, %s)", place / SSD1815B_FRAME_ENTRY_SIZE,
+            of_run[place % SSD1815B_FRAME_ENTRY_SIZE]);
+  } else if (form == BYTES) {
+    fprintf(stderr, " (entry %zu, %s)", place / SSD1815B_MEMORY_ENTRY_SIZE,
+            of_byte[place % SSD1815B_MEMORY_ENTRY_SIZE]);
   }
 }
 
@@ -140,7 +179,7 @@ bool same_number(enum thing thing, uint64_t expected, uint64_t found)
     return true;
   }
   differ();
-  fprintf(stderr, "  %s: expected %llu, found %llu\n", things[thing],
+  fprintf(stderr, "  %s: expected %llu, found %llu\n", things[thing].name,
           (unsigned long long)expected, (unsigned long long)found);
   return false;
 }
@@ -173,7 +212,7 @@ bool same_guards(enum thing thing, struct room *room)
   }
   differ();
   fprintf(stderr, "  %s: a byte outside the %zu lent ones was written\n",
-          things[thing], room->length);
+          things[thing].name, room->length);
   room_mend(room);
   return false;
 }

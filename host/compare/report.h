@@ -14,7 +14,9 @@
 /* What is compared. */
 enum thing { THE_NUMBER, THE_BYTE, THE_DUMMY, THE_OFFSET, THE_COUNT,
              THE_LENGTH, THE_STATE, THE_MEMORY, THE_FRAME, THE_TRACE, THE_TEXT,
-             AFTER_THE_TEXT };
+             AFTER_THE_TEXT, THE_FIRST_FRAME, THE_SECOND_FRAME, THE_RUNS,
+             RUNS_PUT_IN, FRAME_WITH_RUNS, THE_FIRST_MEMORY, THE_SECOND_MEMORY,
+             THE_BYTES, BYTES_PUT_IN, MEMORY_WITH_BYTES, AFTER_THE_LIST };
 
 /* Begins the report.  shown_by is the command that shows a case of the stream
 ** if ` --from N --count 1` is put after it. */

@@ -9,7 +9,7 @@ enum { LONGEST_BODY = 300000 };
 
 static uint8_t room[LONGEST_BODY];
 
-static _Noreturn void malformed(const char *why)
+_Noreturn void malformed(const char *why)
 {
   fprintf(stderr, "compare: not a stream of cases: %s\n", why);
   exit(2);
@@ -30,8 +30,8 @@ uint64_t stream_begin(void)
   if (memcmp(take_bytes(&header, 8).at, "1815CASE", 8) != 0) {
     malformed("it does not begin with 1815CASE");
   }
-  if (take_u32(&header) != 1) {
-    malformed("its version is not 1");
+  if (take_u32(&header) != 2) {
+    malformed("its version is not 2");
   }
   return take_u64(&header);
 }

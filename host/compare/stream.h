@@ -1,5 +1,5 @@
 /*
-** The oracle's stream of test cases (oracle/README.md, version 1), read from
+** The oracle's stream of test cases (oracle/README.md, version 2), read from
 ** standard input one case at a time.
 **
 ** A stream that is not in that form ends the program with status 2: that is
@@ -12,7 +12,7 @@
 #include <stdint.h>
 
 enum { TAG_END = 0, TAG_SINGLE = 1, TAG_SEQUENCE = 2, TAG_RUN = 3,
-       TAG_DRAW = 4, TAG_LISTING = 5 };
+       TAG_DRAW = 4, TAG_LISTING = 5, TAG_FRAMES = 6, TAG_MEMORIES = 7 };
 
 enum { EVENT_COMMAND = 1, EVENT_WRITE = 2, EVENT_READ = 3, EVENT_RESET = 4 };
 
@@ -67,5 +67,8 @@ struct change take_change(struct body *body);
 
 /* All of the body must have been taken. */
 void take_nothing_more(const struct body *body);
+
+/* Ends the program: the stream is not in its form. */
+_Noreturn void malformed(const char *why);
 
 #endif

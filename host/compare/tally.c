@@ -2,19 +2,21 @@
 
 #include <stdio.h>
 
-enum { NUMBERS = 11 };
+enum { NUMBERS = 13 };
 
 static const struct {
   const char *name;
   const char *can_give; /* '+' for each number that the call can give */
 } calls[CALLS] = {
-  [CALL_COMMAND] = { "command", "++++++     " },
-  [CALL_WRITE]   = { "write",   "+++   ++   " },
-  [CALL_READ]    = { "read",    "+++   ++   " },
-  [CALL_RESET]   = { "reset",   "++         " },
-  [CALL_RUN]     = { "run",     "+++++++++++" },
-  [CALL_DRAW]    = { "draw",    "+++        " },
-  [CALL_LIST]    = { "list",    "+          " },
+  [CALL_COMMAND]  = { "command",  "++++++       " },
+  [CALL_WRITE]    = { "write",    "+++   ++     " },
+  [CALL_READ]     = { "read",     "+++   ++     " },
+  [CALL_RESET]    = { "reset",    "++           " },
+  [CALL_RUN]      = { "run",      "+++++++++++  " },
+  [CALL_DRAW]     = { "draw",     "+++          " },
+  [CALL_LIST]     = { "list",     "+            " },
+  [CALL_FRAMES]   = { "frames",   "++         ++" },
+  [CALL_MEMORIES] = { "memories", "++         + " },
 };
 
 static unsigned long given[CALLS][NUMBERS];
@@ -42,13 +44,13 @@ unsigned long tally_all(enum call call)
 
 void tally_print(void)
 {
-  printf("answer ");
+  printf("answer  ");
   for (int number = 0; number < NUMBERS; number++) {
     printf(" %8d", number);
   }
   printf("\n");
   for (int call = 0; call < CALLS; call++) {
-    printf("%-7s", calls[call].name);
+    printf("%-8s", calls[call].name);
     for (int number = 0; number < NUMBERS; number++) {
       if (calls[call].can_give[number] == '+') {
         printf(" %8lu", given[call][number]);

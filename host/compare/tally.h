@@ -8,7 +8,7 @@
 #include <stdint.h>
 
 enum call { CALL_COMMAND, CALL_WRITE, CALL_READ, CALL_RESET, CALL_RUN,
-            CALL_DRAW, CALL_LIST, CALLS };
+            CALL_DRAW, CALL_LIST, CALL_FRAMES, CALL_MEMORIES, CALLS };
 
 void tally_add(enum call call, uint8_t number);
 

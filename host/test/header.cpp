@@ -36,11 +36,32 @@ int main()
   std::size_t next = 0;
   ssd1815b_record(trace, sizeof trace, 5, &kind, &next);
 
+  // What the trace has changed of a dark frame and a zero memory.
+  const std::uint8_t runs[] = { 0, 0, 1, 0, 1, 1, 0, 0, 0, 1 };
+  const std::uint8_t bytes[] = { 0, 0, 0, 3, 1, 0, 0, 1 };
+  const std::vector<std::uint8_t> dark(SSD1815B_FRAME_SIZE);
+  const std::vector<std::uint8_t> zero(SSD1815B_MEMORY_SIZE);
+  std::vector<std::uint8_t> differing_runs(SSD1815B_FRAME_LIST_SIZE);
+  std::vector<std::uint8_t> differing_bytes(SSD1815B_MEMORY_LIST_SIZE);
+  std::size_t run_count = 0;
+  std::size_t byte_count = 0;
+  ssd1815b_compare_frames(dark.data(), dark.size(), frame.data(), frame.size(),
+                          differing_runs.data(), differing_runs.size(),
+                          &run_count);
+  ssd1815b_compare_memories(zero.data(), zero.size(), memory.data(),
+                            memory.size(), differing_bytes.data(),
+                            differing_bytes.size(), &byte_count);
+
   const bool right = number == SSD1815B_TAKEN && offset == sizeof trace
                      && count == 2 && power == SSD1815B_AWAKE
                      && kind == 2 && next == sizeof trace
                      && length == sizeof listing - 1
-                     && std::memcmp(text.data(), listing, length) == 0;
+                     && std::memcmp(text.data(), listing, length) == 0
+                     && run_count == 2 && byte_count == 2
+                     && std::memcmp(differing_runs.data(), runs, sizeof runs)
+                            == 0
+                     && std::memcmp(differing_bytes.data(), bytes,
+                                    sizeof bytes) == 0;
   std::printf("header: the listing from C++ is %s\n", right ? "right" : "wrong");
   return right ? 0 : 1;
 }
