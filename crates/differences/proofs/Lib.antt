@@ -10,7 +10,11 @@ pub mod Entries
 pub mod Listed
 -- The ways that a call can go: its number tells the way, and the way what is left.
 pub mod Ways
+-- The longest lists of all.
+pub mod Longest
 -- Each number exactly when, and how large the list buffer must be.
 pub mod Given
+-- What drawing leaves is never refused for a byte above 1.
+pub mod DrawnFrames
 -- What each call states has one result.
 pub mod Settled
