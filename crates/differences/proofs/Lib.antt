@@ -16,5 +16,9 @@ pub mod Longest
 pub mod Given
 -- What drawing leaves is never refused for a byte above 1.
 pub mod DrawnFrames
+-- One value stored at places side by side, and lists that begin alike.
+pub mod Stores
+-- The differing bytes put into the first memory give the second.
+pub mod PutBytes
 -- What each call states has one result.
 pub mod Settled
