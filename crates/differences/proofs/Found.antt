@@ -1,14 +1,15 @@
 -- Lists of what is found place by place along a row, and row by row: what holds of all of it, what is among it, and its order.
 -- Assumes nothing.
 use Prim.Native.Nat.{ℕ, zero, suc, _+_, _*_, _≤_, _<_}
-use mathlib.Core.Path.{_≡_, refl, _∙_, sym, ap, subst}
-use mathlib.Core.Bool.{Bool, true, false, cond, true≢false}
-use mathlib.Core.Logic.{_⊎_, inl, inr, ⊎-elim}
-use mathlib.Core.List.{List, [], _∷_, _++_}
+use mathlib.Core.Path.{_≡_, _∙_, sym, ap, subst}
+use mathlib.Core.Bool.{Bool, true, cond, true≢false}
+use mathlib.Core.Logic.{inl, inr, ⊎-elim}
+use mathlib.Core.List.{List, [], _∷_}
 use native.Mathlib.Nat.{eq-or-lt-of-le}
 use native.Mathlib.Omega.{arith}
-use lib.ListN.{getD, take, drop}
+use lib.ListN.{getD, drop}
 use lib.Seq.{getD-take, getD-drop}
+use Rattle.codes.proofs.Tests.{chosen}
 use Rattle.bus.specs.Bytes.{All}
 use Rattle.picture.specs.Frame.{rowOf, placeOf}
 use Rattle.differences.specs.ByRows.{byRows}
@@ -30,33 +31,27 @@ module _ {A : Type 0} (test : ℕ → Bool) (entry : ℕ → A) where
   pub all-found : (P : A → Type 0) (n x : ℕ) → ((y : ℕ) → x ≤ y → y < x + n → test y ≡ true → P (entry y)) → All P (found test entry n x)
   unfolding found
   all-found P zero x each = tt
-  all-found P (suc n) x each = by (test x) refl (all-found P n (suc x) (λ y h k e. each y (omega arith) (omega arith) e))
-    where
-      by : (t : Bool) → test x ≡ t → All P (found test entry n (suc x)) → All P (cond t (entry x ∷ found test entry n (suc x)) (found test entry n (suc x)))
-      by true e rest = (each x (omega arith) (omega arith) e, rest)
-      by false e rest = rest
+  all-found P (suc n) x each =
+      let rest = all-found P n (suc x) (λ y h k e. each y (omega arith) (omega arith) e) in
+      chosen (All P) (test x) (entry x ∷ found test entry n (suc x)) (found test entry n (suc x)) (λ e. (each x (omega arith) (omega arith) e, rest)) (λ e. rest)
 
   -- each such place's entry is among them
   pub some-found : (P : A → Type 0) (n x y : ℕ) → x ≤ y → y < x + n → test y ≡ true → P (entry y) → Some P (found test entry n x)
   unfolding found
   some-found P zero x y h k e p = absurd (omega arith)
-  some-found P (suc n) x y h k e p = by (test x) refl (eq-or-lt-of-le h) (λ l. some-found P n (suc x) y (omega arith) (omega arith) e p)
-    where
-      by : (t : Bool) → test x ≡ t → (x ≡ y) ⊎ (x < y) → (x < y → Some P (found test entry n (suc x))) → Some P (cond t (entry x ∷ found test entry n (suc x)) (found test entry n (suc x)))
-      by true d (inl i) rest = inl (subst (λ z. P (entry z)) (sym i) p)
-      by true d (inr l) rest = inr (rest l)
-      by false d (inl i) rest = absurd (true≢false (sym e ∙ ap test (sym i) ∙ d))
-      by false d (inr l) rest = rest l
+  some-found P (suc n) x y h k e p =
+      let rest : x < y → Some P (found test entry n (suc x)) = λ l. some-found P n (suc x) y (omega arith) (omega arith) e p in
+      chosen (Some P) (test x) (entry x ∷ found test entry n (suc x)) (found test entry n (suc x))
+      (λ d. ⊎-elim (λ i. inl (subst (λ z. P (entry z)) (sym i) p)) (λ l. inr (rest l)) (eq-or-lt-of-le h))
+      (λ d. ⊎-elim (λ i. absurd (true≢false (sym e ∙ ap test (sym i) ∙ d))) rest (eq-or-lt-of-le h))
 
   -- they are in order where any two of them are
   pub order-found : (Before : A → A → Type 0) → ((y z : ℕ) → y < z → test y ≡ true → test z ≡ true → Before (entry y) (entry z)) → (n x : ℕ) → InOrder Before (found test entry n x)
   unfolding found
   order-found Before two zero x = tt
-  order-found Before two (suc n) x = by (test x) refl (order-found Before two n (suc x))
-    where
-      by : (t : Bool) → test x ≡ t → InOrder Before (found test entry n (suc x)) → InOrder Before (cond t (entry x ∷ found test entry n (suc x)) (found test entry n (suc x)))
-      by true e rest = (all-found (Before (entry x)) n (suc x) (λ y h k d. two x y (omega arith) e d), rest)
-      by false e rest = rest
+  order-found Before two (suc n) x =
+      let rest = order-found Before two n (suc x) in
+      chosen (InOrder Before) (test x) (entry x ∷ found test entry n (suc x)) (found test entry n (suc x)) (λ e. (all-found (Before (entry x)) n (suc x) (λ y h k d. two x y (omega arith) e d), rest)) (λ e. rest)
 
 module _ {A : Type 0} (w : ℕ) (each : ℕ → List ℕ → List ℕ → List A) (f g : List ℕ) where
   -- What row p gives.

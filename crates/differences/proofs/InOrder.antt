@@ -1,7 +1,7 @@
 -- What is said of all or one of a list, and of lists one after the other; and two lists in order that have the same members are one.
 -- Assumes nothing.
 use mathlib.Core.Path.{_≡_, refl, sym, _∙_, ap₂, subst}
-use mathlib.Core.Logic.{_⊎_, inl, inr, ⊎-elim}
+use mathlib.Core.Logic.{inl, inr}
 use mathlib.Core.List.{List, [], _∷_, _++_}
 use Rattle.bus.specs.Bytes.{All}
 use Rattle.differences.specs.InOrder.{Some, InOrder}
@@ -46,6 +46,11 @@ Among l e = Some (λ d. d ≡ e) l
 all-is : {A : Type 0} (P : A → Type 0) (l : List A) (e : A) → All P l → Among l e → P e
 all-is P (a ∷ l) e all (inl i) = subst P i (all .0)
 all-is P (a ∷ l) e all (inr s) = all-is P l e (all .1) s
+
+-- lists in one order are in another that follows from it
+pub order-map : {A : Type 0} (P : A → Type 0) (Before After : A → A → Type 0) → ((a b : A) → P a → Before a b → After a b) → (l : List A) → All P l → InOrder Before l → InOrder After l
+order-map P Before After f [] all o = tt
+order-map P Before After f (a ∷ l) all o = (all-map (Before a) (After a) (λ b. f a b (all .0)) l (o .0), order-map P Before After f l (all .1) (o .1))
 
 module _ {A : Type 0} (Before : A → A → Type 0) where
   -- two lists in order, all of the first before all of the second

@@ -2,7 +2,11 @@
 pub mod InOrder
 -- Lists of what is found place by place, and row by row.
 pub mod Found
--- The differing bytes are the only list that the order's rule allows.
+-- Where a run of a row begins, and how far it goes.
+pub mod RowRuns
+-- The differing runs are the only list that the order's rule allows.
+pub mod FrameRule
+-- The differing bytes are the only list that it allows.
 pub mod MemoryRule
 -- For the code too: how long entries are, where each lies, how many there can be.
 pub mod Entries
