@@ -24,5 +24,9 @@ pub mod DrawnFrames
 pub mod Stores
 -- The differing bytes put into the first memory give the second.
 pub mod PutBytes
+-- Runs put into the first frame give the second.
+pub mod PutRuns
+-- What is listed, put into the first, gives the second.
+pub mod PutBack
 -- What each call states has one result.
 pub mod Settled
