@@ -42,7 +42,7 @@ above-at (suc n) [] place h a = absurd (not-suc-le-zero a)
 above-at (suc n) (b ∷ rest) zero h a = rw (lt-ltb 1 b a)
 above-at (suc n) (b ∷ rest) (suc place) h a = rw (above-at n rest place (omega (arith, h)) a, or-true)
 
-pub none-above : (size : ℕ) (frame : List ℕ) → anyAbove (take size frame) ≡ false → Above size frame → ⊥
+none-above : (size : ℕ) (frame : List ℕ) → anyAbove (take size frame) ≡ false → Above size frame → ⊥
 none-above size frame e a = false≢true (sym e ∙ above-at size frame (a .place) (a .placeIn) (a .above))
 
 -- what it is that neither of two tests holds
@@ -89,14 +89,14 @@ module _ (f g list : List ℕ) where
   frames-compared : FramesCompared f g list
   frames-compared =
       let o = compareFrames f g list in
-      let eleven = when-eleven frameEntrySize runEntry run-sized (runsOf f g) list frameSize f g BadFrames o frame-way in
-      let zero = when-zero frameEntrySize runEntry run-sized (runsOf f g) list frameSize f g BadFrames o frame-way in
+      let eleven = when-eleven o frame-way in
+      let zero = when-zero o frame-way in
       record {
-        one = when-one frameEntrySize runEntry run-sized (runsOf f g) list frameSize f g BadFrames o frame-way;
-        twelve = when-twelve frameEntrySize runEntry run-sized (runsOf f g) list frameSize f g BadFrames o frame-way;
+        one = when-one o frame-way;
+        twelve = when-twelve o frame-way;
         eleven = (λ e. let t = eleven .0 e in (t .0, λ a. t .1 (inl a), λ a. t .1 (inr a), t .2), λ t. eleven .1 (t .0, ⊎-elim (t .1) (t .2), t .3));
         zero = (λ e. let t = zero .0 e in (t .0, λ a. t .1 (inl a), λ a. t .1 (inr a), t .2), λ t. zero .1 (t .0, ⊎-elim (t .1) (t .2), t .3));
-        left = left-then frameEntrySize runEntry run-sized (runsOf f g) list frameSize f g BadFrames noRun o frame-way;
+        left = left-then noRun o frame-way;
       }
 
   -- Two memories and a list buffer.
@@ -113,13 +113,13 @@ module _ (f g list : List ℕ) where
   memories-compared : MemoriesCompared f g list
   memories-compared =
       let o = compareMemories f g list in
-      let eleven = when-eleven memoryEntrySize byteEntry byte-sized (bytesOf f g) list memorySize f g ⊥ o memory-way in
-      let zero = when-zero memoryEntrySize byteEntry byte-sized (bytesOf f g) list memorySize f g ⊥ o memory-way in
+      let eleven = when-eleven o memory-way in
+      let zero = when-zero o memory-way in
       record {
-        one = when-one memoryEntrySize byteEntry byte-sized (bytesOf f g) list memorySize f g ⊥ o memory-way;
+        one = when-one o memory-way;
         eleven = (λ e. let t = eleven .0 e in (t .0, t .2), λ t. eleven .1 (t .0, λ n. n, t .1));
         zero = (λ e. let t = zero .0 e in (t .0, t .2), λ t. zero .1 (t .0, λ n. n, t .1));
-        left = left-then memoryEntrySize byteEntry byte-sized (bytesOf f g) list memorySize f g ⊥ noByte o memory-way;
+        left = left-then noByte o memory-way;
       }
 
 -- the entries of any two frames, or memories, fit into the longest list
