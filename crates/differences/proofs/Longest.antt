@@ -10,7 +10,7 @@ use native.Mathlib.Omega.{arith}
 use lib.Dec.{eqb, lit≤}
 use lib.ListN.{length, length-append, replicate, getD-replicate}
 use lib.Seq.{drop-append-add}
-use Rattle.constants.specs.Sizes.{width, frameRows, frameSize, pages, memorySize}
+use Rattle.constants.specs.Sizes.{width, frameRows, frameSize, pages, iconPage, memorySize}
 use Rattle.codes.proofs.Tests.{both, chosen}
 use Rattle.bus.specs.Memory.{kept}
 use Rattle.picture.specs.Frame.{rowOf, placeOf}
@@ -80,7 +80,7 @@ most-runs = rows-full width width frameRows (rowRuns width) (striped 0 1 frameRo
 -- page 8 keeps a byte that has bit 0 only
 kept-bit : (page bit : ℕ) → bit < 2 → kept page bit ≡ bit
 unfolding kept
-kept-bit page bit h = chosen (λ byte. byte ≡ bit) (eqb page 8) (bit % 2) bit (λ e. omega (arith, h)) (λ e. refl)
+kept-bit page bit h = chosen (λ byte. byte ≡ bit) (eqb page iconPage) (bit % 2) bit (λ e. omega (arith, h)) (λ e. refl)
 
 -- and each byte of a memory of one such byte is that
 one-byte : (bit page x : ℕ) → bit < 2 → page < pages → x < width → held page (rowOf width page (replicate memorySize bit)) x ≡ bit
