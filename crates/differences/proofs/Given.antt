@@ -1,9 +1,9 @@
 -- Each number is given exactly when document 02 says so, what is left of the list buffer, and how large it must be.
 -- Assumes nothing.
-use Prim.Native.Nat.{ℕ, zero, suc, _+_, _*_, _≤_, _<_}
+use Prim.Native.Nat.{ℕ, zero, suc, _*_, _≤_, _<_}
 use mathlib.Core.Path.{_≡_, refl, sym, _∙_}
 use mathlib.Core.Bool.{Bool, true, false, _||_, or-true, false≢true}
-use mathlib.Core.Logic.{_⊎_, inl, inr, ⊎-elim, ⊎-map, Iff·trans}
+use mathlib.Core.Logic.{_⊎_, inl, inr, ⊎-elim, ⊎-map}
 use mathlib.Core.List.{List, [], _∷_}
 use native.Mathlib.Nat.{not-suc-le-zero}
 use native.Mathlib.Omega.{arith}
@@ -11,15 +11,14 @@ use borrow.Author.Tests.{lt-ltb, ltb-true, ltb-false}
 use lib.Dec.{ltb}
 use lib.ListN.{length, getD, take}
 use Rattle.constants.specs.Sizes.{width, frameRows, frameSize, memorySize, frameEntrySize, memoryEntrySize, longestFrameList, longestMemoryList}
-use Rattle.constants.specs.Numbers.{tooShort, frameByteAbove}
 use Rattle.codes.proofs.Tests.{chosen, either}
 use Rattle.differences.specs.Runs.{runsOf}
 use Rattle.differences.specs.Bytes.{bytesOf}
 use Rattle.differences.specs.Entries.{runEntry, byteEntry}
-use Rattle.differences.specs.Compare.{Outcome, outcome, listed, anyAbove, compareFrames, compareMemories}
-use Rattle.differences.specs.Given.{Long, Above, Left, noRun, noByte, FramesCompared, MemoriesCompared, Given}
-use Rattle.differences.specs.declared.compared.Compared.{Compared}
-use Rattle.differences.proofs.Entries.{run-sized, byte-sized}
+use Rattle.differences.specs.Compare.{Outcome, anyAbove, compareFrames, compareMemories}
+use Rattle.differences.specs.Given.{Long, Above, noRun, noByte, FramesCompared, MemoriesCompared, Given}
+use Rattle.differences.proofs.Entries.{run-sized, byte-sized, runs-at-most, bytes-at-most}
+use Rattle.differences.proofs.Longest.{most-runs, most-bytes}
 use Rattle.differences.proofs.Ways.{Way, short, bad, by-length, when-one, when-twelve, when-eleven, when-zero, left-then}
 
 -- The test on the first bytes finds one above 1 where there is one,
@@ -43,7 +42,7 @@ above-at (suc n) [] place h a = absurd (not-suc-le-zero a)
 above-at (suc n) (b ∷ rest) zero h a = rw (lt-ltb 1 b a)
 above-at (suc n) (b ∷ rest) (suc place) h a = rw (above-at n rest place (omega (arith, h)) a, or-true)
 
-pub none-above : (size : ℕ) (frame : List ℕ) → anyAbove (take size frame) ≡ false → Above size frame → ⊥
+none-above : (size : ℕ) (frame : List ℕ) → anyAbove (take size frame) ≡ false → Above size frame → ⊥
 none-above size frame e a = false≢true (sym e ∙ above-at size frame (a .place) (a .placeIn) (a .above))
 
 -- what it is that neither of two tests holds
@@ -90,14 +89,14 @@ module _ (f g list : List ℕ) where
   frames-compared : FramesCompared f g list
   frames-compared =
       let o = compareFrames f g list in
-      let eleven = when-eleven frameEntrySize runEntry run-sized (runsOf f g) list frameSize f g BadFrames o frame-way in
-      let zero = when-zero frameEntrySize runEntry run-sized (runsOf f g) list frameSize f g BadFrames o frame-way in
+      let eleven = when-eleven o frame-way in
+      let zero = when-zero o frame-way in
       record {
-        one = when-one frameEntrySize runEntry run-sized (runsOf f g) list frameSize f g BadFrames o frame-way;
-        twelve = when-twelve frameEntrySize runEntry run-sized (runsOf f g) list frameSize f g BadFrames o frame-way;
+        one = when-one o frame-way;
+        twelve = when-twelve o frame-way;
         eleven = (λ e. let t = eleven .0 e in (t .0, λ a. t .1 (inl a), λ a. t .1 (inr a), t .2), λ t. eleven .1 (t .0, ⊎-elim (t .1) (t .2), t .3));
         zero = (λ e. let t = zero .0 e in (t .0, λ a. t .1 (inl a), λ a. t .1 (inr a), t .2), λ t. zero .1 (t .0, ⊎-elim (t .1) (t .2), t .3));
-        left = left-then frameEntrySize runEntry run-sized (runsOf f g) list frameSize f g BadFrames noRun o frame-way;
+        left = left-then noRun o frame-way;
       }
 
   -- Two memories and a list buffer.
@@ -114,11 +113,28 @@ module _ (f g list : List ℕ) where
   memories-compared : MemoriesCompared f g list
   memories-compared =
       let o = compareMemories f g list in
-      let eleven = when-eleven memoryEntrySize byteEntry byte-sized (bytesOf f g) list memorySize f g ⊥ o memory-way in
-      let zero = when-zero memoryEntrySize byteEntry byte-sized (bytesOf f g) list memorySize f g ⊥ o memory-way in
+      let eleven = when-eleven o memory-way in
+      let zero = when-zero o memory-way in
       record {
-        one = when-one memoryEntrySize byteEntry byte-sized (bytesOf f g) list memorySize f g ⊥ o memory-way;
+        one = when-one o memory-way;
         eleven = (λ e. let t = eleven .0 e in (t .0, t .2), λ t. eleven .1 (t .0, λ n. n, t .1));
         zero = (λ e. let t = zero .0 e in (t .0, t .2), λ t. zero .1 (t .0, λ n. n, t .1));
-        left = left-then memoryEntrySize byteEntry byte-sized (bytesOf f g) list memorySize f g ⊥ noByte o memory-way;
+        left = left-then noByte o memory-way;
       }
+
+-- the entries of any two frames, or memories, fit into the longest list
+frames-enough : (f g : List ℕ) → length (runsOf f g) * frameEntrySize ≤ longestFrameList
+frames-enough f g = omega (arith, runs-at-most width frameRows f g)
+
+memories-enough : (f g : List ℕ) → length (bytesOf f g) * memoryEntrySize ≤ longestMemoryList
+memories-enough f g = omega (arith, bytes-at-most f g)
+
+pub given : Given
+given = record {
+  frames = frames-compared;
+  memories = memories-compared;
+  framesEnough = frames-enough;
+  framesReached = rw most-runs;
+  memoriesEnough = memories-enough;
+  memoriesReached = rw most-bytes;
+}

@@ -14,8 +14,20 @@ pub mod Entries
 pub mod Listed
 -- The ways that a call can go: its number tells the way, and the way what is left.
 pub mod Ways
+-- The longest lists of all.
+pub mod Longest
 -- Each number exactly when, and how large the list buffer must be.
 pub mod Given
+-- What drawing leaves is never refused for a byte above 1.
+pub mod DrawnFrames
+-- One value stored at places side by side, and lists that begin alike.
+pub mod Stores
+-- The differing bytes put into the first memory give the second.
+pub mod PutBytes
+-- Runs put into the first frame give the second.
+pub mod PutRuns
+-- What is listed, put into the first, gives the second.
+pub mod PutBack
 -- What each call states has one result.
 pub mod Settled
 -- For the code: entries put one after the other.
