@@ -55,7 +55,7 @@ TOOL     := $(OUT)/ssd1815b
 NO_PNG   := $(OUT)/ssd1815b-without-png
 COMPARE  := $(OUT)/compare
 CALLS    := $(OUT)/calls
-DIFFERENCES := $(OUT)/differences
+DIFFER   := $(OUT)/differences
 SAMPLES  := $(OUT)/samples
 PARTS    := $(OUT)/parts
 HEADER   := $(OUT)/header
@@ -91,7 +91,7 @@ help:
 	@echo 'make uninstall     removes just those files'
 	@echo 'make test          all tests of the C side and of python/: the next six'
 	@echo 'make compare       the library beside the oracle; SEED=2 TIMES=10 for more'
-	@echo 'make calls         the calls that the oracle has no cases for, the header, the archive'
+	@echo 'make calls         the calls that the oracle has no cases for, where two screens differ, the header, the archive'
 	@echo 'make check-tool    the tool: what it prints, and its status'
 	@echo 'make check-traces  every trace, yours in traces/recorded too: oracle beside the tool'
 	@echo 'make check-install an installation in an empty folder, and C programs built against it'
@@ -115,9 +115,9 @@ test: compare calls check-tool check-traces \
 compare: $(COMPARE) oracle
 	host/compare/compare.sh $(ORACLE) $(SEED) $(TIMES) -- $(RUN) $(COMPARE)
 
-calls: $(CALLS) $(DIFFERENCES) $(SAMPLES) $(HEADER)
+calls: $(CALLS) $(DIFFER) $(SAMPLES) $(HEADER)
 	$(RUN) $(CALLS)
-	$(RUN) $(DIFFERENCES)
+	$(RUN) $(DIFFER)
 	$(RUN) $(SAMPLES)
 	$(RUN) $(HEADER)
 ifeq ($(MODEL),proved)
@@ -203,7 +203,7 @@ $(TOOL): $(call objects,host/tool/*.c) $(LINKED)
 $(COMPARE): $(call objects,host/compare/*.c) $(LINKED) \
             $(addprefix $(OUT)/host/tool/,listing.o played.o registers.o)
 $(CALLS): $(OUT)/host/test/calls.o $(OUT)/host/compare/room.o $(LINKED)
-$(DIFFERENCES): $(OUT)/host/test/differences.o $(OUT)/host/compare/room.o $(LINKED)
+$(DIFFER): $(OUT)/host/test/differences.o $(OUT)/host/compare/room.o $(LINKED)
 $(SAMPLES): $(OUT)/host/test/samples.o $(LINKED)
 $(PARTS): $(OUT)/host/test/parts.o $(LINKED) \
           $(addprefix $(OUT)/host/tool/,played.o progress.o replay.o)
@@ -213,7 +213,7 @@ $(NO_PNG): $(filter-out %/png.o,$(call objects,host/tool/*.c)) \
 $(BENCH): $(OUT)/bench/bench.o $(OUT)/bench/workloads.o $(OUT)/bench/plain.o \
           $(LINKED)
 
-$(TOOL) $(NO_PNG) $(COMPARE) $(CALLS) $(DIFFERENCES) $(SAMPLES) $(PARTS) $(BENCH):
+$(TOOL) $(NO_PNG) $(COMPARE) $(CALLS) $(DIFFER) $(SAMPLES) $(PARTS) $(BENCH):
 	$(Q)$(CC) $(CFLAGS) $^ -o $@
 
 # The header as C++ takes it.

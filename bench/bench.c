@@ -47,6 +47,7 @@ static double seconds_of(const struct workload *workload,
   return seconds_between(from, to);
 }
 
+/* The same for memcmp of what the workload compares. */
 static double seconds_by_memcmp(const struct workload *workload, size_t times)
 {
   struct timespec from;

@@ -612,7 +612,8 @@ uint8_t plain_list(uint8_t number, size_t offset, const uint8_t *frame,
 
 /* ---- where two frames differ ---- */
 
-/* Asked of both halves at once, which is twice as fast. */
+/* Whether a byte of a frame is above 1.  Both halves are asked at once, which
+** is twice as fast. */
 static bool any_above_1(const uint8_t *frame)
 {
   enum { HALF = FRAME_SIZE / 2 };
@@ -638,6 +639,7 @@ static uint64_t eight_bits(const uint8_t *places)
   return word * 0x0102040810204080 >> 56;
 }
 
+/* All places of a row: 64, 64 and 4. */
 static void row_bits(uint64_t *bits, const uint8_t *row)
 {
   for (size_t i = 0; i < WORDS - 1; i++) {
@@ -655,6 +657,8 @@ struct runs {
   uint64_t last[WORDS];
 };
 
+/* A run begins at a differing place that is not joined to the place before it,
+** and ends at one that the place after it is not joined to. */
 static struct runs runs_of(const uint8_t *first, const uint8_t *second)
 {
   uint64_t was[WORDS];

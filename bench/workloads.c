@@ -263,6 +263,7 @@ static uint8_t entries[SSD1815B_FRAME_LIST_SIZE];
 static size_t entries_lent;  /* bytes of it that are lent */
 static size_t entries_count;
 
+/* The two frames, compared by a model. */
 static void compare_frames(const struct model *model)
 {
   taken(model->compare_frames(frame, sizeof frame, second_frame,
@@ -270,6 +271,7 @@ static void compare_frames(const struct model *model)
                               &entries_count));
 }
 
+/* The same bytes by the C library, which says only whether they differ. */
 static void frames_by_memcmp(void)
 {
   answer((uint64_t)memcmp(frame, second_frame, sizeof frame));
@@ -331,6 +333,7 @@ static void whole_rows(void)
   memset(second_frame, 1, sizeof second_frame);
 }
 
+/* Each place dark or lit in each frame by chance. */
 static void random_frames(void)
 {
   equal_frames();
@@ -343,6 +346,7 @@ static void random_frames(void)
 
 /* ---- two memories compared ---- */
 
+/* The two memories, compared by a model. */
 static void compare_memories(const struct model *model)
 {
   taken(model->compare_memories(memory, sizeof memory, second_memory,
@@ -350,6 +354,7 @@ static void compare_memories(const struct model *model)
                                 &entries_count));
 }
 
+/* The same bytes by the C library. */
 static void memories_by_memcmp(void)
 {
   answer((uint64_t)memcmp(memory, second_memory, sizeof memory));
@@ -374,6 +379,7 @@ static void a_few_bytes(void)
   second_memory[SSD1815B_ICON_PAGE * SSD1815B_COLUMNS + 7] ^= 0x01;
 }
 
+/* Each bit of the second memory is turned. */
 static void every_byte(void)
 {
   equal_memories();

@@ -12,7 +12,8 @@
 #include "ssd1815b.h"
 #include "tally.h"
 
-enum { LONGEST = UINT16_MAX }; /* lengths have two bytes in the stream */
+/* Lengths have two bytes in the stream. */
+enum { LONGEST = UINT16_MAX };
 
 /* The two calls take and answer alike. */
 typedef uint8_t compare_call(const uint8_t *first, size_t first_len,
@@ -30,11 +31,13 @@ struct kind {
   enum thing entries;
 };
 
+/* The call on two frames. */
 static const struct kind of_frames = {
   "compare_frames", ssd1815b_compare_frames, CALL_FRAMES,
   SSD1815B_FRAME_ENTRY_SIZE, THE_FIRST_FRAME, THE_SECOND_FRAME, THE_RUNS
 };
 
+/* The call on two memories. */
 static const struct kind of_memories = {
   "compare_memories", ssd1815b_compare_memories, CALL_MEMORIES,
   SSD1815B_MEMORY_ENTRY_SIZE, THE_FIRST_MEMORY, THE_SECOND_MEMORY, THE_BYTES
@@ -63,6 +66,7 @@ void differences_open(void)
   room_open(&count_room, sizeof(size_t));
 }
 
+/* Takes a case, and makes what the list buffer holds before the call. */
 static struct pair take_pair(struct body *body, size_t entry_size)
 {
   struct pair pair;

@@ -23,6 +23,7 @@ _Static_assert(SSD1815B_FRAME_ENTRY_SIZE == SSD1815B_RUN_IS + 1,
 
 enum { PAST = 20 }; /* bytes past the needed ones */
 
+/* The two calls take and answer alike. */
 typedef uint8_t compare_call(const uint8_t *first, size_t first_len,
                              const uint8_t *second, size_t second_len,
                              uint8_t *list, size_t list_len, size_t *count);
@@ -35,6 +36,7 @@ struct kind {
   size_t list_size;
 };
 
+/* By Order 1: 8,580 places of at most a run each, 1,188 bytes. */
 static const struct kind frames = { ssd1815b_compare_frames, 8580, 5, 42900 };
 static const struct kind memories = { ssd1815b_compare_memories, 1188, 4,
                                       4752 };
@@ -56,6 +58,7 @@ static uint8_t blank[SSD1815B_FRAME_LIST_SIZE + PAST];
 /* What the count holds before the call. */
 static const uint8_t junk[sizeof(size_t)] = { 9, 9, 9, 9, 9, 9, 9, 9 };
 
+/* Opens the rooms, and makes what a list holds. */
 static void rooms_open(void)
 {
   room_open(&first_room, sizeof pair.first);
@@ -108,7 +111,8 @@ static uint8_t compare(size_t list_len, size_t *count)
 
 /* ---- what is expected ---- */
 
-/* Twice: a room lends at its end and at its beginning in turn. */
+/* The two are refused with this number.  Twice, here and below: a room lends at
+** its end and at its beginning in turn. */
 static void refused(size_t list_len, uint8_t number)
 {
   for (int time = 0; time < 2; time++) {
@@ -117,6 +121,7 @@ static void refused(size_t list_len, uint8_t number)
   }
 }
 
+/* The two are taken, with just these entries. */
 static void listed(size_t list_len, const uint8_t *entries, size_t expected)
 {
   for (int time = 0; time < 2; time++) {
@@ -325,7 +330,7 @@ static void whole_rows(void)
 
 /* ---- frames of no pattern ---- */
 
-/* The same ones at each start of the program. */
+/* A number of no pattern; the same ones at each start of the program. */
 static uint32_t random_number(uint32_t below)
 {
   static uint32_t seed = 1;
@@ -405,6 +410,7 @@ static void random_frames(void)
 
 /* ---- two memories ---- */
 
+/* 1 before 11. */
 static void which_refusal_of_memories(void)
 {
   begin(memories);
