@@ -36,5 +36,7 @@ pub mod PutEntries
 pub mod AlongRow
 -- For the code: rows walked one after the other.
 pub mod ByRows
+-- For the code: runs and bytes counted.
+pub mod Counting
 -- For the code: a page walked column by column.
 pub mod AlongPage

@@ -5,10 +5,12 @@ ghost use lib.ListN.{length, take};
 ghost use Rattle.constants.specs.Sizes.{frameSize, frameEntrySize};
 ghost use Rattle.differences.specs.Runs.{runsOf};
 ghost use Rattle.differences.specs.Entries.{runEntry};
-ghost use Rattle.differences.specs.Put.{Put};
+ghost use Rattle.differences.specs.Put.{Room, Put};
 ghost use Rattle.differences.specs.Compare.{outcome, listed, anyAbove, compareFrames};
 use crate::compared::Compared;
+use crate::count::count_rows;
 use crate::row::put_row;
+use crate::same::same;
 use constants::refusal::FRAME_BYTE_ABOVE;
 use constants::refusal::LIST_TOO_SMALL;
 use constants::refusal::TOO_SHORT;
@@ -31,13 +33,16 @@ pub fn compare_frames(first: &[u8], second: &[u8], list: &mut [u8]) -> Compared
     if any_above(first) {
         return Compared::Refused(FRAME_BYTE_ABOVE);
     }
+    if same(&first[..FRAME_SIZE], &second[..FRAME_SIZE]) {
+        return Compared::Listed(0);
+    }
     if any_above(second) {
         return Compared::Refused(FRAME_BYTE_ABOVE);
     }
     list_runs(first, second, list)
 }
 
-// Lists the runs where they all fit. A buffer that holds any list is written at once; another is measured first.
+// Lists the runs where they all fit; they are counted first where the buffer does not hold every list.
 fn list_runs(first: &[u8], second: &[u8], list: &mut [u8]) -> Compared
     requires { ⌜ (frameSize ≤ length (now first)) × (frameSize ≤ length (now second)) ⌝ }
     ensures { λ r. ⌜ outcome r (now (list .exit)) ≡ listed runEntry (runsOf (now (first .entry)) (now (second .entry))) (now (list .entry)) ⌝ }
@@ -46,7 +51,7 @@ fn list_runs(first: &[u8], second: &[u8], list: &mut [u8]) -> Compared
         let count = put_rows(list, first, second);
         return Compared::Listed(count);
     }
-    let needed = put_rows(&mut list[..0], first, second);
+    let needed = count_rows(first, second);
     if list.len() < needed * FRAME_ENTRY_SIZE {
         return Compared::Refused(LIST_TOO_SMALL);
     }
@@ -75,6 +80,7 @@ fn any_above(frame: &[u8]) -> bool
 // Puts the runs of the 65 rows.
 fn put_rows(list: &mut [u8], first: &[u8], second: &[u8]) -> usize
     requires { ⌜ (frameSize ≤ length (now first)) × (frameSize ≤ length (now second)) ⌝ }
+    requires { ⌜ Room frameEntrySize (now list) 0 (runsOf (now first) (now second)) ⌝ }
     ensures { λ r. ⌜ Put frameEntrySize runEntry (now (list .entry)) 0 (runsOf (now (first .entry)) (now (second .entry))) r (now (list .exit)) ⌝ }
 {
     let mut next = 0;

@@ -5,9 +5,10 @@ ghost use lib.ListN.{length};
 ghost use Rattle.constants.specs.Sizes.{memorySize, memoryEntrySize};
 ghost use Rattle.differences.specs.Bytes.{bytesOf};
 ghost use Rattle.differences.specs.Entries.{byteEntry};
-ghost use Rattle.differences.specs.Put.{Put};
+ghost use Rattle.differences.specs.Put.{Room, Put};
 ghost use Rattle.differences.specs.Compare.{outcome, listed, compareMemories};
 use crate::compared::Compared;
+use crate::count::count_pages;
 use crate::page::put_page;
 use constants::refusal::LIST_TOO_SMALL;
 use constants::refusal::TOO_SHORT;
@@ -30,7 +31,7 @@ pub fn compare_memories(first: &[u8], second: &[u8], list: &mut [u8]) -> Compare
     list_bytes(first, second, list)
 }
 
-// Lists the bytes where they all fit. A buffer that holds any list is written at once; another is measured first.
+// Lists the bytes where they all fit; they are counted first where the buffer does not hold every list.
 fn list_bytes(first: &[u8], second: &[u8], list: &mut [u8]) -> Compared
     requires { ⌜ (memorySize ≤ length (now first)) × (memorySize ≤ length (now second)) ⌝ }
     ensures { λ r. ⌜ outcome r (now (list .exit)) ≡ listed byteEntry (bytesOf (now (first .entry)) (now (second .entry))) (now (list .entry)) ⌝ }
@@ -39,7 +40,7 @@ fn list_bytes(first: &[u8], second: &[u8], list: &mut [u8]) -> Compared
         let count = put_pages(list, first, second);
         return Compared::Listed(count);
     }
-    let needed = put_pages(&mut list[..0], first, second);
+    let needed = count_pages(first, second);
     if list.len() < needed * MEMORY_ENTRY_SIZE {
         return Compared::Refused(LIST_TOO_SMALL);
     }
@@ -50,6 +51,7 @@ fn list_bytes(first: &[u8], second: &[u8], list: &mut [u8]) -> Compared
 // Puts the differing bytes of the nine pages.
 fn put_pages(list: &mut [u8], first: &[u8], second: &[u8]) -> usize
     requires { ⌜ (memorySize ≤ length (now first)) × (memorySize ≤ length (now second)) ⌝ }
+    requires { ⌜ Room memoryEntrySize (now list) 0 (bytesOf (now first) (now second)) ⌝ }
     ensures { λ r. ⌜ Put memoryEntrySize byteEntry (now (list .entry)) 0 (bytesOf (now (first .entry)) (now (second .entry))) r (now (list .exit)) ⌝ }
 {
     let mut next = 0;

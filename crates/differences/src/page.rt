@@ -1,12 +1,13 @@
-// The differing bytes of one page.
+// The differing bytes of one page, put into the list.
 ghost use mathlib.Core.Path.{_≡_};
 ghost use mathlib.Core.List.{[], _∷_};
-ghost use Prim.Native.Nat.{_+_, _/_, _%_, _≤_, _<_};
+ghost use Prim.Native.Nat.{_+_, _*_, _/_, _%_, _≤_, _<_};
 ghost use lib.ListN.{length};
+ghost use lib.Seq.{sets};
 ghost use Rattle.constants.specs.Sizes.{width, pages, memorySize, memoryEntrySize};
 ghost use Rattle.differences.specs.Bytes.{pageBytes};
 ghost use Rattle.differences.specs.Entries.{byteEntry};
-ghost use Rattle.differences.specs.Put.{Put, putOne};
+ghost use Rattle.differences.specs.Put.{Room, Put};
 use crate::same::same;
 use bus::data::kept;
 use constants::sizes::MEMORY_ENTRY_SIZE;
@@ -15,6 +16,7 @@ use constants::sizes::WIDTH;
 // Puts the differing bytes of a page; a page that is the same in both memories has none.
 pub fn put_page(list: &mut [u8], at: usize, page: u8, first: &[u8], second: &[u8]) -> usize
     requires { ⌜ (at + width ≤ memorySize) × (page < pages) × (length (now first) ≡ width) × (length (now second) ≡ width) ⌝ }
+    requires { ⌜ Room memoryEntrySize (now list) at (pageBytes page (now first) (now second)) ⌝ }
     ensures { λ r. ⌜ Put memoryEntrySize byteEntry (now (list .entry)) at (pageBytes page (now (first .entry)) (now (second .entry))) r (now (list .exit)) ⌝ }
 {
     if same(first, second) {
@@ -26,6 +28,7 @@ pub fn put_page(list: &mut [u8], at: usize, page: u8, first: &[u8], second: &[u8
 // Puts the differing bytes of a page, column by column.
 fn put_bytes(list: &mut [u8], at: usize, page: u8, first: &[u8], second: &[u8]) -> usize
     requires { ⌜ (at + width ≤ memorySize) × (page < pages) × (length (now first) ≡ width) × (length (now second) ≡ width) ⌝ }
+    requires { ⌜ Room memoryEntrySize (now list) at (pageBytes page (now first) (now second)) ⌝ }
     ensures { λ r. ⌜ Put memoryEntrySize byteEntry (now (list .entry)) at (pageBytes page (now (first .entry)) (now (second .entry))) r (now (list .exit)) ⌝ }
 {
     let start = (page as usize) * WIDTH;
@@ -45,16 +48,12 @@ fn put_bytes(list: &mut [u8], at: usize, page: u8, first: &[u8], second: &[u8]) 
     next
 }
 
-// Puts one byte where it fits: its place, low byte first, and its contents.
+// Puts one byte: its place, low byte first, and its contents.
 fn put_byte(list: &mut [u8], at: usize, place: usize, was: u8, is: u8)
-    requires { ⌜ (at < memorySize) × (place < memorySize) ⌝ }
-    ensures { λ _. ⌜ now (list .exit) ≡ putOne memoryEntrySize (now (list .entry)) at (place % 256 ∷ place / 256 ∷ was ∷ is ∷ []) ⌝ }
+    requires { ⌜ (at < memorySize) × (place < memorySize) × (at * memoryEntrySize + memoryEntrySize ≤ length (now list)) ⌝ }
+    ensures { λ _. ⌜ now (list .exit) ≡ sets (now (list .entry)) (at * memoryEntrySize) (place % 256 ∷ place / 256 ∷ was ∷ is ∷ []) ⌝ }
 {
     let start = at * MEMORY_ENTRY_SIZE;
-    let end = start + MEMORY_ENTRY_SIZE;
-    if list.len() < end {
-        return;
-    }
     list[start] = (place % 256) as u8;
     list[start + 1] = (place / 256) as u8;
     list[start + 2] = was;

@@ -1,12 +1,13 @@
-// The differing runs of one row.
+// The differing runs of one row, put into the list.
 ghost use mathlib.Core.Path.{_≡_};
 ghost use mathlib.Core.List.{[], _∷_};
-ghost use Prim.Native.Nat.{_+_, _-_, _≤_, _<_};
+ghost use Prim.Native.Nat.{_+_, _-_, _*_, _≤_, _<_};
 ghost use lib.ListN.{length};
+ghost use lib.Seq.{sets};
 ghost use Rattle.constants.specs.Sizes.{width, frameRows, frameSize, frameEntrySize};
 ghost use Rattle.differences.specs.Runs.{more, rowRuns};
 ghost use Rattle.differences.specs.Entries.{runEntry};
-ghost use Rattle.differences.specs.Put.{Put, putOne};
+ghost use Rattle.differences.specs.Put.{Room, Put};
 use crate::same::same;
 use constants::sizes::FRAME_ENTRY_SIZE;
 use constants::sizes::WIDTH;
@@ -14,6 +15,7 @@ use constants::sizes::WIDTH;
 // Puts the runs of row p, left to right; a row that is the same in both frames has none.
 pub fn put_row(list: &mut [u8], at: usize, p: usize, first: &[u8], second: &[u8]) -> usize
     requires { ⌜ (at + width ≤ frameSize) × (p < frameRows) × (length (now first) ≡ width) × (length (now second) ≡ width) ⌝ }
+    requires { ⌜ Room frameEntrySize (now list) at (rowRuns width p (now first) (now second)) ⌝ }
     ensures { λ r. ⌜ Put frameEntrySize runEntry (now (list .entry)) at (rowRuns width p (now (first .entry)) (now (second .entry))) r (now (list .exit)) ⌝ }
 {
     if same(first, second) {
@@ -25,6 +27,7 @@ pub fn put_row(list: &mut [u8], at: usize, p: usize, first: &[u8], second: &[u8]
 // Puts the runs of a row: each from the differing place where it begins to its end, and the next from there on.
 fn put_runs(list: &mut [u8], at: usize, p: u8, first: &[u8], second: &[u8]) -> usize
     requires { ⌜ (at + width ≤ frameSize) × (length (now first) ≡ width) × (length (now second) ≡ width) ⌝ }
+    requires { ⌜ Room frameEntrySize (now list) at (rowRuns width p (now first) (now second)) ⌝ }
     ensures { λ r. ⌜ Put frameEntrySize runEntry (now (list .entry)) at (rowRuns width p (now (first .entry)) (now (second .entry))) r (now (list .exit)) ⌝ }
 {
     let mut next = at;
@@ -62,16 +65,12 @@ fn run_last(first: &[u8], second: &[u8], from: usize) -> usize
     last
 }
 
-// Puts one run where it fits.
+// Puts one run.
 fn put_run(list: &mut [u8], at: usize, p: u8, first: u8, last: u8, was: u8, is: u8)
-    requires { ⌜ at < frameSize ⌝ }
-    ensures { λ _. ⌜ now (list .exit) ≡ putOne frameEntrySize (now (list .entry)) at (p ∷ first ∷ last ∷ was ∷ is ∷ []) ⌝ }
+    requires { ⌜ (at < frameSize) × (at * frameEntrySize + frameEntrySize ≤ length (now list)) ⌝ }
+    ensures { λ _. ⌜ now (list .exit) ≡ sets (now (list .entry)) (at * frameEntrySize) (p ∷ first ∷ last ∷ was ∷ is ∷ []) ⌝ }
 {
     let start = at * FRAME_ENTRY_SIZE;
-    let end = start + FRAME_ENTRY_SIZE;
-    if list.len() < end {
-        return;
-    }
     list[start] = p;
     list[start + 1] = first;
     list[start + 2] = last;

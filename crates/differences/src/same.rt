@@ -1,18 +1,16 @@
-// Whether a row of places, or a page of bytes, is the same in both.
+// Whether two rows of places, two pages of bytes, or two whole frames are the same.
 ghost use mathlib.Core.Path.{_≡_};
 ghost use mathlib.Core.Bool.{true};
 ghost use lib.ListN.{length};
-ghost use Rattle.constants.specs.Sizes.{width};
-use constants::sizes::WIDTH;
 
-// Looks at all of them, and decides at the end: so it is done many at a time.
+// Looks at all of them and decides at the end, so that many are looked at together.
 pub fn same(first: &[u8], second: &[u8]) -> bool
-    requires { ⌜ (length (now first) ≡ width) × (length (now second) ≡ width) ⌝ }
+    requires { ⌜ length (now first) ≡ length (now second) ⌝ }
     ensures { λ r. ⌜ (r ≡ true → now (first .entry) ≡ now (second .entry)) ⌝ }
 {
     let mut same = true;
     let mut x = 0;
-    while x < WIDTH {
+    while x < first.len() {
         if first[x] == second[x] {
             x += 1;
         } else {

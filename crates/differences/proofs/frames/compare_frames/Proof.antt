@@ -11,11 +11,14 @@ use native.Mathlib.Omega.{arith}
 use borrow.Author.Tests.{lt-ltb, le-ltb}
 use denote.Ref.{now}
 use lib.ListN.{length, take}
+use lib.Seq.{length-take-le}
+use borrow.Author.Needs.{needs}
 use Rattle.constants.specs.Sizes.{frameSize}
 use Rattle.differences.specs.Runs.{runsOf}
-use Rattle.differences.specs.Entries.{runEntry}
+use Rattle.differences.specs.Entries.{runEntry, entries}
 use Rattle.differences.specs.Compare.{outcome, listed, anyAbove, compareFrames}
 use Rattle.differences.specs.declared.compared.Compared.{Compared}
+use Rattle.differences.proofs.PutBack.{put-back}
 
 -- each thing that is asked
 first-short : (f g list : List ℕ) → length f < frameSize → compareFrames f g list ≡ outcome (Compared.Refused 1) list
@@ -38,6 +41,11 @@ all-in-order : (f g list : List ℕ) → frameSize ≤ length f → frameSize �
 unfolding compareFrames
 all-in-order f g list h k e d = rw (le-ltb (length f) frameSize h, le-ltb (length g) frameSize k, e, d)
 
+-- frames that are equal: no entry, in any buffer
+equal : (f g list : List ℕ) → frameSize ≤ length f → frameSize ≤ length g → anyAbove (take frameSize f) ≡ false → take frameSize f ≡ take frameSize g → compareFrames f g list ≡ outcome (Compared.Listed 0) list
+unfolding listed entries
+equal f g list h k e same = all-in-order f g list h k e (rw (← same) e) ∙ rw (put-back .noRuns f g h k .1 same, le-ltb (length list) 0 (omega arith))
+
 returns : tie.Need-returns
 returns c = sym (first-short _ _ _ (c .if1 .taken))
 
@@ -50,11 +58,23 @@ any-above-requires c κs = search needs
 returns-3 : tie.Need-returns-3
 returns-3 c = sym (first-above _ _ _ (c .before .before .before .if1 .left) (c .before .before .if2 .left) (sym (c .before .any-above .ensures) ∙ c .if3 .taken))
 
+slice-aggregate-same : tie.Need-slice-aggregate-same
+slice-aggregate-same c = sym (length-take-le frameSize (now (c .before .before .before .before .before .before .before .before .args .first)) (c .before .before .before .before .if1 .left))
+
+slice-aggregate-same-2 : tie.Need-slice-aggregate-same-2
+slice-aggregate-same-2 c = sym (length-take-le frameSize (now (c .before .before .before .before .before .before .before .before .before .args .second)) (c .before .before .before .before .if2 .left))
+
+same-requires : tie.Need-same-requires
+same-requires c κs = length-take-le frameSize (now (c .before .before .before .before .before .before .before .before .before .args .first)) (c .before .before .before .before .before .if1 .left) ∙ sym (length-take-le frameSize (now (c .before .before .before .before .before .before .before .before .before .args .second)) (c .before .before .before .before .if2 .left))
+
+returns-4 : tie.Need-returns-4
+returns-4 c = sym (equal _ _ _ (c .before .before .before .before .before .before .before .if1 .left) (c .before .before .before .before .before .before .if2 .left) (sym (c .before .before .before .before .before .any-above .ensures) ∙ c .before .before .before .before .if3 .left) (c .before .same .ensures (c .if4 .taken)))
+
 any-above-requires-2 : tie.Need-any-above-requires-2
 any-above-requires-2 c κs = search needs
 
-returns-4 : tie.Need-returns-4
-returns-4 c = sym (second-above _ _ _ (c .before .before .before .before .before .if1 .left) (c .before .before .before .before .if2 .left) (sym (c .before .before .before .any-above .ensures) ∙ c .before .before .if3 .left) (sym (c .before .any-above2 .ensures) ∙ c .if4 .taken))
+returns-5 : tie.Need-returns-5
+returns-5 c = sym (second-above _ _ _ (c .before .before .before .before .before .before .before .before .before .if1 .left) (c .before .before .before .before .before .before .before .before .if2 .left) (sym (c .before .before .before .before .before .before .before .any-above .ensures) ∙ c .before .before .before .before .before .before .if3 .left) (sym (c .before .any-above2 .ensures) ∙ c .if5 .taken))
 
 list-runs-requires : tie.Need-list-runs-requires
 list-runs-requires c κs = search needs
@@ -62,8 +82,8 @@ list-runs-requires c κs = search needs
 same-length : tie.Need-same-length
 same-length c = search needs
 
-returns-5 : tie.Need-returns-5
-returns-5 c = c .before .before .list-runs .ensures ∙ sym (all-in-order _ _ _ (c .before .before .before .before .before .before .before .before .before .if1 .left) (c .before .before .before .before .before .before .before .before .if2 .left) (sym (c .before .before .before .before .before .before .before .any-above .ensures) ∙ c .before .before .before .before .before .before .if3 .left) (sym (c .before .before .before .before .before .any-above2 .ensures) ∙ c .before .before .before .before .if4 .left))
+returns-6 : tie.Need-returns-6
+returns-6 c = c .before .before .list-runs .ensures ∙ sym (all-in-order _ _ _ (c .before .before .before .before .before .before .before .before .before .before .before .before .before .if1 .left) (c .before .before .before .before .before .before .before .before .before .before .before .before .if2 .left) (sym (c .before .before .before .before .before .before .before .before .before .before .before .any-above .ensures) ∙ c .before .before .before .before .before .before .before .before .before .before .if3 .left) (sym (c .before .before .before .before .before .any-above2 .ensures) ∙ c .before .before .before .before .if5 .left))
 
 pub compare-frames-spec : {M : Type 1} → statement M
 compare-frames-spec =
@@ -73,8 +93,12 @@ compare-frames-spec =
     returns-2
     any-above-requires
     returns-3
-    any-above-requires-2
+    slice-aggregate-same
+    slice-aggregate-same-2
+    same-requires
     returns-4
+    any-above-requires-2
+    returns-5
     list-runs-requires
     same-length
-    returns-5)
+    returns-6)

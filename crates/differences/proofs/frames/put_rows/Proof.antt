@@ -10,19 +10,19 @@ use Rattle.differences.specs.ByRows.{byRows}
 use Rattle.differences.specs.Runs.{rowRuns, runsIn, runsOf}
 use Rattle.differences.specs.Entries.{runEntry}
 use Rattle.picture.specs.Frame.{rowOf}
-use Rattle.differences.proofs.PutEntries.{Rest, begin, turns, done, rest-length}
+use Rattle.differences.proofs.PutEntries.{Rest, begin, turns, done, rest-length, room-for}
 use Rattle.differences.proofs.ByRows.{rows-on, rows-end, part, part-length}
-use Rattle.differences.proofs.Entries.{runs-few}
+use Rattle.differences.proofs.Entries.{run-sized, runs-few}
 
 abbrev Inv-loop : tie.InvT-loop
-Inv-loop list₀ first second next₀ p₀ list next p = (p ≤ frameRows) × (next ≤ p * width) × Rest frameEntrySize runEntry list₀ 0 (runsOf first second) list next (byRows width (rowRuns width) first second (frameRows - p) p)
+Inv-loop list₀ first second next₀ p₀ list next p = (p ≤ frameRows) × (next ≤ p * width) × Rest frameEntrySize runEntry run-sized list₀ 0 (runsOf first second) list next (byRows width (rowRuns width) first second (frameRows - p) p)
 
 abbrev μ-loop : tie.MeasureT-loop
 μ-loop list₀ first second next₀ p₀ list next p = frameRows - p
 
 loop-holds : tie.Need-loop-holds Inv-loop μ-loop
 unfolding runsIn
-loop-holds c = (omega arith, omega arith, begin _ _ _ _ _)
+loop-holds c = (omega arith, omega arith, begin _ _ _ _ _ _)
 
 mul-start : tie.Need-mul-start Inv-loop μ-loop
 mul-start c = omega arith
@@ -52,7 +52,11 @@ put-row-requires : tie.Need-put-row-requires Inv-loop μ-loop
 put-row-requires c κs =
     let at = c .before .before .before .before in
     let a = at .before .before .before .before .args in
-    (omega arith, omega arith, part-length (now (a .first)) (at .loop .p) (omega arith), part-length (now (a .second)) (at .loop .p) (omega arith))
+    let f = now (a .first) in
+    let g = now (a .second) in
+    let p = at .loop .p in
+    let room = room-for _ _ _ (rowRuns width p (rowOf width p f) (rowOf width p g)) _ (rw (rows-on width (rowRuns width) f g frameRows p (omega arith)) at (at .loop .inv .2)) (at .before .before .before .before .pre .1) in
+    ((omega arith, omega arith, part-length f p (omega arith), part-length g p (omega arith)), rw (part f p, part g p) room)
 
 add-p : tie.Need-add-p Inv-loop μ-loop
 add-p c = omega arith
@@ -69,16 +73,16 @@ loop-again c =
     let put = rw (part f (at .loop .p), part g (at .loop .p)) at (c .before .before .put-row .ensures) in (
       omega arith,
       omega (arith, put .counted, runs-few (at .loop .p) (rowOf width (at .loop .p) f) (rowOf width (at .loop .p) g) width 0),
-      turns _ _ (rw (rows-on width (rowRuns width) f g frameRows (at .loop .p) (omega arith)) at (at .loop .inv .2)) put,
+      turns _ _ _ (rw (rows-on width (rowRuns width) f g frameRows (at .loop .p) (omega arith)) at (at .loop .inv .2)) put,
     )
 
 same-length : tie.Need-same-length Inv-loop μ-loop
-same-length c = rest-length _ _ (c .before .loop .inv .2)
+same-length c = rest-length _ _ _ (c .before .loop .inv .2)
 
 returns : tie.Need-returns Inv-loop μ-loop
 returns c =
     let a = c .before .before .before .before .before .args in
-    done _ _ (rw (rows-end width (rowRuns width) (now (a .first)) (now (a .second)) frameRows (c .before .loop .p) (c .loop-test .left)) at (c .before .loop .inv .2))
+    done _ _ _ (rw (rows-end width (rowRuns width) (now (a .first)) (now (a .second)) frameRows (c .before .loop .p) (c .loop-test .left)) at (c .before .loop .inv .2))
 
 pub put-rows-spec : {M : Type 1} → statement M
 put-rows-spec =

@@ -10,19 +10,19 @@ use Rattle.picture.specs.Frame.{rowOf}
 use Rattle.differences.specs.ByRows.{byRows}
 use Rattle.differences.specs.Bytes.{pageBytes, bytesOf}
 use Rattle.differences.specs.Entries.{byteEntry}
-use Rattle.differences.proofs.Entries.{bytes-few}
-use Rattle.differences.proofs.PutEntries.{Rest, begin, turns, done, rest-length}
+use Rattle.differences.proofs.Entries.{byte-sized, bytes-few}
+use Rattle.differences.proofs.PutEntries.{Rest, begin, turns, done, rest-length, room-for}
 use Rattle.differences.proofs.ByRows.{rows-on, rows-end, part, part-length}
 
 abbrev Inv-loop : tie.InvT-loop
-Inv-loop list₀ first second next₀ page₀ list next page = (page ≤ pages) × (next ≤ page * width) × Rest memoryEntrySize byteEntry list₀ 0 (bytesOf first second) list next (byRows width pageBytes first second (pages - page) page)
+Inv-loop list₀ first second next₀ page₀ list next page = (page ≤ pages) × (next ≤ page * width) × Rest memoryEntrySize byteEntry byte-sized list₀ 0 (bytesOf first second) list next (byRows width pageBytes first second (pages - page) page)
 
 abbrev μ-loop : tie.MeasureT-loop
 μ-loop list₀ first second next₀ page₀ list next page = pages - page
 
 loop-holds : tie.Need-loop-holds Inv-loop μ-loop
 unfolding bytesOf
-loop-holds c = (omega arith, omega arith, begin _ _ _ _ _)
+loop-holds c = (omega arith, omega arith, begin _ _ _ _ _ _)
 
 cast-start : tie.Need-cast-start Inv-loop μ-loop
 cast-start c = omega arith
@@ -55,7 +55,11 @@ put-page-requires : tie.Need-put-page-requires Inv-loop μ-loop
 put-page-requires c κs =
     let at = c .before .before .before .before in
     let a = at .before .before .before .before .args in
-    (omega arith, omega arith, part-length (now (a .first)) (at .loop .page) (omega arith), part-length (now (a .second)) (at .loop .page) (omega arith))
+    let f = now (a .first) in
+    let g = now (a .second) in
+    let page = at .loop .page in
+    let room = room-for _ _ _ (pageBytes page (rowOf width page f) (rowOf width page g)) _ (rw (rows-on width pageBytes f g pages page (omega arith)) at (at .loop .inv .2)) (at .before .before .before .before .pre .1) in
+    ((omega arith, omega arith, part-length f page (omega arith), part-length g page (omega arith)), rw (part f page, part g page) room)
 
 add-page : tie.Need-add-page Inv-loop μ-loop
 add-page c = omega arith
@@ -72,16 +76,16 @@ loop-again c =
     let put = rw (part f (at .loop .page), part g (at .loop .page)) at (c .before .before .put-page .ensures) in (
       omega arith,
       omega (arith, put .counted, bytes-few (at .loop .page) (rowOf width (at .loop .page) f) (rowOf width (at .loop .page) g) width 0),
-      turns _ _ (rw (rows-on width pageBytes f g pages (at .loop .page) (omega arith)) at (at .loop .inv .2)) put,
+      turns _ _ _ (rw (rows-on width pageBytes f g pages (at .loop .page) (omega arith)) at (at .loop .inv .2)) put,
     )
 
 same-length : tie.Need-same-length Inv-loop μ-loop
-same-length c = rest-length _ _ (c .before .loop .inv .2)
+same-length c = rest-length _ _ _ (c .before .loop .inv .2)
 
 returns : tie.Need-returns Inv-loop μ-loop
 returns c =
     let a = c .before .before .before .before .before .args in
-    done _ _ (rw (rows-end width pageBytes (now (a .first)) (now (a .second)) pages (c .before .loop .page) (c .loop-test .left)) at (c .before .loop .inv .2))
+    done _ _ _ (rw (rows-end width pageBytes (now (a .first)) (now (a .second)) pages (c .before .loop .page) (c .loop-test .left)) at (c .before .loop .inv .2))
 
 pub put-pages-spec : {M : Type 1} → statement M
 put-pages-spec =

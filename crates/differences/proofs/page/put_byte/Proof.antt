@@ -1,23 +1,16 @@
--- `differences::page::put_byte` meets its contract: the four bytes where they fit, and nothing where they do not.
+-- `differences::page::put_byte` meets its contract: the four bytes one by one.
 -- Assumes nothing.
 use borrow.Author.Needs.{needs}
 use Rattle.differences.proofs.page.put_byte.Statement.{statement}
 use Rattle.differences.proofs.page.put_byte.Tie as tie
 use Prim.Native.Nat.{_*_, _/_, _%_}
-use mathlib.Core.Path.{sym, _∙_}
 use native.Mathlib.Omega.{arith}
 use denote.Ref.{now}
 use lib.ListN.{length-set}
-use Rattle.differences.proofs.PutEntries.{fits, fits-not, four}
+use Rattle.differences.proofs.PutEntries.{four}
 
 mul-start : tie.Need-mul-start
 mul-start c = search needs
-
-add-end : tie.Need-add-end
-add-end c = search needs
-
-returns : tie.Need-returns
-returns c = sym (fits-not _ _ _ _ (c .if1 .taken))
 
 cast-list : tie.Need-cast-list
 cast-list c = search needs
@@ -49,18 +42,16 @@ slice-write-list-4 c = rw (length-set, length-set, length-set) (omega arith)
 same-length : tie.Need-same-length
 same-length c = search needs
 
-returns-2 : tie.Need-returns-2
-returns-2 c =
-    let a = c .before .args in
-    four (now (a .list)) (a .at * 4) (a .place % 256) (a .place / 256) (a .was) (a .is) ∙ sym (fits 4 (now (a .list)) (a .at) _ (c .if1 .left))
+returns : tie.Need-returns
+returns c =
+    let a = c .args in
+    four (now (a .list)) (a .at * 4) (a .place % 256) (a .place / 256) (a .was) (a .is)
 
 pub put-byte-spec : {M : Type 1} → statement M
 put-byte-spec =
     tie.close
     (tie.spec
     mul-start
-    add-end
-    returns
     cast-list
     slice-write-list
     cast-list-2
@@ -71,4 +62,4 @@ put-byte-spec =
     add-list-3
     slice-write-list-4
     same-length
-    returns-2)
+    returns)

@@ -9,12 +9,12 @@ use denote.Ref.{now}
 use Rattle.constants.specs.Sizes.{width, memoryEntrySize}
 use Rattle.differences.specs.Bytes.{held, bytesFrom, pageBytes}
 use Rattle.differences.specs.Entries.{byteEntry}
-use Rattle.differences.proofs.Entries.{bytes-few}
-use Rattle.differences.proofs.PutEntries.{Rest, begin, turn, done, rest-length, not-all}
+use Rattle.differences.proofs.Entries.{byte-sized, bytes-few}
+use Rattle.differences.proofs.PutEntries.{Rest, begin, turn, done, rest-length, not-all, room-for-one}
 use Rattle.differences.proofs.AlongPage.{bytes-on, bytes-here, bytes-end}
 
 abbrev Inv-loop : tie.InvT-loop
-Inv-loop list₀ at page first second start next₀ column₀ list next column = (column ≤ width) × Rest memoryEntrySize byteEntry list₀ at (pageBytes page first second) list next (bytesFrom page first second (width - column) column)
+Inv-loop list₀ at page first second start next₀ column₀ list next column = (column ≤ width) × Rest memoryEntrySize byteEntry byte-sized list₀ at (pageBytes page first second) list next (bytesFrom page first second (width - column) column)
 
 abbrev μ-loop : tie.MeasureT-loop
 μ-loop list₀ at page first second start next₀ column₀ list next column = width - column
@@ -23,7 +23,7 @@ mul-start : tie.Need-mul-start Inv-loop μ-loop
 mul-start c = omega arith
 
 loop-holds : tie.Need-loop-holds Inv-loop μ-loop
-loop-holds c = (omega arith, begin _ _ _ _ _)
+loop-holds c = (omega arith, begin _ _ _ _ _ _)
 
 shared-slice-read-kept : tie.Need-shared-slice-read-kept Inv-loop μ-loop
 shared-slice-read-kept c = omega arith
@@ -60,7 +60,7 @@ put-byte-requires c κs =
     let a = start .args in
     let inside = c .before .before .before .before .before .before .loop-test .taken in
     let differs : held (a .page) (now (a .first)) (at .loop .column) ≡ held (a .page) (now (a .second)) (at .loop .column) → ⊥ = λ same. c .before .if1 .left (c .before .before .before .before .kept .ensures ∙ same ∙ sym (c .before .before .kept2 .ensures)) in
-    (omega (arith, start .pre .0, bytes-few (a .page) (now (a .first)) (now (a .second)) width 0, not-all _ _ (rw (bytes-here width (a .page) (now (a .first)) (now (a .second)) (at .loop .column) inside differs) at (at .loop .inv .1))), omega (arith, start .pre .1))
+    (omega (arith, start .pre .0 .0, bytes-few (a .page) (now (a .first)) (now (a .second)) width 0, not-all _ _ _ (rw (bytes-here width (a .page) (now (a .first)) (now (a .second)) (at .loop .column) inside differs) at (at .loop .inv .1))), omega (arith, start .pre .0 .1), room-for-one _ _ _ (rw (bytes-here width (a .page) (now (a .first)) (now (a .second)) (at .loop .column) inside differs) at (at .loop .inv .1)) (start .pre .1))
 
 add-next : tie.Need-add-next Inv-loop μ-loop
 add-next c =
@@ -69,7 +69,7 @@ add-next c =
     let a = start .args in
     let inside = c .before .before .before .before .before .before .before .before .before .loop-test .taken in
     let differs : held (a .page) (now (a .first)) (at .loop .column) ≡ held (a .page) (now (a .second)) (at .loop .column) → ⊥ = λ same. c .before .before .before .before .if1 .left (c .before .before .before .before .before .before .before .kept .ensures ∙ same ∙ sym (c .before .before .before .before .before .kept2 .ensures)) in
-    omega (arith, start .pre .0, bytes-few (a .page) (now (a .first)) (now (a .second)) width 0, not-all _ _ (rw (bytes-here width (a .page) (now (a .first)) (now (a .second)) (at .loop .column) inside differs) at (at .loop .inv .1)))
+    omega (arith, start .pre .0 .0, bytes-few (a .page) (now (a .first)) (now (a .second)) width 0, not-all _ _ _ (rw (bytes-here width (a .page) (now (a .first)) (now (a .second)) (at .loop .column) inside differs) at (at .loop .inv .1)))
 
 add-column-2 : tie.Need-add-column-2 Inv-loop μ-loop
 add-column-2 c = omega arith
@@ -85,15 +85,15 @@ loop-again-2 c =
     let a = start .args in
     let inside = c .before .before .before .before .before .before .before .before .before .loop-test .taken in
     let differs : held (a .page) (now (a .first)) (at .loop .column) ≡ held (a .page) (now (a .second)) (at .loop .column) → ⊥ = λ same. c .before .before .before .before .if1 .left (c .before .before .before .before .before .before .before .kept .ensures ∙ same ∙ sym (c .before .before .before .before .before .kept2 .ensures)) in
-    (omega arith, turn _ _ (rw (bytes-here width (a .page) (now (a .first)) (now (a .second)) (at .loop .column) inside differs) at (at .loop .inv .1)) (c .before .before .put-byte .ensures ∙ rw (c .before .before .before .before .before .before .before .kept .ensures, c .before .before .before .before .before .kept2 .ensures)))
+    (omega arith, turn _ _ _ (rw (bytes-here width (a .page) (now (a .first)) (now (a .second)) (at .loop .column) inside differs) at (at .loop .inv .1)) (c .before .before .put-byte .ensures ∙ rw (c .before .before .before .before .before .before .before .kept .ensures, c .before .before .before .before .before .kept2 .ensures)))
 
 same-length : tie.Need-same-length Inv-loop μ-loop
-same-length c = rest-length _ _ (c .before .loop .inv .1)
+same-length c = rest-length _ _ _ (c .before .loop .inv .1)
 
 returns : tie.Need-returns Inv-loop μ-loop
 returns c =
     let a = c .before .before .before .before .before .args in
-    done _ _ (rw (bytes-end width (a .page) (now (a .first)) (now (a .second)) (c .before .loop .column) (c .loop-test .left)) at (c .before .loop .inv .1))
+    done _ _ _ (rw (bytes-end width (a .page) (now (a .first)) (now (a .second)) (c .before .loop .column) (c .loop-test .left)) at (c .before .loop .inv .1))
 
 pub put-bytes-spec : {M : Type 1} → statement M
 put-bytes-spec =

@@ -5,7 +5,9 @@ use Rattle.differences.proofs.page.put_page.Statement.{statement}
 use Rattle.differences.proofs.page.put_page.Tie as tie
 use mathlib.Core.Path.{_≡_}
 use denote.Ref.{now}
-use Rattle.constants.specs.Sizes.{width}
+use Rattle.constants.specs.Sizes.{width, memoryEntrySize}
+use Rattle.differences.specs.Entries.{byteEntry}
+use Rattle.differences.proofs.Entries.{byte-sized}
 use Rattle.differences.proofs.PutEntries.{none}
 use Rattle.differences.proofs.AlongPage.{bytes-same}
 
@@ -16,7 +18,7 @@ returns : tie.Need-returns
 returns c =
     let a = c .before .before .before .before .before .args in
     let e : now (a .first) ≡ now (a .second) = c .before .same .ensures (c .if1 .taken) in
-    rw (e, bytes-same (a .page) (now (a .second)) width 0) (none _ _ _ _)
+    rw (e, bytes-same (a .page) (now (a .second)) width 0) (none memoryEntrySize byteEntry byte-sized _ _)
 
 put-bytes-requires : tie.Need-put-bytes-requires
 put-bytes-requires c κs = search needs

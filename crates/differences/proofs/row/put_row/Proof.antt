@@ -6,7 +6,9 @@ use Rattle.differences.proofs.row.put_row.Tie as tie
 use mathlib.Core.Path.{_≡_}
 use native.Mathlib.Omega.{arith}
 use denote.Ref.{now}
-use Rattle.constants.specs.Sizes.{width}
+use Rattle.constants.specs.Sizes.{width, frameEntrySize}
+use Rattle.differences.specs.Entries.{runEntry}
+use Rattle.differences.proofs.Entries.{run-sized}
 use Rattle.differences.proofs.PutEntries.{none}
 use Rattle.differences.proofs.AlongRow.{runs-same}
 
@@ -17,7 +19,7 @@ returns : tie.Need-returns
 returns c =
     let a = c .before .before .before .before .before .args in
     let e : now (a .first) ≡ now (a .second) = c .before .same .ensures (c .if1 .taken) in
-    rw (e, runs-same (a .p) (now (a .second)) width 0) (none _ _ _ _)
+    rw (e, runs-same (a .p) (now (a .second)) width 0) (none frameEntrySize runEntry run-sized _ _)
 
 cast-put-runs : tie.Need-cast-put-runs
 cast-put-runs c = omega arith

@@ -1,23 +1,16 @@
--- `differences::row::put_run` meets its contract: the five bytes where they fit, and nothing where they do not.
+-- `differences::row::put_run` meets its contract: the five bytes one by one.
 -- Assumes nothing.
 use borrow.Author.Needs.{needs}
 use Rattle.differences.proofs.row.put_run.Statement.{statement}
 use Rattle.differences.proofs.row.put_run.Tie as tie
 use Prim.Native.Nat.{_*_}
-use mathlib.Core.Path.{sym, _∙_}
 use native.Mathlib.Omega.{arith}
 use denote.Ref.{now}
 use lib.ListN.{length-set}
-use Rattle.differences.proofs.PutEntries.{fits, fits-not, five}
+use Rattle.differences.proofs.PutEntries.{five}
 
 mul-start : tie.Need-mul-start
 mul-start c = search needs
-
-add-end : tie.Need-add-end
-add-end c = search needs
-
-returns : tie.Need-returns
-returns c = sym (fits-not _ _ _ _ (c .if1 .taken))
 
 slice-write-list : tie.Need-slice-write-list
 slice-write-list c = search needs
@@ -49,18 +42,16 @@ slice-write-list-5 c = rw (length-set, length-set, length-set, length-set) (omeg
 same-length : tie.Need-same-length
 same-length c = search needs
 
-returns-2 : tie.Need-returns-2
-returns-2 c =
-    let a = c .before .args in
-    five (now (a .list)) (a .at * 5) (a .p) (a .first) (a .last) (a .was) (a .is) ∙ sym (fits 5 (now (a .list)) (a .at) _ (c .if1 .left))
+returns : tie.Need-returns
+returns c =
+    let a = c .args in
+    five (now (a .list)) (a .at * 5) (a .p) (a .first) (a .last) (a .was) (a .is)
 
 pub put-run-spec : {M : Type 1} → statement M
 put-run-spec =
     tie.close
     (tie.spec
     mul-start
-    add-end
-    returns
     slice-write-list
     add-list
     slice-write-list-2
@@ -71,4 +62,4 @@ put-run-spec =
     add-list-4
     slice-write-list-5
     same-length
-    returns-2)
+    returns)

@@ -3,7 +3,7 @@
 use Rattle.differences.proofs.same.same.Statement.{statement}
 use Rattle.differences.proofs.same.same.Tie as tie
 use Prim.Native.Nat.{ℕ, _≤_, _<_, _+_, _-_}
-use mathlib.Core.Path.{_≡_, refl, sym, _∙_}
+use mathlib.Core.Path.{_≡_, refl}
 use mathlib.Core.Bool.{Bool, true, false, false≢true}
 use native.Mathlib.Nat.{not-suc-le-zero}
 use native.Mathlib.Omega.{arith}
@@ -12,7 +12,6 @@ use denote.Ref.{now}
 use lib.Dec.{ltb}
 use lib.ListN.{length, getD}
 use lib.Seq.{ext-getD}
-use Rattle.constants.specs.Sizes.{width}
 
 -- what holds below x and at x holds below x + 1
 one-more : (P : ℕ → Type 0) (x : ℕ) → ((i : ℕ) → i < x → P i) → P x → (i : ℕ) → i < x + 1 → P i
@@ -25,10 +24,10 @@ one-more P x below here i h = by (ltb i x) refl
         rw same here
 
 abbrev Inv-loop : tie.InvT-loop
-Inv-loop first second same₀ x₀ same x = (x ≤ width) × (same ≡ true → (i : ℕ) → i < x → getD first i 0 ≡ getD second i 0)
+Inv-loop first second same₀ x₀ same x = (x ≤ length first) × (same ≡ true → (i : ℕ) → i < x → getD first i 0 ≡ getD second i 0)
 
 abbrev μ-loop : tie.MeasureT-loop
-μ-loop first second same₀ x₀ same x = width - x
+μ-loop first second same₀ x₀ same x = length first - x
 
 loop-holds : tie.Need-loop-holds Inv-loop μ-loop
 loop-holds c = (omega arith, λ t i h. absurd (not-suc-le-zero h))
@@ -62,7 +61,7 @@ loop-again-2 c = (omega arith, λ t. absurd (false≢true t))
 returns : tie.Need-returns Inv-loop μ-loop
 returns c =
     let at = c .before in
-    λ t. ext-getD 0 _ _ (at .before .pre .0 ∙ sym (at .before .pre .1)) (λ i h. at .loop .inv .1 t i (omega arith))
+    λ t. ext-getD 0 _ _ (at .before .pre) (λ i h. at .loop .inv .1 t i (omega arith))
 
 pub same-spec : {M : Type 1} → statement M
 same-spec =
