@@ -10,7 +10,8 @@ use native.Mathlib.Omega.{arith}
 use borrow.Author.Tests.{eqb-true, eq-eqb, ne-eqb}
 use lib.Dec.{eqb}
 use lib.ListN.{length, getD}
-use Rattle.differences.specs.Runs.{Run, differs, alike, goesOn, begins, more, runAt, runsFrom}
+use Rattle.differences.specs.Runs.{Run, alike, goesOn, begins, more, runAt, runsFrom}
+use Rattle.differences.specs.Put.{OneRun}
 
 module _ (p : ℕ) (a b : List ℕ) where
   -- a place that is the same in both begins no run
@@ -160,3 +161,19 @@ runs-same p a (suc n) x = none-here p a a n x refl ∙ runs-same p a n (suc x)
 -- a run ends within its row
 pub run-within : (w : ℕ) (a b : List ℕ) (x last : ℕ) → x < w → last ≡ x + more a b (w - (x + 1)) x → last < w
 run-within w a b x last h e = omega (arith, e, more-most a b (w - (x + 1)) x)
+
+-- where all n places after x go on, there are n
+more-all : (a b : List ℕ) (n x : ℕ) → ((y : ℕ) → x ≤ y → y < x + n → alike a b y ≡ true) → more a b n x ≡ n
+unfolding more
+more-all a b zero x all = refl
+more-all a b (suc n) x all = rw (all x (omega arith) (omega arith), more-all a b n (suc x) (λ y l h. all y (omega (arith, l)) (omega (arith, h))))
+
+-- a row that differs in one way throughout is one run
+pub runs-one : (w p : ℕ) (a b : List ℕ) → OneRun (suc w) a b → runsFrom p a b (suc w) 0 ≡ record { row = p; first = 0; last = w; inFirst = getD a 0 0; inSecond = getD b 0 0 } ∷ []
+unfolding alike
+runs-one w p a b one =
+    let goes : (y : ℕ) → 0 ≤ y → y < 0 + w → alike a b y ≡ true = λ y l h. rw (eq-eqb (getD a (suc y) 0) (getD a y 0) (one .1 (suc y) (omega (arith, h)) ∙ sym (one .1 y (omega (arith, h)))), eq-eqb (getD b (suc y) 0) (getD b y 0) (one .2 (suc y) (omega (arith, h)) ∙ sym (one .2 y (omega (arith, h))))) in
+    let e : suc w - (0 + 1) ≡ w = omega arith in
+    let last : w ≡ 0 + more a b (suc w - (0 + 1)) 0 = rw (e, more-all a b w 0 goes) (omega arith) in
+    let whole : suc w - 0 ≡ suc w = omega arith in
+    rw whole at (runs-here (suc w) p a b 0 w (omega arith) (one .0) (open-first (suc w) a b) last) ∙ rw (runs-end (suc w) p a b (w + 1) (omega arith))

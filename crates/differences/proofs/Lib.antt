@@ -30,6 +30,8 @@ pub mod PutRuns
 pub mod PutBack
 -- What each call states has one result.
 pub mod Settled
+-- For the code: what holds of the places passed.
+pub mod Below
 -- For the code: entries put one after the other.
 pub mod PutEntries
 -- For the code: a row walked from left to right.

@@ -1,8 +1,8 @@
--- How the code's own functions put entries into a list buffer that has room for them.
-use Prim.Native.Nat.{ℕ, _+_, _*_, _≤_}
+-- What the code's own functions state: how they put entries into a list buffer that has room for them, and a row that is one run.
+use Prim.Native.Nat.{ℕ, _+_, _*_, _≤_, _<_}
 use mathlib.Core.Path.{_≡_}
 use mathlib.Core.List.{List}
-use lib.ListN.{length}
+use lib.ListN.{length, getD}
 use lib.Seq.{sets}
 use Rattle.differences.specs.Entries.{entries}
 
@@ -14,3 +14,11 @@ Room size list at found = (at + length found) * size ≤ length list
 pub record Put {A : Type 0} (size : ℕ) (entry : A → List ℕ) (list : List ℕ) (at : ℕ) (found : List A) (next : ℕ) (later : List ℕ) : Type 0 where
   pub counted : next ≡ at + length found
   pub stored : later ≡ sets list (at * size) (entries entry found)
+
+-- All places of a row of w hold the same.
+abbrev pub Uniform : ℕ → List ℕ → Type 0
+Uniform w row = (x : ℕ) → x < w → getD row x 0 ≡ getD row 0 0
+
+-- A row differs in one way throughout.
+abbrev pub OneRun : ℕ → List ℕ → List ℕ → Type 0
+OneRun w a b = (getD a 0 0 ≡ getD b 0 0 → ⊥) × Uniform w a × Uniform w b

@@ -1,5 +1,6 @@
 // The differing runs of one row, put into the list.
 ghost use mathlib.Core.Path.{_≡_};
+ghost use mathlib.Core.Bool.{true};
 ghost use mathlib.Core.List.{[], _∷_};
 ghost use Prim.Native.Nat.{_+_, _-_, _*_, _≤_, _<_};
 ghost use lib.ListN.{length};
@@ -7,12 +8,13 @@ ghost use lib.Seq.{sets};
 ghost use Rattle.constants.specs.Sizes.{width, frameRows, frameSize, frameEntrySize};
 ghost use Rattle.differences.specs.Runs.{more, rowRuns};
 ghost use Rattle.differences.specs.Entries.{runEntry};
-ghost use Rattle.differences.specs.Put.{Room, Put};
+ghost use Rattle.differences.specs.Put.{Room, Put, Uniform, OneRun};
 use crate::same::same;
 use constants::sizes::FRAME_ENTRY_SIZE;
+use constants::sizes::LAST_COLUMN;
 use constants::sizes::WIDTH;
 
-// Puts the runs of row p, left to right; a row that is the same in both frames has none.
+// Puts the runs of row p, left to right; a row that is the same in both frames has none, and one that differs in one way throughout is one.
 pub fn put_row(list: &mut [u8], at: usize, p: usize, first: &[u8], second: &[u8]) -> usize
     requires { ⌜ (at + width ≤ frameSize) × (p < frameRows) × (length (now first) ≡ width) × (length (now second) ≡ width) ⌝ }
     requires { ⌜ Room frameEntrySize (now list) at (rowRuns width p (now first) (now second)) ⌝ }
@@ -21,7 +23,44 @@ pub fn put_row(list: &mut [u8], at: usize, p: usize, first: &[u8], second: &[u8]
     if same(first, second) {
         return at;
     }
+    if one_run(first, second) {
+        put_run(list, at, p as u8, 0, LAST_COLUMN, first[0], second[0]);
+        return at + 1;
+    }
     put_runs(list, at, p as u8, first, second)
+}
+
+// Whether a row differs in one way throughout: asked for speed, as `false` tells nothing.
+fn one_run(first: &[u8], second: &[u8]) -> bool
+    requires { ⌜ (length (now first) ≡ width) × (length (now second) ≡ width) ⌝ }
+    ensures { λ r. ⌜ (r ≡ true → OneRun width (now (first .entry)) (now (second .entry))) ⌝ }
+{
+    if first[0] == second[0] {
+        return false;
+    }
+    if uniform(first) {
+        return uniform(second);
+    }
+    false
+}
+
+// Whether all places of a row hold the same. It looks at all of them, many together.
+fn uniform(row: &[u8]) -> bool
+    requires { ⌜ length (now row) ≡ width ⌝ }
+    ensures { λ r. ⌜ (r ≡ true → Uniform width (now (row .entry))) ⌝ }
+{
+    let content = row[0];
+    let mut uniform = true;
+    let mut x = 0;
+    while x < WIDTH {
+        if row[x] == content {
+            x += 1;
+        } else {
+            uniform = false;
+            x += 1;
+        }
+    }
+    uniform
 }
 
 // Puts the runs of a row: each from the differing place where it begins to its end, and the next from there on.

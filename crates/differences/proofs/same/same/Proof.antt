@@ -3,25 +3,13 @@
 use Rattle.differences.proofs.same.same.Statement.{statement}
 use Rattle.differences.proofs.same.same.Tie as tie
 use Prim.Native.Nat.{ℕ, _≤_, _<_, _+_, _-_}
-use mathlib.Core.Path.{_≡_, refl}
-use mathlib.Core.Bool.{Bool, true, false, false≢true}
+use mathlib.Core.Path.{_≡_}
+use mathlib.Core.Bool.{true, false, false≢true}
 use native.Mathlib.Nat.{not-suc-le-zero}
 use native.Mathlib.Omega.{arith}
-use borrow.Author.Tests.{ltb-true, ltb-false}
-use denote.Ref.{now}
-use lib.Dec.{ltb}
 use lib.ListN.{length, getD}
 use lib.Seq.{ext-getD}
-
--- what holds below x and at x holds below x + 1
-one-more : (P : ℕ → Type 0) (x : ℕ) → ((i : ℕ) → i < x → P i) → P x → (i : ℕ) → i < x + 1 → P i
-one-more P x below here i h = by (ltb i x) refl
-  where
-    by : (t : Bool) → ltb i x ≡ t → P i
-    by true e = below i (ltb-true i x e)
-    by false e =
-        let same : i ≡ x = omega (arith, h, ltb-false i x e) in
-        rw same here
+use Rattle.differences.proofs.Below.{one-more}
 
 abbrev Inv-loop : tie.InvT-loop
 Inv-loop first second same₀ x₀ same x = (x ≤ length first) × (same ≡ true → (i : ℕ) → i < x → getD first i 0 ≡ getD second i 0)
