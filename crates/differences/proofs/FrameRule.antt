@@ -162,4 +162,4 @@ module _ (w h : ℕ) (f g : List ℕ) where
   runs-alone list r = runs-one list (runsIn w h f g) r runs-meet
 
 pub the-only-runs : TheOnlyRuns
-the-only-runs = record { meets = runs-meet; alone = runs-alone; called = runs-alone width frameRows }
+the-only-runs = record { meets = runs-meet; alone = runs-alone; called = λ f g list. (runs-alone width frameRows f g list, λ e. rw e (runs-meet width frameRows f g)) }

@@ -9,15 +9,17 @@ use native.Mathlib.Nat.{not-suc-le-zero}
 use native.Mathlib.Omega.{arith}
 use borrow.Author.Tests.{lt-ltb, ltb-true, ltb-false}
 use lib.Dec.{ltb}
-use lib.ListN.{length, getD, take}
+use lib.ListN.{length, length-append, length-replicate, getD, take, replicate}
 use Rattle.constants.specs.Sizes.{width, frameRows, frameSize, memorySize, frameEntrySize, memoryEntrySize, longestFrameList, longestMemoryList}
 use Rattle.codes.proofs.Tests.{chosen, either}
+use Rattle.bus.specs.Bytes.{All}
 use Rattle.differences.specs.Runs.{runsOf}
 use Rattle.differences.specs.Bytes.{bytesOf}
 use Rattle.differences.specs.Entries.{runEntry, byteEntry}
 use Rattle.differences.specs.Compare.{Outcome, anyAbove, compareFrames, compareMemories}
-use Rattle.differences.specs.Given.{Long, Above, noRun, noByte, FramesCompared, MemoriesCompared, Given}
+use Rattle.differences.specs.Given.{Long, Above, noRun, noByte, FramesCompared, MemoriesCompared, turns, striped, Given}
 use Rattle.differences.proofs.Entries.{run-sized, byte-sized, runs-at-most, bytes-at-most}
+use Rattle.differences.proofs.InOrder.{all-append}
 use Rattle.differences.proofs.Longest.{most-runs, most-bytes}
 use Rattle.differences.proofs.Ways.{Way, short, bad, by-length, when-one, when-twelve, when-eleven, when-zero, left-then}
 
@@ -129,12 +131,36 @@ frames-enough f g = omega (arith, runs-at-most width frameRows f g)
 memories-enough : (f g : List ℕ) → length (bytesOf f g) * memoryEntrySize ≤ longestMemoryList
 memories-enough f g = omega (arith, bytes-at-most f g)
 
+-- the two striped frames are frames that are taken
+striped-length : (a b n : ℕ) → length (striped a b n) ≡ n * width
+striped-length a b zero = refl
+striped-length a b (suc n) = length-append (turns a b 66) (striped a b n) ∙ rw (striped-length a b n) (omega arith)
+
+turns-low : (a b : ℕ) → a ≤ 1 → b ≤ 1 → (n : ℕ) → All (λ (byte : ℕ). byte ≤ 1) (turns a b n)
+turns-low a b k l zero = tt
+turns-low a b k l (suc n) = (k, (l, turns-low a b k l n))
+
+striped-low : (a b : ℕ) → a ≤ 1 → b ≤ 1 → (n : ℕ) → All (λ (byte : ℕ). byte ≤ 1) (striped a b n)
+striped-low a b k l zero = tt
+striped-low a b k l (suc n) = all-append (λ (byte : ℕ). byte ≤ 1) (turns a b 66) (striped a b n) (turns-low a b k l 66) (striped-low a b k l n)
+
+low-at : (frame : List ℕ) → All (λ (byte : ℕ). byte ≤ 1) frame → (place : ℕ) → getD frame place 0 ≤ 1
+low-at [] all place = omega arith
+low-at (b ∷ rest) all zero = all .0
+low-at (b ∷ rest) all (suc place) = low-at rest (all .1) place
+
+striped-taken : (a b : ℕ) → a ≤ 1 → b ≤ 1 → Above frameSize (striped a b frameRows) → ⊥
+striped-taken a b k l above = omega (arith, above .above, low-at (striped a b frameRows) (striped-low a b k l frameRows) (above .place))
+
 pub given : Given
 given = record {
   frames = frames-compared;
   memories = memories-compared;
-  framesEnough = frames-enough;
-  framesReached = rw most-runs;
-  memoriesEnough = memories-enough;
-  memoriesReached = rw most-bytes;
+  framesEnough = λ f g list h e. omega (arith, h, frames-enough f g, frames-compared f g list .eleven .0 e .3);
+  framesReached = λ list h.
+      frames-compared (striped 0 1 frameRows) (striped 1 0 frameRows) list .eleven .1
+      ((omega (arith, striped-length 0 1 frameRows), omega (arith, striped-length 1 0 frameRows)), striped-taken 0 1 (omega arith) (omega arith), striped-taken 1 0 (omega arith) (omega arith), rw most-runs h);
+  memoriesEnough = λ f g list h e. omega (arith, h, memories-enough f g, memories-compared f g list .eleven .0 e .1);
+  memoriesReached = λ list h.
+      memories-compared (replicate memorySize 0) (replicate memorySize 1) list .eleven .1 ((omega (arith, length-replicate {A = ℕ} memorySize 0), omega (arith, length-replicate {A = ℕ} memorySize 1)), rw most-bytes h);
 }

@@ -28,6 +28,8 @@ pub mod PutBytes
 pub mod PutRuns
 -- What is listed, put into the first, gives the second.
 pub mod PutBack
+-- Comparisons that are worked out.
+pub mod Samples
 -- What each call states has one result.
 pub mod Settled
 -- For the code: what holds of the places passed.

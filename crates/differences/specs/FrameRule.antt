@@ -1,7 +1,7 @@
 -- Order 1's rule for two frames, in its own words, as a property of any list of runs; and that the call's list is the only one that it allows.
 use Prim.Native.Nat.{ℕ, _≤_, _<_}
 use mathlib.Core.Path.{_≡_}
-use mathlib.Core.Logic.{_≢_, _⊎_}
+use mathlib.Core.Logic.{_≢_, _↔_, _⊎_}
 use mathlib.Core.List.{List}
 use Rattle.constants.specs.Sizes.{width, frameRows}
 use Rattle.bus.specs.Bytes.{All}
@@ -28,7 +28,7 @@ module _ (w h : ℕ) (f g : List ℕ) where
     pub first : (x : ℕ) → run .first ≤ x → x ≤ run .last → placeOf w (run .row) x f ≡ run .inFirst
     pub second : (x : ℕ) → run .first ≤ x → x ≤ run .last → placeOf w (run .row) x g ≡ run .inSecond
 
-  -- The run is longest possible: no such run has its places and more.
+  -- The run is longest possible: such a run that has its places has no more.
   abbrev pub Longest : Run → Type 0
   Longest run = (longer : Run) → Differing longer → longer .row ≡ run .row → longer .first ≤ run .first → run .last ≤ longer .last → longer ≡ run
 
@@ -43,11 +43,11 @@ module _ (w h : ℕ) (f g : List ℕ) where
     -- every differing place lies in one
     pub every : (p x : ℕ) → p < h → x < w → placeOf w p x f ≢ placeOf w p x g → Some (Within p x) list
 
--- For frames of any size.
+-- For frames of any size; a place past the end of a list counts as 0.
 pub record TheOnlyRuns : Type 0 where
   -- the runs of any two frames meet the rule
   pub meets : (w h : ℕ) (f g : List ℕ) → FrameRule w h f g (runsIn w h f g)
   -- and are the only list that does
   pub alone : (w h : ℕ) (f g : List ℕ) (list : List Run) → FrameRule w h f g list → list ≡ runsIn w h f g
-  -- so with the frames of this chip
-  pub called : (f g : List ℕ) (list : List Run) → FrameRule width frameRows f g list → list ≡ runsOf f g
+  -- so the rule allows one list for two frames of this chip, the call's
+  pub called : (f g : List ℕ) (list : List Run) → FrameRule width frameRows f g list ↔ (list ≡ runsOf f g)

@@ -5,12 +5,12 @@ use mathlib.Core.Logic.{_≢_, _↔_, _⊎_}
 use mathlib.Core.List.{List, [], _∷_, _++_}
 use lib.ListN.{length, getD, drop, replicate}
 use lib.Seq.{slice}
-use Rattle.constants.specs.Sizes.{width, frameRows, frameSize, memorySize, frameEntrySize, memoryEntrySize, longestFrameList, longestMemoryList}
+use Rattle.constants.specs.Sizes.{frameRows, frameSize, memorySize, frameEntrySize, memoryEntrySize, longestFrameList, longestMemoryList}
 use Rattle.constants.specs.Numbers.{taken, tooShort, listTooSmall, frameByteAbove}
 use Rattle.differences.specs.Runs.{Run, runsOf}
 use Rattle.differences.specs.Bytes.{Byte, bytesOf}
 use Rattle.differences.specs.Entries.{runEntry, byteEntry}
-use Rattle.differences.specs.Compare.{Outcome, outcome, compareFrames, compareMemories}
+use Rattle.differences.specs.Compare.{Outcome, compareFrames, compareMemories}
 use Rattle.differences.specs.declared.compared.Compared.{Compared}
 
 -- The number and the count that an answer stands for: a list was taken, and a refusal has count 0.
@@ -32,7 +32,7 @@ pub record Above (size : ℕ) (frame : List ℕ) : Type 0 where
   pub placeIn : place < size
   pub above : 1 < getD frame place 0
 
--- What a call leaves, where it would list so many things as entries of a size; `none` is the thing that no list has.
+-- What a call leaves, where it would list so many things as entries of a size; `none` is what getD gives past their end.
 module _ {A : Type 0} (size : ℕ) (entry : A → List ℕ) (none : A) where
   pub record Left (found : List A) (list : List ℕ) (left : Outcome) : Type 0 where
     -- refused, nothing is written and the count is 0
@@ -70,12 +70,12 @@ pub record MemoriesCompared (f g list : List ℕ) : Type 0 where
   pub zero : (numberOf (compareMemories f g list .answer) ≡ taken) ↔ (Long memorySize f g × (length (bytesOf f g) * memoryEntrySize ≤ length list))
   pub left : Left memoryEntrySize byteEntry noByte (bytesOf f g) list (compareMemories f g list)
 
--- So many places by turns, each beside its opposite: those of the first frame from 0 on, those of the second from 1 on.
+-- So many times a and then b.
 abbrev pub turns : ℕ → ℕ → ℕ → List ℕ
 turns a b zero = []
 turns a b (suc n) = a ∷ b ∷ turns a b n
 
--- So many rows of them.
+-- So many rows of 132 places, a and b by turns.
 abbrev pub striped : ℕ → ℕ → ℕ → List ℕ
 striped a b zero = []
 striped a b (suc n) = turns a b 66 ++ striped a b n
@@ -83,9 +83,11 @@ striped a b (suc n) = turns a b 66 ++ striped a b n
 pub record Given : Type 0 where
   pub frames : (f g list : List ℕ) → FramesCompared f g list
   pub memories : (f g list : List ℕ) → MemoriesCompared f g list
-  -- 42,900 bytes are enough for any two frames, and some two need them
-  pub framesEnough : (f g : List ℕ) → length (runsOf f g) * frameEntrySize ≤ longestFrameList
-  pub framesReached : length (runsOf (striped 0 1 frameRows) (striped 1 0 frameRows)) * frameEntrySize ≡ longestFrameList
-  -- 4,752 for any two memories
-  pub memoriesEnough : (f g : List ℕ) → length (bytesOf f g) * memoryEntrySize ≤ longestMemoryList
-  pub memoriesReached : length (bytesOf (replicate memorySize 0) (replicate memorySize 1)) * memoryEntrySize ≡ longestMemoryList
+  -- 42,900 bytes are enough for any two frames: 11 is never given,
+  pub framesEnough : (f g list : List ℕ) → longestFrameList ≤ length list → numberOf (compareFrames f g list .answer) ≢ listTooSmall
+  -- and no fewer are: where the first has every second place lit and the second the others, 11 is given with any shorter buffer.
+  pub framesReached : (list : List ℕ) → length list < longestFrameList → numberOf (compareFrames (striped 0 1 frameRows) (striped 1 0 frameRows) list .answer) ≡ listTooSmall
+  -- 4,752 bytes are enough for any two memories,
+  pub memoriesEnough : (f g list : List ℕ) → longestMemoryList ≤ length list → numberOf (compareMemories f g list .answer) ≢ listTooSmall
+  -- and no fewer are, where all bytes differ.
+  pub memoriesReached : (list : List ℕ) → length list < longestMemoryList → numberOf (compareMemories (replicate memorySize 0) (replicate memorySize 1) list .answer) ≡ listTooSmall

@@ -22,5 +22,7 @@ pub mod PutBack
 pub mod Given
 -- what drawing leaves never meets 12
 pub mod DrawnFrames
+-- comparisons that are worked out
+pub mod Samples
 -- one result for each call's statement
 pub mod Settled

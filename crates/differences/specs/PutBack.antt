@@ -2,13 +2,16 @@
 use Prim.Native.Nat.{ℕ, suc, _+_, _-_, _*_, _≤_}
 use mathlib.Core.Path.{_≡_}
 use mathlib.Core.Logic.{_↔_}
+use mathlib.Core.Bool.{false}
 use mathlib.Core.List.{List, [], _∷_, _++_}
 use lib.ListN.{length, take, drop, set, replicate}
 use lib.Seq.{sets}
-use Rattle.constants.specs.Sizes.{width, frameRows, frameSize, memorySize}
+use Rattle.constants.specs.Sizes.{width, frameSize, memorySize}
 use Rattle.picture.specs.Ignored.{SameBits}
 use Rattle.differences.specs.Runs.{Run, runsOf}
 use Rattle.differences.specs.Bytes.{Byte, bytesOf}
+use Rattle.differences.specs.Compare.{outcome, anyAbove, compareFrames, compareMemories}
+use Rattle.differences.specs.declared.compared.Compared.{Compared}
 
 -- A frame of rows w wide with each place of a run as it is in the second frame.
 unfoldable pub putRun : ℕ → List ℕ → Run → List ℕ
@@ -29,10 +32,15 @@ pub record PutBack : Type 0 where
   pub frames : (f g : List ℕ) → frameSize ≤ length f → frameSize ≤ length g → putRuns width f (runsOf f g) ≡ take frameSize g ++ drop frameSize f
   -- so that frames of just that length become one.
   pub whole : (f g : List ℕ) → length f ≡ frameSize → length g ≡ frameSize → putRuns width f (runsOf f g) ≡ g
-  -- The list is empty exactly where the two are equal.
+  -- The list is empty exactly where the two are equal,
   pub noRuns : (f g : List ℕ) → frameSize ≤ length f → frameSize ≤ length g → (runsOf f g ≡ []) ↔ (take frameSize f ≡ take frameSize g)
-  -- Two memories: all 8,580 bits are then those of the second, and what follows the 1,188 bytes is as it was.
-  pub memories : (f g : List ℕ) → memorySize ≤ length f → memorySize ≤ length g → SameBits (putBytes f (bytesOf f g)) g
-  pub past : (f g : List ℕ) → memorySize ≤ length f → drop memorySize (putBytes f (bytesOf f g)) ≡ drop memorySize f
-  -- The list is empty exactly where the two have the same bits.
-  pub noBytes : (f g : List ℕ) → memorySize ≤ length f → memorySize ≤ length g → (bytesOf f g ≡ []) ↔ SameBits f g
+  -- and then a buffer of any length, of no bytes too, is enough and stays as it was.
+  pub sameFrames : (f g list : List ℕ) → frameSize ≤ length f → frameSize ≤ length g → anyAbove (take frameSize f) ≡ false → take frameSize f ≡ take frameSize g → compareFrames f g list ≡ outcome (Compared.Listed 0) list
+  -- Two memories: all 8,580 bits are then those of the second,
+  pub memories : (f g : List ℕ) → memorySize ≤ length f → SameBits (putBytes f (bytesOf f g)) g
+  -- and what follows the 1,188 bytes is as it was.
+  pub past : (f g : List ℕ) → drop memorySize (putBytes f (bytesOf f g)) ≡ drop memorySize f
+  -- The list is empty exactly where the two have the same bits,
+  pub noBytes : (f g : List ℕ) → memorySize ≤ length f → (bytesOf f g ≡ []) ↔ SameBits f g
+  -- and then any buffer is enough and stays as it was.
+  pub sameMemories : (f g list : List ℕ) → memorySize ≤ length f → memorySize ≤ length g → SameBits f g → compareMemories f g list ≡ outcome (Compared.Listed 0) list

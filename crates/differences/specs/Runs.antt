@@ -1,6 +1,6 @@
 -- Order 1, two frames: the runs of differing places, row by row, left to right.
 use Prim.Native.Nat.{ℕ, zero, suc, _+_}
-use mathlib.Core.Bool.{Bool, true, false, _&&_, not, cond}
+use mathlib.Core.Bool.{Bool, false, _&&_, not, cond}
 use mathlib.Core.List.{List, [], _∷_}
 use lib.Dec.{eqb}
 use lib.ListN.{getD}
@@ -32,7 +32,7 @@ goesOn a b (suc x) = alike a b x
 unfoldable pub begins : List ℕ → List ℕ → ℕ → Bool
 begins a b x = differs a b x && not (goesOn a b x)
 
--- How many of the n places after x go on with it.
+-- How many of the n places after x go on with it, one after the other.
 unfoldable pub more : List ℕ → List ℕ → ℕ → ℕ → ℕ
 more a b zero x = 0
 more a b (suc n) x = cond (alike a b x) (suc (more a b n (suc x))) 0
@@ -41,7 +41,7 @@ more a b (suc n) x = cond (alike a b x) (suc (more a b n (suc x))) 0
 abbrev pub runAt : ℕ → List ℕ → List ℕ → ℕ → ℕ → Run
 runAt p a b n x = record { row = p; first = x; last = x + more a b n x; inFirst = getD a x 0; inSecond = getD b x 0 }
 
--- The runs that begin at the n places from x on, left to right.
+-- The runs that begin at the last n places of a row, from x on, left to right.
 unfoldable pub runsFrom : ℕ → List ℕ → List ℕ → ℕ → ℕ → List Run
 runsFrom p a b zero x = []
 runsFrom p a b (suc n) x = cond (begins a b x) (runAt p a b n x ∷ runsFrom p a b n (suc x)) (runsFrom p a b n (suc x))

@@ -15,7 +15,7 @@ use lib.Seq.{length-take-le}
 use borrow.Author.Needs.{needs}
 use Rattle.constants.specs.Sizes.{frameSize}
 use Rattle.differences.specs.Runs.{runsOf}
-use Rattle.differences.specs.Entries.{runEntry, entries}
+use Rattle.differences.specs.Entries.{runEntry}
 use Rattle.differences.specs.Compare.{outcome, listed, anyAbove, compareFrames}
 use Rattle.differences.specs.declared.compared.Compared.{Compared}
 use Rattle.differences.proofs.PutBack.{put-back}
@@ -41,11 +41,6 @@ all-in-order : (f g list : List ℕ) → frameSize ≤ length f → frameSize �
 unfolding compareFrames
 all-in-order f g list h k e d = rw (le-ltb (length f) frameSize h, le-ltb (length g) frameSize k, e, d)
 
--- frames that are equal: no entry, in any buffer
-equal : (f g list : List ℕ) → frameSize ≤ length f → frameSize ≤ length g → anyAbove (take frameSize f) ≡ false → take frameSize f ≡ take frameSize g → compareFrames f g list ≡ outcome (Compared.Listed 0) list
-unfolding listed entries
-equal f g list h k e same = all-in-order f g list h k e (rw (← same) e) ∙ rw (put-back .noRuns f g h k .1 same, le-ltb (length list) 0 (omega arith))
-
 returns : tie.Need-returns
 returns c = sym (first-short _ _ _ (c .if1 .taken))
 
@@ -68,7 +63,7 @@ same-requires : tie.Need-same-requires
 same-requires c κs = length-take-le frameSize (now (c .before .before .before .before .before .before .before .before .before .args .first)) (c .before .before .before .before .before .if1 .left) ∙ sym (length-take-le frameSize (now (c .before .before .before .before .before .before .before .before .before .args .second)) (c .before .before .before .before .if2 .left))
 
 returns-4 : tie.Need-returns-4
-returns-4 c = sym (equal _ _ _ (c .before .before .before .before .before .before .before .if1 .left) (c .before .before .before .before .before .before .if2 .left) (sym (c .before .before .before .before .before .any-above .ensures) ∙ c .before .before .before .before .if3 .left) (c .before .same .ensures (c .if4 .taken)))
+returns-4 c = sym (put-back .sameFrames _ _ _ (c .before .before .before .before .before .before .before .if1 .left) (c .before .before .before .before .before .before .if2 .left) (sym (c .before .before .before .before .before .any-above .ensures) ∙ c .before .before .before .before .if3 .left) (c .before .same .ensures (c .if4 .taken)))
 
 any-above-requires-2 : tie.Need-any-above-requires-2
 any-above-requires-2 c κs = search needs
