@@ -77,34 +77,29 @@ more-ends a b (suc n) x h = by (alike a b x) refl (more-ends a b n (suc x)) h
     by true e later h = rw (add-suc, ← suc-add) (later (omega (arith, h)))
     by false e later h = rw add-zero e
 
--- the next place goes on, or does not, in either frame
-pub more-on : (a b : List ℕ) (w x : ℕ) → x + 1 < w → getD a (x + 1) 0 ≡ getD a x 0 → getD b (x + 1) 0 ≡ getD b x 0 → more a b (w - (x + 1)) x ≡ suc (more a b (w - (x + 1 + 1)) (x + 1))
-unfolding more alike
-more-on a b w x h e f =
+-- the place after x goes on, or does not, or there is none
+pub more-on : (a b : List ℕ) (w x : ℕ) → x + 1 < w → alike a b x ≡ true → more a b (w - (x + 1)) x ≡ suc (more a b (w - (x + 1 + 1)) (x + 1))
+unfolding more
+more-on a b w x h e =
     let g : w - (x + 1) ≡ suc (w - (x + 1 + 1)) = omega arith in
-    rw (g, ← add-one x, eq-eqb (getD a (x + 1) 0) (getD a x 0) e, eq-eqb (getD b (x + 1) 0) (getD b x 0) f)
+    rw (g, e, add-one x)
 
-pub more-first : (a b : List ℕ) (w x : ℕ) → x + 1 < w → (getD a (x + 1) 0 ≡ getD a x 0 → ⊥) → more a b (w - (x + 1)) x ≡ 0
-unfolding more alike
-more-first a b w x h d =
+pub more-not : (a b : List ℕ) (w x : ℕ) → x + 1 < w → alike a b x ≡ false → more a b (w - (x + 1)) x ≡ 0
+unfolding more
+more-not a b w x h e =
     let g : w - (x + 1) ≡ suc (w - (x + 1 + 1)) = omega arith in
-    rw (g, ← add-one x, ne-eqb (getD a (x + 1) 0) (getD a x 0) d)
-
-pub more-second : (a b : List ℕ) (w x : ℕ) → x + 1 < w → (getD b (x + 1) 0 ≡ getD b x 0 → ⊥) → more a b (w - (x + 1)) x ≡ 0
-unfolding more alike
-more-second a b w x h d =
-    let g : w - (x + 1) ≡ suc (w - (x + 1 + 1)) = omega arith in
-    rw (g, ← add-one x, ne-eqb (getD b (x + 1) 0) (getD b x 0) d) (by (eqb (getD a (x + 1) 0) (getD a x 0)))
-  where
-    by : (t : Bool) → cond (t && false) (suc (more a b (w - (x + 1 + 1)) (x + 1))) 0 ≡ 0
-    by true = refl
-    by false = refl
+    rw (g, e)
 
 pub more-end : (a b : List ℕ) (w x : ℕ) → w ≤ x + 1 → more a b (w - (x + 1)) x ≡ 0
 unfolding more
 more-end a b w x h =
     let g : w - (x + 1) ≡ 0 = omega arith in
     rw g
+
+-- what the test on the next place says, where x holds what the run does
+pub way-told : (a b : List ℕ) (x was is : ℕ) (r : Bool) → getD a x 0 ≡ was → getD b x 0 ≡ is → r ≡ (eqb (getD a (x + 1) 0) was && eqb (getD b (x + 1) 0) is) → alike a b x ≡ r
+unfolding alike
+way-told a b x was is r e f h = rw (← add-one x, e, f) (sym h)
 
 -- A run may begin here: a place that differs does not go on with the one before it.
 abbrev pub Open : ℕ → List ℕ → List ℕ → ℕ → Type 0

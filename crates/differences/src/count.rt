@@ -7,6 +7,7 @@ ghost use lib.ListN.{length};
 ghost use Rattle.constants.specs.Sizes.{width, frameSize, memorySize};
 ghost use Rattle.differences.specs.Runs.{rowRuns, runsOf};
 ghost use Rattle.differences.specs.Bytes.{pageBytes, bytesOf};
+use crate::row::same_way;
 use crate::same::same;
 use bus::data::kept;
 use constants::sizes::FRAME_ROWS;
@@ -68,10 +69,8 @@ fn one_where_beginning(was: u8, is: u8, was_before: u8, is_before: u8) -> u8
     if was == is {
         return 0;
     }
-    if was == was_before {
-        if is == is_before {
-            return 0;
-        }
+    if same_way(was, is, was_before, is_before) {
+        return 0;
     }
     1
 }

@@ -1,8 +1,9 @@
 // The differing runs of one row, put into the list.
 ghost use mathlib.Core.Path.{_≡_};
-ghost use mathlib.Core.Bool.{true};
+ghost use mathlib.Core.Bool.{true, _&&_};
 ghost use mathlib.Core.List.{[], _∷_};
 ghost use Prim.Native.Nat.{_+_, _-_, _*_, _≤_, _<_};
+ghost use lib.Dec.{eqb};
 ghost use lib.ListN.{length};
 ghost use lib.Seq.{sets};
 ghost use Rattle.constants.specs.Sizes.{width, frameRows, frameSize, frameEntrySize};
@@ -93,15 +94,23 @@ fn run_last(first: &[u8], second: &[u8], from: usize) -> usize
     let is = second[from];
     let mut last = from;
     while last + 1 < WIDTH {
-        if first[last + 1] != was {
+        if same_way(first[last + 1], second[last + 1], was, is) {
+            last += 1;
+        } else {
             return last;
         }
-        if second[last + 1] != is {
-            return last;
-        }
-        last += 1;
     }
     last
+}
+
+// Whether two places hold the same in the first frame, and the same in the second.
+pub fn same_way(was: u8, is: u8, other_was: u8, other_is: u8) -> bool
+    ensures { λ r. ⌜ r ≡ (eqb was «other_was» && eqb is «other_is») ⌝ }
+{
+    if was == other_was {
+        return is == other_is;
+    }
+    false
 }
 
 // Puts one run.

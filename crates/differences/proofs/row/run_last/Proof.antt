@@ -7,11 +7,13 @@ use mathlib.Core.Path.{_≡_, refl, sym, _∙_}
 use native.Mathlib.Nat.{add-zero, add-suc, suc-add}
 use native.Mathlib.Numerals.{add-one}
 use native.Mathlib.Omega.{arith}
+use borrow.Author.Tests.{eqb-true}
 use denote.Ref.{now}
 use lib.ListN.{getD}
 use Rattle.constants.specs.Sizes.{width}
+use Rattle.codes.proofs.Tests.{both}
 use Rattle.differences.specs.Runs.{more}
-use Rattle.differences.proofs.AlongRow.{more-on, more-first, more-second, more-end}
+use Rattle.differences.proofs.AlongRow.{more-on, more-not, more-end, way-told}
 
 abbrev Inv-loop : tie.InvT-loop
 Inv-loop first second from was is last₀ last = (from ≤ last) × (last < width) × (from + more first second (width - (from + 1)) from ≡ last + more first second (width - (last + 1)) last) × (getD first last 0 ≡ was) × (getD second last 0 ≡ is)
@@ -31,30 +33,20 @@ loop-holds c = (omega arith, omega arith, refl, refl, refl)
 add-loop : tie.Need-add-loop Inv-loop μ-loop
 add-loop c = omega arith
 
-add-if1 : tie.Need-add-if1 Inv-loop μ-loop
-add-if1 c = omega arith
+add-same-way : tie.Need-add-same-way Inv-loop μ-loop
+add-same-way c = omega arith
 
-shared-slice-read-if1 : tie.Need-shared-slice-read-if1 Inv-loop μ-loop
-shared-slice-read-if1 c = omega arith
+shared-slice-read-same-way : tie.Need-shared-slice-read-same-way Inv-loop μ-loop
+shared-slice-read-same-way c = omega arith
 
-returns : tie.Need-returns Inv-loop μ-loop
-returns c =
-    let at = c .before .before .before in
-    let start = at .before .before .before .args in
-    sym (at .loop .inv .2 ∙ rw (more-first (now (start .first)) (now (start .second)) width (at .loop .last) (c .before .before .loop-test .taken) (rw (at .loop .inv .3) (c .if1 .taken)), add-zero))
+add-same-way-2 : tie.Need-add-same-way-2 Inv-loop μ-loop
+add-same-way-2 c = omega arith
 
-add-if2 : tie.Need-add-if2 Inv-loop μ-loop
-add-if2 c = omega arith
+shared-slice-read-same-way-2 : tie.Need-shared-slice-read-same-way-2 Inv-loop μ-loop
+shared-slice-read-same-way-2 c = omega arith
 
-shared-slice-read-if2 : tie.Need-shared-slice-read-if2 Inv-loop μ-loop
-shared-slice-read-if2 c = omega arith
-
-returns-2 : tie.Need-returns-2 Inv-loop μ-loop
-returns-2 c =
-    let test = c .before .before in
-    let at = test .before .before .before in
-    let start = at .before .before .before .args in
-    sym (at .loop .inv .2 ∙ rw (more-second (now (start .first)) (now (start .second)) width (at .loop .last) (test .before .before .loop-test .taken) (rw (at .loop .inv .4) (c .if2 .taken)), add-zero))
+same-way-requires : tie.Need-same-way-requires Inv-loop μ-loop
+same-way-requires c κs = tt
 
 add-last : tie.Need-add-last Inv-loop μ-loop
 add-last c = omega arith
@@ -64,17 +56,25 @@ loop-less c = omega arith
 
 loop-again : tie.Need-loop-again Inv-loop μ-loop
 loop-again c =
-    let test = c .before .before in
-    let at = test .before .before .before in
-    let start = at .before .before .before .args in
-    let inside = test .before .before .loop-test .taken in
-    (omega arith, inside, at .loop .inv .2 ∙ rw (more-on (now (start .first)) (now (start .second)) width (at .loop .last) inside (test .if1 .left ∙ sym (at .loop .inv .3)) (c .if2 .left ∙ sym (at .loop .inv .4)), add-suc, ← suc-add, add-one (at .loop .last)), test .if1 .left, c .if2 .left)
+    let at = c .before .before .before .before .before in
+    let a = at .before .before .before .before .before .args in
+    let told = c .before .same-way .ensures in
+    let goes = way-told (now (a .first)) (now (a .second)) (at .loop .last) _ _ _ (at .loop .inv .3) (at .loop .inv .4) told ∙ c .if1 .taken in
+    let alike = both _ _ (sym told ∙ c .if1 .taken) in
+    (omega arith, omega arith, at .loop .inv .2 ∙ rw (more-on (now (a .first)) (now (a .second)) width (at .loop .last) (omega arith) goes, add-suc, ← suc-add, add-one (at .loop .last)), eqb-true _ _ (alike .0), eqb-true _ _ (alike .1))
 
-returns-3 : tie.Need-returns-3 Inv-loop μ-loop
-returns-3 c =
+returns : tie.Need-returns Inv-loop μ-loop
+returns c =
+    let at = c .before .before .before .before .before in
+    let a = at .before .before .before .before .before .args in
+    let stops = way-told (now (a .first)) (now (a .second)) (at .loop .last) _ _ _ (at .loop .inv .3) (at .loop .inv .4) (c .before .same-way .ensures) ∙ c .if1 .left in
+    sym (at .loop .inv .2 ∙ rw (more-not (now (a .first)) (now (a .second)) width (at .loop .last) (omega arith) stops, add-zero))
+
+returns-2 : tie.Need-returns-2 Inv-loop μ-loop
+returns-2 c =
     let at = c .before in
-    let start = at .before .before .before .args in
-    sym (at .loop .inv .2 ∙ rw (more-end (now (start .first)) (now (start .second)) width (at .loop .last) (c .loop-test .left), add-zero))
+    let a = at .before .before .before .before .before .args in
+    sym (at .loop .inv .2 ∙ rw (more-end (now (a .first)) (now (a .second)) width (at .loop .last) (c .loop-test .left), add-zero))
 
 pub run-last-spec : {M : Type 1} → statement M
 run-last-spec =
@@ -86,13 +86,13 @@ run-last-spec =
     shared-slice-read-is
     loop-holds
     add-loop
-    add-if1
-    shared-slice-read-if1
-    returns
-    add-if2
-    shared-slice-read-if2
-    returns-2
+    add-same-way
+    shared-slice-read-same-way
+    add-same-way-2
+    shared-slice-read-same-way-2
+    same-way-requires
     add-last
     loop-less
     loop-again
-    returns-3)
+    returns
+    returns-2)
