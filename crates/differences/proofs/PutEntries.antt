@@ -9,7 +9,10 @@ use lib.ListN.{length, length-append, drop, set}
 use lib.Seq.{sets, length-sets, sets-eq}
 use Rattle.differences.specs.Entries.{entries}
 use Rattle.differences.specs.Put.{Room, Put}
+use Rattle.differences.specs.Compare.{outcome, listed}
+use Rattle.differences.specs.declared.compared.Compared.{Compared}
 use Rattle.differences.proofs.Entries.{entries-length}
+use Rattle.differences.proofs.Listed.{listed-all}
 
 -- two pieces stored one after the other are the two as one piece
 sets-append : (list : List ℕ) (at : ℕ) (p q : List ℕ) → sets list at (p ++ q) ≡ sets (sets list at p) (at + length p) q
@@ -79,6 +82,10 @@ module _ {A : Type 0} (size : ℕ) (entry : A → List ℕ) (sized : (a : A) →
   at-start {list} {found} {next} {later} f h =
       let e : length (entries entry found) ≡ length found * size = entries-length size entry sized found in
       f .stored ∙ rw zero-mul (sets-eq (entries entry found) list 0 (rw (zero-add, e) h) ∙ rw (zero-add, e))
+
+  -- which is then what the call leaves
+  pub put-listed : {list : List ℕ} {found : List A} {next : ℕ} {later : List ℕ} → Put size entry list 0 found next later → length found * size ≤ length list → outcome (Compared.Listed next) later ≡ listed entry found list
+  put-listed {list} {found} f h = rw (f .counted, zero-add, at-start f h) (sym (listed-all size entry sized found list h))
 
 -- bytes stored one by one are the entry of them
 pub five : (list : List ℕ) (s a b c d e : ℕ) → set (set (set (set (set list s a) (s + 1) b) (s + 2) c) (s + 3) d) (s + 4) e ≡ sets list s (a ∷ b ∷ c ∷ d ∷ e ∷ [])

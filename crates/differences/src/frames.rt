@@ -1,12 +1,13 @@
 // Where two frames differ.
 ghost use mathlib.Core.Path.{_≡_};
-ghost use Prim.Native.Nat.{_≤_};
+ghost use Prim.Native.Nat.{_*_, _≤_};
+ghost use lib.Dec.{ltb};
 ghost use lib.ListN.{length, take};
 ghost use Rattle.constants.specs.Sizes.{frameSize, frameEntrySize};
 ghost use Rattle.differences.specs.Runs.{runsOf};
 ghost use Rattle.differences.specs.Entries.{runEntry};
 ghost use Rattle.differences.specs.Put.{Room, Put};
-ghost use Rattle.differences.specs.Compare.{outcome, listed, anyAbove, compareFrames};
+ghost use Rattle.differences.specs.Compare.{outcome, anyAbove, compareFrames};
 use crate::compared::Compared;
 use crate::count::count_rows;
 use crate::row::put_row;
@@ -37,26 +38,23 @@ pub fn compare_frames(first: &[u8], second: &[u8], list: &mut [u8]) -> Compared
         return Compared::Listed(0);
     }
     if any_above(second) {
-        return Compared::Refused(FRAME_BYTE_ABOVE);
+        Compared::Refused(FRAME_BYTE_ABOVE)
+    } else if too_small(first, second, list.len()) {
+        Compared::Refused(LIST_TOO_SMALL)
+    } else {
+        Compared::Listed(put_rows(list, first, second))
     }
-    list_runs(first, second, list)
 }
 
-// Lists the runs where they all fit; they are counted first where the buffer does not hold every list.
-fn list_runs(first: &[u8], second: &[u8], list: &mut [u8]) -> Compared
+// Whether a list buffer of so many bytes is too small for all runs; they are counted only where it does not hold every list.
+fn too_small(first: &[u8], second: &[u8], bytes: usize) -> bool
     requires { ⌜ (frameSize ≤ length (now first)) × (frameSize ≤ length (now second)) ⌝ }
-    ensures { λ r. ⌜ outcome r (now (list .exit)) ≡ listed runEntry (runsOf (now (first .entry)) (now (second .entry))) (now (list .entry)) ⌝ }
+    ensures { λ r. ⌜ r ≡ ltb bytes (length (runsOf (now (first .entry)) (now (second .entry))) * frameEntrySize) ⌝ }
 {
-    if LONGEST_FRAME_LIST <= list.len() {
-        let count = put_rows(list, first, second);
-        return Compared::Listed(count);
+    if LONGEST_FRAME_LIST <= bytes {
+        return false;
     }
-    let needed = count_rows(first, second);
-    if list.len() < needed * FRAME_ENTRY_SIZE {
-        return Compared::Refused(LIST_TOO_SMALL);
-    }
-    put_rows(list, first, second);
-    Compared::Listed(needed)
+    bytes < count_rows(first, second) * FRAME_ENTRY_SIZE
 }
 
 // Whether one of a frame's bytes is above 1.

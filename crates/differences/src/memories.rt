@@ -1,12 +1,13 @@
 // Where two memories differ.
 ghost use mathlib.Core.Path.{_≡_};
-ghost use Prim.Native.Nat.{_≤_};
+ghost use Prim.Native.Nat.{_*_, _≤_};
+ghost use lib.Dec.{ltb};
 ghost use lib.ListN.{length};
 ghost use Rattle.constants.specs.Sizes.{memorySize, memoryEntrySize};
 ghost use Rattle.differences.specs.Bytes.{bytesOf};
 ghost use Rattle.differences.specs.Entries.{byteEntry};
 ghost use Rattle.differences.specs.Put.{Room, Put};
-ghost use Rattle.differences.specs.Compare.{outcome, listed, compareMemories};
+ghost use Rattle.differences.specs.Compare.{outcome, compareMemories};
 use crate::compared::Compared;
 use crate::count::count_pages;
 use crate::page::put_page;
@@ -28,24 +29,21 @@ pub fn compare_memories(first: &[u8], second: &[u8], list: &mut [u8]) -> Compare
     if second.len() < MEMORY_SIZE {
         return Compared::Refused(TOO_SHORT);
     }
-    list_bytes(first, second, list)
-}
-
-// Lists the bytes where they all fit; they are counted first where the buffer does not hold every list.
-fn list_bytes(first: &[u8], second: &[u8], list: &mut [u8]) -> Compared
-    requires { ⌜ (memorySize ≤ length (now first)) × (memorySize ≤ length (now second)) ⌝ }
-    ensures { λ r. ⌜ outcome r (now (list .exit)) ≡ listed byteEntry (bytesOf (now (first .entry)) (now (second .entry))) (now (list .entry)) ⌝ }
-{
-    if LONGEST_MEMORY_LIST <= list.len() {
-        let count = put_pages(list, first, second);
-        return Compared::Listed(count);
-    }
-    let needed = count_pages(first, second);
-    if list.len() < needed * MEMORY_ENTRY_SIZE {
+    if too_small(first, second, list.len()) {
         return Compared::Refused(LIST_TOO_SMALL);
     }
-    put_pages(list, first, second);
-    Compared::Listed(needed)
+    Compared::Listed(put_pages(list, first, second))
+}
+
+// Whether a list buffer of so many bytes is too small for all entries; they are counted only where it does not hold every list.
+fn too_small(first: &[u8], second: &[u8], bytes: usize) -> bool
+    requires { ⌜ (memorySize ≤ length (now first)) × (memorySize ≤ length (now second)) ⌝ }
+    ensures { λ r. ⌜ r ≡ ltb bytes (length (bytesOf (now (first .entry)) (now (second .entry))) * memoryEntrySize) ⌝ }
+{
+    if LONGEST_MEMORY_LIST <= bytes {
+        return false;
+    }
+    bytes < count_pages(first, second) * MEMORY_ENTRY_SIZE
 }
 
 // Puts the differing bytes of the nine pages.

@@ -6,19 +6,22 @@ use Rattle.differences.proofs.frames.compare_frames.Tie as tie
 use mathlib.Core.Path.{_≡_, sym, _∙_}
 use mathlib.Core.Bool.{true, false}
 use mathlib.Core.List.{List}
-use Prim.Native.Nat.{ℕ, _≤_, _<_}
+use Prim.Native.Nat.{ℕ, _*_, _≤_, _<_}
 use native.Mathlib.Omega.{arith}
-use borrow.Author.Tests.{lt-ltb, le-ltb}
+use borrow.Author.Tests.{lt-ltb, le-ltb, ltb-true, ltb-false}
 use denote.Ref.{now}
 use lib.ListN.{length, take}
 use lib.Seq.{length-take-le}
 use borrow.Author.Needs.{needs}
-use Rattle.constants.specs.Sizes.{frameSize}
+use Rattle.constants.specs.Sizes.{frameSize, frameEntrySize}
 use Rattle.differences.specs.Runs.{runsOf}
 use Rattle.differences.specs.Entries.{runEntry}
 use Rattle.differences.specs.Compare.{outcome, listed, anyAbove, compareFrames}
 use Rattle.differences.specs.declared.compared.Compared.{Compared}
+use Rattle.differences.proofs.Entries.{run-sized}
+use Rattle.differences.proofs.Listed.{listed-not}
 use Rattle.differences.proofs.PutBack.{put-back}
+use Rattle.differences.proofs.PutEntries.{put-listed}
 
 -- each thing that is asked
 first-short : (f g list : List ℕ) → length f < frameSize → compareFrames f g list ≡ outcome (Compared.Refused 1) list
@@ -68,17 +71,30 @@ returns-4 c = sym (put-back .sameFrames _ _ _ (c .before .before .before .before
 any-above-requires-2 : tie.Need-any-above-requires-2
 any-above-requires-2 c κs = search needs
 
+too-small-requires : tie.Need-too-small-requires
+too-small-requires c κs = search needs
+
+put-rows-requires : tie.Need-put-rows-requires
+put-rows-requires c κs =
+    let a = c .before .before .before .before .before .before .before .before .before .before .before .before .before .before .before .before .args in
+    let room : length (runsOf (now (a .first)) (now (a .second))) * frameEntrySize ≤ length (now (a .list)) = ltb-false _ _ (sym (c .before .before .too-small .ensures) ∙ c .before .if6 .left) in
+    ((c .before .before .before .before .before .before .before .before .before .before .before .before .if1 .left, c .before .before .before .before .before .before .before .before .before .before .before .if2 .left), omega (arith, room))
+
 returns-5 : tie.Need-returns-5
 returns-5 c = sym (second-above _ _ _ (c .before .before .before .before .before .before .before .before .before .if1 .left) (c .before .before .before .before .before .before .before .before .if2 .left) (sym (c .before .before .before .before .before .before .before .any-above .ensures) ∙ c .before .before .before .before .before .before .if3 .left) (sym (c .before .any-above2 .ensures) ∙ c .if5 .taken))
 
-list-runs-requires : tie.Need-list-runs-requires
-list-runs-requires c κs = search needs
+returns-6 : tie.Need-returns-6
+returns-6 c =
+    let all = all-in-order _ _ _ (c .before .before .before .before .before .before .before .before .before .before .before .if1 .left) (c .before .before .before .before .before .before .before .before .before .before .if2 .left) (sym (c .before .before .before .before .before .before .before .before .before .any-above .ensures) ∙ c .before .before .before .before .before .before .before .before .if3 .left) (sym (c .before .before .before .any-above2 .ensures) ∙ c .before .before .if5 .left) in
+    sym (all ∙ listed-not frameEntrySize runEntry run-sized _ _ (ltb-true _ _ (sym (c .before .too-small .ensures) ∙ c .if6 .taken)))
 
 same-length : tie.Need-same-length
 same-length c = search needs
 
-returns-6 : tie.Need-returns-6
-returns-6 c = c .before .before .list-runs .ensures ∙ sym (all-in-order _ _ _ (c .before .before .before .before .before .before .before .before .before .before .before .before .before .if1 .left) (c .before .before .before .before .before .before .before .before .before .before .before .before .if2 .left) (sym (c .before .before .before .before .before .before .before .before .before .before .before .any-above .ensures) ∙ c .before .before .before .before .before .before .before .before .before .before .if3 .left) (sym (c .before .before .before .before .before .any-above2 .ensures) ∙ c .before .before .before .before .if5 .left))
+returns-7 : tie.Need-returns-7
+returns-7 c =
+    let all = all-in-order _ _ _ (c .before .before .before .before .before .before .before .before .before .before .before .before .before .before .before .if1 .left) (c .before .before .before .before .before .before .before .before .before .before .before .before .before .before .if2 .left) (sym (c .before .before .before .before .before .before .before .before .before .before .before .before .before .any-above .ensures) ∙ c .before .before .before .before .before .before .before .before .before .before .before .before .if3 .left) (sym (c .before .before .before .before .before .before .before .any-above2 .ensures) ∙ c .before .before .before .before .before .before .if5 .left) in
+    put-listed frameEntrySize runEntry run-sized (c .before .before .put-rows .ensures) (ltb-false _ _ (sym (c .before .before .before .before .before .too-small .ensures) ∙ c .before .before .before .before .if6 .left)) ∙ sym all
 
 pub compare-frames-spec : {M : Type 1} → statement M
 compare-frames-spec =
@@ -93,7 +109,9 @@ compare-frames-spec =
     same-requires
     returns-4
     any-above-requires-2
+    too-small-requires
+    put-rows-requires
     returns-5
-    list-runs-requires
+    returns-6
     same-length
-    returns-6)
+    returns-7)
