@@ -13,7 +13,7 @@ use Rattle.constants.specs.Sizes.{width, pages, memorySize, frameEntrySize, mem
 use Rattle.picture.specs.Frame.{rowOf}
 use Rattle.differences.specs.ByRows.{byRows}
 use Rattle.differences.specs.Runs.{Run, begins, runAt, runsFrom, runsIn}
-use Rattle.differences.specs.Bytes.{Byte, held, byteAt, bytesFrom, pageBytes, bytesOf}
+use Rattle.differences.specs.Bytes.{DifferingByte, held, byteAt, bytesFrom, pageBytes, bytesOf}
 use Rattle.differences.specs.Entries.{runEntry, byteEntry, entries}
 
 -- a part that lies past the first bytes
@@ -42,7 +42,7 @@ pub run-sized : (run : Run) → length (runEntry run) ≡ frameEntrySize
 unfolding runEntry
 run-sized run = refl
 
-pub byte-sized : (byte : Byte) → length (byteEntry byte) ≡ memoryEntrySize
+pub byte-sized : (byte : DifferingByte) → length (byteEntry byte) ≡ memoryEntrySize
 unfolding byteEntry
 byte-sized byte = refl
 
@@ -89,5 +89,5 @@ bytes-at-most f g = rows-few width width pageBytes (λ page a b. bytes-few page 
 pub run-entries : (found : List Run) → length (entries runEntry found) ≡ length found * frameEntrySize
 run-entries = entries-length frameEntrySize runEntry run-sized
 
-pub byte-entries : (found : List Byte) → length (entries byteEntry found) ≡ length found * memoryEntrySize
+pub byte-entries : (found : List DifferingByte) → length (entries byteEntry found) ≡ length found * memoryEntrySize
 byte-entries = entries-length memoryEntrySize byteEntry byte-sized

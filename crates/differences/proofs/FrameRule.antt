@@ -61,7 +61,7 @@ module _ (w h : ℕ) (f g : List ℕ) where
         let within = more-within a b (w - suc x) x in
         record {
           rowIn = pIn;
-          some = omega arith;
+          notEmpty = omega arith;
           lastIn = omega arith;
           differs = is-begun a b x e .0;
           first = λ y k l. sym (place-of-row w p y f (omega arith)) ∙ more-same a b (w - suc x) x y k l .0;
@@ -103,8 +103,8 @@ module _ (w h : ℕ) (f g : List ℕ) where
   module _ (run other : Run) (d : Differing w h f g run) (e : Differing w h f g other) (i : run .row ≡ other .row) (k : other .first ≤ run .first) (l : run .first ≤ other .last) where
     one-way : (run .inFirst ≡ other .inFirst) × (run .inSecond ≡ other .inSecond)
     one-way = (
-      sym (d .first (run .first) (omega arith) (d .some)) ∙ (rw i (e .first (run .first) k l)),
-      sym (d .second (run .first) (omega arith) (d .some)) ∙ (rw i (e .second (run .first) k l)),
+      sym (d .first (run .first) (omega arith) (d .notEmpty)) ∙ (rw i (e .first (run .first) k l)),
+      sym (d .second (run .first) (omega arith) (d .notEmpty)) ∙ (rw i (e .second (run .first) k l)),
     )
 
     -- a run from the second's first place to the first's last differs in that way too,
@@ -120,7 +120,7 @@ module _ (w h : ℕ) (f g : List ℕ) where
     joined-differing : Differing w h f g joined
     joined-differing = record {
       rowIn = d .rowIn;
-      some = omega (arith, d .some);
+      notEmpty = omega (arith, d .notEmpty);
       lastIn = d .lastIn;
       differs = d .differs;
       first = λ x m n. joined-way x m n .0;
@@ -145,15 +145,15 @@ module _ (w h : ℕ) (f g : List ℕ) where
       some-map (λ other. Maximal other × Within (run .row) (run .first) other) (λ other. other ≡ run)
       (λ other n. one-run run other d (n .0 .0) (n .1 .0) (n .1 .1) (n .1 .2) (m .1) (n .0 .1)) list
       (all-some Maximal (Within (run .row) (run .first)) list (all-both (Differing w h f g) (Longest w h f g) list (r .differing) (r .longest))
-      (r .every (run .row) (run .first) (d .rowIn) (omega (arith, d .some, d .lastIn))
-      (λ e. d .differs (sym (d .first (run .first) (omega arith) (d .some)) ∙ e ∙ d .second (run .first) (omega arith) (d .some)))))
+      (r .every (run .row) (run .first) (d .rowIn) (omega (arith, d .notEmpty, d .lastIn))
+      (λ e. d .differs (sym (d .first (run .first) (omega arith) (d .notEmpty)) ∙ e ∙ d .second (run .first) (omega arith) (d .notEmpty)))))
 
   -- and two that meet it are one
   runs-one : (list other : List Run) → FrameRule w h f g list → FrameRule w h f g other → list ≡ other
   runs-one list other r s = one-list Sooner never list other (order list r) (order other s) (all list other r s) (all other list s r)
     where
       order : (list : List Run) → FrameRule w h f g list → InOrder Sooner list
-      order list r = order-map (Differing w h f g) Before Sooner (λ run other d. sooner run other (d .some)) list (r .differing) (r .inOrder)
+      order list r = order-map (Differing w h f g) Before Sooner (λ run other d. sooner run other (d .notEmpty)) list (r .differing) (r .inOrder)
 
       all : (list other : List Run) → FrameRule w h f g list → FrameRule w h f g other → All (Among other) list
       all list other r s = all-map Maximal (Among other) (runs-among other s) list (all-both (Differing w h f g) (Longest w h f g) list (r .differing) (r .longest))

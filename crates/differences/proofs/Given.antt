@@ -24,7 +24,7 @@ use Rattle.differences.proofs.Longest.{most-runs, most-bytes}
 use Rattle.differences.proofs.Ways.{Way, short, bad, by-length, when-one, when-twelve, when-eleven, when-zero, left-then}
 
 -- The test on the first bytes finds one above 1 where there is one,
-above-found : (size : ℕ) (frame : List ℕ) → anyAbove (take size frame) ≡ true → Above size frame
+pub above-found : (size : ℕ) (frame : List ℕ) → anyAbove (take size frame) ≡ true → Above size frame
 unfolding anyAbove
 above-found zero frame e = absurd (false≢true e)
 above-found (suc n) [] e = absurd (false≢true e)
@@ -37,14 +37,14 @@ above-found (suc n) (b ∷ rest) e = ⊎-elim here (λ t. later (above-found n r
     later a = record { place = suc (a .place); placeIn = omega (arith, a .placeIn); above = a .above }
 
 -- and only there.
-above-at : (size : ℕ) (frame : List ℕ) (place : ℕ) → place < size → 1 < getD frame place 0 → anyAbove (take size frame) ≡ true
+pub above-at : (size : ℕ) (frame : List ℕ) (place : ℕ) → place < size → 1 < getD frame place 0 → anyAbove (take size frame) ≡ true
 unfolding anyAbove
 above-at zero frame place h a = absurd (not-suc-le-zero h)
 above-at (suc n) [] place h a = absurd (not-suc-le-zero a)
 above-at (suc n) (b ∷ rest) zero h a = rw (lt-ltb 1 b a)
 above-at (suc n) (b ∷ rest) (suc place) h a = rw (above-at n rest place (omega (arith, h)) a, or-true)
 
-none-above : (size : ℕ) (frame : List ℕ) → anyAbove (take size frame) ≡ false → Above size frame → ⊥
+pub none-above : (size : ℕ) (frame : List ℕ) → anyAbove (take size frame) ≡ false → Above size frame → ⊥
 none-above size frame e a = false≢true (sym e ∙ above-at size frame (a .place) (a .placeIn) (a .above))
 
 -- what it is that neither of two tests holds
@@ -64,14 +64,14 @@ module _ (size : ℕ) (f g : List ℕ) where
 
 -- Two frames and a list buffer.
 module _ (f g list : List ℕ) where
-  abbrev BadFrames : Type 0
+  abbrev pub BadFrames : Type 0
   BadFrames = Above frameSize f ⊎ Above frameSize g
 
-  abbrev FrameWay : Outcome → Type 0
+  abbrev pub FrameWay : Outcome → Type 0
   FrameWay = Way frameEntrySize runEntry run-sized (runsOf f g) list frameSize f g BadFrames
 
   -- the way that comparing them goes
-  frame-way : FrameWay (compareFrames f g list)
+  pub frame-way : FrameWay (compareFrames f g list)
   unfolding compareFrames
   frame-way =
       chosen FrameWay (ltb (length f) frameSize || ltb (length g) frameSize) _ _
@@ -102,10 +102,10 @@ module _ (f g list : List ℕ) where
       }
 
   -- Two memories and a list buffer.
-  abbrev MemoryWay : Outcome → Type 0
+  abbrev pub MemoryWay : Outcome → Type 0
   MemoryWay = Way memoryEntrySize byteEntry byte-sized (bytesOf f g) list memorySize f g ⊥
 
-  memory-way : MemoryWay (compareMemories f g list)
+  pub memory-way : MemoryWay (compareMemories f g list)
   unfolding compareMemories
   memory-way =
       chosen MemoryWay (ltb (length f) memorySize || ltb (length g) memorySize) _ _

@@ -28,6 +28,8 @@ pub mod PutBytes
 pub mod PutRuns
 -- What is listed, put into the first, gives the second.
 pub mod PutBack
+-- So with what a reader finds in the list buffer.
+pub mod ReadBack
 -- Comparisons that are worked out.
 pub mod Samples
 -- What each call states has one result.

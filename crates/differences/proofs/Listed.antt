@@ -9,8 +9,8 @@ use lib.ListN.{length, drop}
 use lib.Seq.{drop-at}
 use Rattle.constants.specs.Numbers.{taken, listTooSmall}
 use Rattle.differences.specs.Entries.{entries}
-use Rattle.differences.specs.Compare.{outcome, listed}
-use Rattle.differences.specs.Given.{numberOf, countOf, Left}
+use Rattle.differences.specs.Compare.{outcome, listed, numberOf, countOf}
+use Rattle.differences.specs.Given.{Left}
 use Rattle.differences.specs.declared.compared.Compared.{Compared}
 use Rattle.differences.proofs.Entries.{entries-length, entry-at}
 

@@ -12,7 +12,7 @@ use Rattle.constants.specs.Sizes.{width, pages, memorySize}
 use Rattle.bus.specs.Bytes.{All}
 use Rattle.bus.specs.Memory.{address}
 use Rattle.picture.specs.Frame.{rowOf, placeOf}
-use Rattle.differences.specs.Bytes.{Byte, held, byteAt, bytesFrom, pageBytes, bytesOf}
+use Rattle.differences.specs.Bytes.{DifferingByte, held, byteAt, bytesFrom, pageBytes, bytesOf}
 use Rattle.differences.specs.InOrder.{Some, InOrder}
 use Rattle.differences.specs.MemoryRule.{content, Below, Differing, MemoryRule, TheOnlyBytes}
 use Rattle.differences.proofs.InOrder.{Among, all-map, some-map, all-some, one-list}
@@ -37,7 +37,7 @@ module _ (page : ℕ) (a b : List ℕ) where
   bytes-found zero x = refl
   bytes-found (suc n) x = rw (bytes-found n (suc x)) (by (eqb (held page a x) (held page b x)) (found other (byteAt page a b) n (suc x)))
     where
-      by : (t : Bool) (rest : List Byte) → cond t rest (byteAt page a b x ∷ rest) ≡ cond (not t) (byteAt page a b x ∷ rest) rest
+      by : (t : Bool) (rest : List DifferingByte) → cond t rest (byteAt page a b x ∷ rest) ≡ cond (not t) (byteAt page a b x ∷ rest) rest
       by true rest = refl
       by false rest = refl
 
@@ -46,11 +46,11 @@ module _ (page : ℕ) (a b : List ℕ) where
   page-order = rw (bytes-found width 0) (order-found other (byteAt page a b) Below (λ y z h d e. omega arith) width 0)
 
   -- what each column's has, all have,
-  page-all : (P : Byte → Type 0) → ((x : ℕ) → x < width → held page a x ≢ held page b x → P (byteAt page a b x)) → All P (pageBytes page a b)
+  page-all : (P : DifferingByte → Type 0) → ((x : ℕ) → x < width → held page a x ≢ held page b x → P (byteAt page a b x)) → All P (pageBytes page a b)
   page-all P each = rw (bytes-found width 0) (all-found other (byteAt page a b) P width 0 (λ x l k e. each x (omega arith) (eqb-false (held page a x) (held page b x) (not-true _ e))))
 
   -- and each differing column's is among them
-  page-some : (P : Byte → Type 0) (x : ℕ) → x < width → held page a x ≢ held page b x → P (byteAt page a b x) → Some P (pageBytes page a b)
+  page-some : (P : DifferingByte → Type 0) (x : ℕ) → x < width → held page a x ≢ held page b x → P (byteAt page a b x) → Some P (pageBytes page a b)
   page-some P x h n p = rw (bytes-found width 0) (some-found other (byteAt page a b) P width 0 x (omega arith) (omega arith) (ap not (ne-eqb (held page a x) (held page b x) n)) p)
 
 module _ (f g : List ℕ) where
@@ -89,21 +89,21 @@ module _ (f g : List ℕ) where
   bytes-meet = record { inOrder = bytes-order; differing = bytes-differing; every = bytes-every }
 
   -- differing bytes at one place are the same
-  one-byte : (byte other : Byte) → Differing f g byte → Differing f g other → other .place ≡ byte .place → other ≡ byte
+  one-byte : (byte other : DifferingByte) → Differing f g byte → Differing f g other → other .place ≡ byte .place → other ≡ byte
   one-byte byte other d e i =
       let first : other .inFirst ≡ byte .inFirst = e .first ∙ ap (content f) i ∙ sym (d .first) in
       let second : other .inSecond ≡ byte .inSecond = e .second ∙ ap (content g) i ∙ sym (d .second) in
       λ j. record { place = i j; inFirst = first j; inSecond = second j }
 
   -- so any list that meets the rule has each of them
-  bytes-among : (list : List Byte) → MemoryRule f g list → (byte : Byte) → Differing f g byte → Among list byte
+  bytes-among : (list : List DifferingByte) → MemoryRule f g list → (byte : DifferingByte) → Differing f g byte → Among list byte
   bytes-among list r byte d =
       some-map (λ other. Differing f g other × (other .place ≡ byte .place)) (λ other. other ≡ byte) (λ other p. one-byte byte other d (p .0) (p .1)) list
       (all-some (Differing f g) (λ other. other .place ≡ byte .place) list (r .differing)
       (r .every (byte .place) (d .placeIn) (λ e. d .differs (d .first ∙ e ∙ sym (d .second)))))
 
   -- and two that meet it are one
-  bytes-one : (list other : List Byte) → MemoryRule f g list → MemoryRule f g other → list ≡ other
+  bytes-one : (list other : List DifferingByte) → MemoryRule f g list → MemoryRule f g other → list ≡ other
   bytes-one list other r s =
       one-list Below (λ a b h k. omega arith) list other (r .inOrder) (s .inOrder)
       (all-map (Differing f g) (Among other) (bytes-among other s) list (r .differing))

@@ -15,7 +15,7 @@ use Rattle.constants.specs.Sizes.{width, iconPage, memorySize}
 use Rattle.bus.specs.Bytes.{All}
 use Rattle.bus.specs.Memory.{address, kept}
 use Rattle.picture.specs.Ignored.{SameBits}
-use Rattle.differences.specs.Bytes.{Byte, bytesOf}
+use Rattle.differences.specs.Bytes.{DifferingByte, bytesOf}
 use Rattle.differences.specs.InOrder.{Some}
 use Rattle.differences.specs.MemoryRule.{content, Differing, MemoryRule}
 use Rattle.differences.specs.PutBack.{putBytes}
@@ -65,17 +65,17 @@ bits-same memory other bits place h = by (decLt place (iconPage * width))
         rw e at (content-icon memory column within ∙ bits .icons column within ∙ sym (content-icon other column within))
 
 -- One byte put: its place holds what the second memory holds, and any other place what it held.
-put-here : (memory g : List ℕ) (byte : Byte) (place : ℕ) → byte .place ≡ place → place < length memory → byte .inSecond ≡ content g (byte .place) → content (set memory (byte .place) (byte .inSecond)) place ≡ content g place
+put-here : (memory g : List ℕ) (byte : DifferingByte) (place : ℕ) → byte .place ≡ place → place < length memory → byte .inSecond ≡ content g (byte .place) → content (set memory (byte .place) (byte .inSecond)) place ≡ content g place
 unfolding content
 put-here memory g byte place here h e =
     rw (← here, getD-set-same memory (byte .place) (byte .inSecond) 0 (omega (arith, here, h)), e) (kept-again (byte .place / width) (getD g (byte .place) 0))
 
-put-there : (memory : List ℕ) (byte : Byte) (place : ℕ) → place ≢ byte .place → content (set memory (byte .place) (byte .inSecond)) place ≡ content memory place
+put-there : (memory : List ℕ) (byte : DifferingByte) (place : ℕ) → place ≢ byte .place → content (set memory (byte .place) (byte .inSecond)) place ≡ content memory place
 unfolding content
 put-there memory byte place n = rw (getD-set-other memory (byte .place) place (byte .inSecond) 0 n)
 
 -- all put: a place that held what the second memory holds, or is listed, holds it
-put-all : (f g : List ℕ) (list : List Byte) → All (Differing f g) list → (memory : List ℕ) (place : ℕ) → place < length memory → (content memory place ≡ content g place) ⊎ Some (λ byte. byte .place ≡ place) list → content (putBytes memory list) place ≡ content g place
+put-all : (f g : List ℕ) (list : List DifferingByte) → All (Differing f g) list → (memory : List ℕ) (place : ℕ) → place < length memory → (content memory place ≡ content g place) ⊎ Some (λ byte. byte .place ≡ place) list → content (putBytes memory list) place ≡ content g place
 unfolding putBytes
 put-all f g [] all memory place h (inl e) = e
 put-all f g [] all memory place h (inr s) = absurd s
@@ -105,7 +105,7 @@ module _ (f g : List ℕ) where
   bytes-back l = same-bits (putBytes f (bytesOf f g)) g (put-same l)
 
   -- nothing past the memory changes
-  put-past : (list : List Byte) → All (Differing f g) list → (memory : List ℕ) → drop memorySize (putBytes memory list) ≡ drop memorySize memory
+  put-past : (list : List DifferingByte) → All (Differing f g) list → (memory : List ℕ) → drop memorySize (putBytes memory list) ≡ drop memorySize memory
   unfolding putBytes
   put-past [] all memory = refl
   put-past (byte ∷ rest) all memory =
@@ -115,7 +115,7 @@ module _ (f g : List ℕ) where
   bytes-past = put-past (bytesOf f g) (rule .differing) f
 
   -- memories that hold the same have no differing byte
-  none-differing : Same f g → (list : List Byte) → All (Differing f g) list → list ≡ []
+  none-differing : Same f g → (list : List DifferingByte) → All (Differing f g) list → list ≡ []
   unfolding Same
   none-differing same [] all = refl
   none-differing same (byte ∷ rest) all =

@@ -45,8 +45,8 @@ module _ (w h : ℕ) (f g : List ℕ) where
           let x = place - run .row * w in
           let e : run .row * w + x ≡ place = omega (arith, p) in
           let second = d .second x (omega (arith, p)) (omega (arith, q)) in
-          stored-inside frame (start run) (count run) (run .inSecond) place p (omega (arith, q, d .some)) l ∙ sym (rw e at second)
-      by (yes p) (no q) (inl e) = stored-outside frame (start run) (count run) (run .inSecond) place (inr (omega (arith, q, d .some))) ∙ e
+          stored-inside frame (start run) (count run) (run .inSecond) place p (omega (arith, q, d .notEmpty)) l ∙ sym (rw e at second)
+      by (yes p) (no q) (inl e) = stored-outside frame (start run) (count run) (run .inSecond) place (inr (omega (arith, q, d .notEmpty))) ∙ e
       by (yes p) (no q) (inr i) = absurd (q (i .1))
       by (no p) q (inl e) = stored-outside frame (start run) (count run) (run .inSecond) place (inl (omega (arith, p))) ∙ e
       by (no p) q (inr i) = absurd (p (i .0))
@@ -84,7 +84,7 @@ module _ (w h : ℕ) (f g : List ℕ) where
   put-past (run ∷ rest) all frame =
       put-past rest (all .1) (putRun w frame run)
       ∙ stored-before (h * w) (replicate (count run) (run .inSecond)) frame (start run)
-      (omega (arith, in-frame run (all .0), all .0 .some, length-replicate (count run) (run .inSecond)))
+      (omega (arith, in-frame run (all .0), all .0 .notEmpty, length-replicate (count run) (run .inSecond)))
 
 -- Two frames of this chip, and any list of runs that meets the order's rule.
 module _ (f g : List ℕ) (list : List Run) (rule : FrameRule width frameRows f g list) where
@@ -126,9 +126,9 @@ module _ (f g : List ℕ) (list : List Run) (rule : FrameRule width frameRows f 
   none-differing e (run ∷ rest) all =
       let d = all .0 in
       let place = run .row * width + run .first in
-      let within : place < frameSize = omega (arith, in-frame width frameRows f g run d, d .some) in
-      let first = d .first (run .first) (omega arith) (d .some) in
-      let second = d .second (run .first) (omega arith) (d .some) in
+      let within : place < frameSize = omega (arith, in-frame width frameRows f g run d, d .notEmpty) in
+      let first = d .first (run .first) (omega arith) (d .notEmpty) in
+      let second = d .second (run .first) (omega arith) (d .notEmpty) in
       absurd (d .differs (sym first ∙ alike-at frameSize f g place e within ∙ second))
 
   pub no-runs : frameSize ≤ length f → frameSize ≤ length g → (list ≡ []) ↔ (take frameSize f ≡ take frameSize g)

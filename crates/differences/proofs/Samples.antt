@@ -12,4 +12,4 @@ use Rattle.differences.specs.Samples.{Samples}
 
 pub samples : Samples
 unfolding kept rowOf byRows alike goesOn begins more runsFrom runsIn bytesFrom bytesOf runEntry byteEntry entries listed anyAbove compareFrames compareMemories
-samples = record { twoRows = refl; icon = refl; seam = refl; tooFew = refl; above = refl; pastAbove = refl; short = refl; bytes = refl }
+samples = record { twoRows = refl; icon = refl; longer = refl; seam = refl; tooFew = refl; above = refl; pastAbove = refl; short = refl; bytes = refl; bytesTooFew = refl; bytesShort = refl }

@@ -11,8 +11,8 @@ use borrow.Author.Tests.{ltb-true, ltb-false}
 use lib.Dec.{ltb}
 use lib.ListN.{length}
 use Rattle.constants.specs.Numbers.{taken, tooShort, listTooSmall, frameByteAbove}
-use Rattle.differences.specs.Compare.{Outcome, outcome, listed}
-use Rattle.differences.specs.Given.{numberOf, Long, Left}
+use Rattle.differences.specs.Compare.{Outcome, outcome, listed, numberOf}
+use Rattle.differences.specs.Given.{Long, Left}
 use Rattle.differences.specs.declared.compared.Compared.{Compared}
 use Rattle.differences.proofs.Listed.{filled, listed-not, listed-all, left-refused, left-listed}
 

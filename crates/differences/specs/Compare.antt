@@ -5,7 +5,7 @@ use mathlib.Core.List.{List, [], _∷_, _++_}
 use lib.Dec.{ltb}
 use lib.ListN.{length, take, drop}
 use Rattle.constants.specs.Sizes.{memorySize, frameSize}
-use Rattle.constants.specs.Numbers.{tooShort, listTooSmall, frameByteAbove}
+use Rattle.constants.specs.Numbers.{taken, tooShort, listTooSmall, frameByteAbove}
 use Rattle.differences.specs.Runs.{runsOf}
 use Rattle.differences.specs.Bytes.{bytesOf}
 use Rattle.differences.specs.Entries.{runEntry, byteEntry, entries}
@@ -18,6 +18,15 @@ pub record Outcome : Type 0 where
 
 abbrev pub outcome : Compared → List ℕ → Outcome
 outcome answer list = record { answer = answer; list = list }
+
+-- The number and the count that an answer stands for: a list was taken, and a refusal has count 0.
+unfoldable pub numberOf : Compared → ℕ
+numberOf (Compared.Listed count) = taken
+numberOf (Compared.Refused number) = number
+
+unfoldable pub countOf : Compared → ℕ
+countOf (Compared.Listed count) = count
+countOf (Compared.Refused number) = 0
 
 -- All entries at the start of the list buffer and the rest of it as it was; 11 where it is too small for them all.
 unfoldable pub listed : {A : Type 0} → (A → List ℕ) → List A → List ℕ → Outcome

@@ -6,8 +6,8 @@ use Prim.Native.Nat.{ℕ}
 use Rattle.constants.specs.Sizes.{frameSize}
 use Rattle.constants.specs.Numbers.{taken, frameByteAbove}
 use Rattle.picture.specs.Draw.{draw}
-use Rattle.differences.specs.Compare.{compareFrames}
-use Rattle.differences.specs.Given.{numberOf, Above}
+use Rattle.differences.specs.Compare.{compareFrames, numberOf}
+use Rattle.differences.specs.Given.{Above}
 
 pub record DrawnFrames : Type 0 where
   -- none of its bytes is above 1

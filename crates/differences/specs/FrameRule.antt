@@ -22,7 +22,7 @@ module _ (w h : ℕ) (f g : List ℕ) where
   -- The run's places are places of the frame, side by side in one row, and all differ in the run's way.
   pub record Differing (run : Run) : Type 0 where
     pub rowIn : run .row < h
-    pub some : run .first ≤ run .last
+    pub notEmpty : run .first ≤ run .last
     pub lastIn : run .last < w
     pub differs : run .inFirst ≢ run .inSecond
     pub first : (x : ℕ) → run .first ≤ x → x ≤ run .last → placeOf w (run .row) x f ≡ run .inFirst

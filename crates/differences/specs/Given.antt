@@ -8,19 +8,9 @@ use lib.Seq.{slice}
 use Rattle.constants.specs.Sizes.{frameRows, frameSize, memorySize, frameEntrySize, memoryEntrySize, longestFrameList, longestMemoryList}
 use Rattle.constants.specs.Numbers.{taken, tooShort, listTooSmall, frameByteAbove}
 use Rattle.differences.specs.Runs.{Run, runsOf}
-use Rattle.differences.specs.Bytes.{Byte, bytesOf}
+use Rattle.differences.specs.Bytes.{DifferingByte, bytesOf}
 use Rattle.differences.specs.Entries.{runEntry, byteEntry}
-use Rattle.differences.specs.Compare.{Outcome, compareFrames, compareMemories}
-use Rattle.differences.specs.declared.compared.Compared.{Compared}
-
--- The number and the count that an answer stands for: a list was taken, and a refusal has count 0.
-unfoldable pub numberOf : Compared → ℕ
-numberOf (Compared.Listed count) = taken
-numberOf (Compared.Refused number) = number
-
-unfoldable pub countOf : Compared → ℕ
-countOf (Compared.Listed count) = count
-countOf (Compared.Refused number) = 0
+use Rattle.differences.specs.Compare.{Outcome, numberOf, countOf, compareFrames, compareMemories}
 
 -- Both are as long as needed.
 abbrev pub Long : ℕ → List ℕ → List ℕ → Type 0
@@ -41,13 +31,13 @@ module _ {A : Type 0} (size : ℕ) (entry : A → List ℕ) (none : A) where
     pub count : numberOf (left .answer) ≡ taken → countOf (left .answer) ≡ length found
     -- entry i lies in bytes size i to size i + size - 1,
     pub each : numberOf (left .answer) ≡ taken → (i : ℕ) → i < length found → slice (i * size) (i * size + size) (left .list) ≡ entry (getD found i none)
-    -- and the rest of the buffer is as it was
+    -- and, taken or refused, the rest of the buffer is as it was
     pub rest : drop (length found * size) (left .list) ≡ drop (length found * size) list
 
 abbrev pub noRun : Run
 noRun = record { row = 0; first = 0; last = 0; inFirst = 0; inSecond = 0 }
 
-abbrev pub noByte : Byte
+abbrev pub noByte : DifferingByte
 noByte = record { place = 0; inFirst = 0; inSecond = 0 }
 
 pub record FramesCompared (f g list : List ℕ) : Type 0 where

@@ -1,4 +1,4 @@
--- Lists that stand in an order, and what is said of all or one of a list.
+-- Lists that stand in an order, and what is said of one of a list.
 use mathlib.Core.List.{List, [], _∷_}
 use mathlib.Core.Logic.{_⊎_}
 use Rattle.bus.specs.Bytes.{All}

@@ -8,7 +8,7 @@ pub mod Bytes
 pub mod Entries
 -- the whole outcome of each call
 pub mod Compare
--- how the code's own functions put an entry
+-- what the code's own functions state
 pub mod Put
 -- lists in order, and one of a list
 pub mod InOrder
@@ -16,10 +16,12 @@ pub mod InOrder
 pub mod FrameRule
 -- the same for memories
 pub mod MemoryRule
--- what is listed, put into the first, gives the second
-pub mod PutBack
 -- each number exactly when, and how large the buffer must be
 pub mod Given
+-- what is listed, put into the first, gives the second
+pub mod PutBack
+-- so with what a reader finds in the list buffer
+pub mod ReadBack
 -- what drawing leaves never meets 12
 pub mod DrawnFrames
 -- comparisons that are worked out

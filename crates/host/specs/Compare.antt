@@ -1,8 +1,7 @@
 -- A comparison as C sees it: a number, the count of entries and the list buffer.
 use Prim.Native.Nat.{ℕ}
 use mathlib.Core.List.{List}
-use Rattle.differences.specs.Compare.{Outcome}
-use Rattle.differences.specs.Given.{numberOf, countOf}
+use Rattle.differences.specs.Compare.{Outcome, numberOf, countOf}
 
 pub record CompareReply : Type 0 where
   pub number : ℕ

@@ -19,6 +19,7 @@ use Rattle.differences.specs.Entries.{runEntry}
 use Rattle.differences.specs.Compare.{outcome, listed, anyAbove, compareFrames}
 use Rattle.differences.specs.declared.compared.Compared.{Compared}
 use Rattle.differences.proofs.Entries.{run-sized}
+use Rattle.differences.proofs.Given.{none-above}
 use Rattle.differences.proofs.Listed.{listed-not}
 use Rattle.differences.proofs.PutBack.{put-back}
 use Rattle.differences.proofs.PutEntries.{put-listed}
@@ -66,7 +67,7 @@ same-requires : tie.Need-same-requires
 same-requires c κs = length-take-le frameSize (now (c .before .before .before .before .before .before .before .before .before .args .first)) (c .before .before .before .before .before .if1 .left) ∙ sym (length-take-le frameSize (now (c .before .before .before .before .before .before .before .before .before .args .second)) (c .before .before .before .before .if2 .left))
 
 returns-4 : tie.Need-returns-4
-returns-4 c = sym (put-back .sameFrames _ _ _ (c .before .before .before .before .before .before .before .if1 .left) (c .before .before .before .before .before .before .if2 .left) (sym (c .before .before .before .before .before .any-above .ensures) ∙ c .before .before .before .before .if3 .left) (c .before .same .ensures (c .if4 .taken)))
+returns-4 c = sym (put-back .sameFrames _ _ _ (c .before .before .before .before .before .before .before .if1 .left) (c .before .before .before .before .before .before .if2 .left) (none-above frameSize _ (sym (c .before .before .before .before .before .any-above .ensures) ∙ c .before .before .before .before .if3 .left)) (c .before .same .ensures (c .if4 .taken)))
 
 any-above-requires-2 : tie.Need-any-above-requires-2
 any-above-requires-2 c κs = search needs

@@ -1,10 +1,10 @@
 -- `host::compare::ssd1815b_compare_memories` meets its contract by that of the call below it.
 -- Assumes nothing.
 use borrow.Author.Needs.{needs}
+use Rattle.differences.specs.Compare.{numberOf, countOf}
 use Rattle.host.proofs.compare.ssd1815b_compare_memories.Statement.{statement}
 use Rattle.host.proofs.compare.ssd1815b_compare_memories.Tie as tie
 use mathlib.Core.Path.{ap}
-use Rattle.differences.specs.Given.{numberOf, countOf}
 use Rattle.host.specs.Compare.{ofCompared}
 
 compare-memories-requires : tie.Need-compare-memories-requires
