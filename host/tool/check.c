@@ -11,8 +11,7 @@ static void print_verdict(FILE *out, const char *name,
     fprintf(out, "%s: taken, %zu record%s\n", name, played->count,
             played->count == 1 ? "" : "s");
   } else {
-    fprintf(out, "%s: refused %u at %zu: %s\n", name, played->number,
-            played->offset, number_meaning(played->number));
+    number_print(out, name, played->number, played->offset);
   }
 }
 

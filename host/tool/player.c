@@ -21,12 +21,12 @@ bool play_input(struct played *played, struct input *input, size_t records)
   return done;
 }
 
-void tell_fewer(const struct played *played, size_t records)
+void tell_fewer(const struct played *played, const char *name, size_t records)
 {
   if (records != ALL_RECORDS && played->number == SSD1815B_TAKEN
       && played->count < records) {
-    fprintf(stderr, "ssd1815b: --after %zu: the trace has %zu record%s, and all"
-            " of it is played\n", records, played->count,
+    fprintf(stderr, "ssd1815b: --after %zu: %s has %zu record%s, and all of it"
+            " is played\n", records, name, played->count,
             played->count == 1 ? "" : "s");
   }
 }
