@@ -57,6 +57,7 @@ COMPARE  := $(OUT)/compare
 CALLS    := $(OUT)/calls
 SAMPLES  := $(OUT)/samples
 PARTS    := $(OUT)/parts
+LISTINGS := $(OUT)/listings
 HEADER   := $(OUT)/header
 BENCH    := $(OUT)/bench/bench
 ARCHIVE  := $(OUT)/libssd1815b.a
@@ -122,11 +123,13 @@ ifeq ($(MODEL),proved)
 	CC=$(CC) NM=$(CROSS)nm host/test/library.sh $(LIBRARY) $(RUN)
 endif
 
-check-tool: $(TOOL) $(NO_PNG) $(PARTS)
+check-tool: $(TOOL) $(NO_PNG) $(PARTS) $(LISTINGS)
 	$(RUN) $(PARTS)
+	$(RUN) $(LISTINGS) traces/*/*.list
 	host/test/tool.sh $(RUN) $(TOOL)
 	host/test/refusals.sh $(RUN) $(TOOL)
 	host/test/pictures.sh '$(RUN) $(TOOL)' '$(RUN) $(NO_PNG)'
+	host/test/diff.sh '$(RUN) $(TOOL)' '$(RUN) $(NO_PNG)'
 	host/test/terminal.sh $(RUN) $(TOOL)
 	MODEL=$(MODEL) MAKE=$(MAKING) host/test/makefile.sh
 
@@ -204,13 +207,14 @@ $(CALLS): $(OUT)/host/test/calls.o $(OUT)/host/compare/room.o $(LINKED)
 $(SAMPLES): $(OUT)/host/test/samples.o $(LINKED)
 $(PARTS): $(OUT)/host/test/parts.o $(LINKED) \
           $(addprefix $(OUT)/host/tool/,played.o progress.o replay.o)
+$(LISTINGS): $(OUT)/host/test/listings.o $(OUT)/host/tool/stored.o $(LINKED)
 # The tool as it is where libstb-dev is missing.
 $(NO_PNG): $(filter-out %/png.o,$(call objects,host/tool/*.c)) \
            $(OUT)/host/tool/no_png.o $(LINKED)
 $(BENCH): $(OUT)/bench/bench.o $(OUT)/bench/workloads.o $(OUT)/bench/plain.o \
           $(LINKED)
 
-$(TOOL) $(NO_PNG) $(COMPARE) $(CALLS) $(SAMPLES) $(PARTS) $(BENCH):
+$(TOOL) $(NO_PNG) $(COMPARE) $(CALLS) $(SAMPLES) $(PARTS) $(LISTINGS) $(BENCH):
 	$(Q)$(CC) $(CFLAGS) $^ -o $@
 
 # The header as C++ takes it.
