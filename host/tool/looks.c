@@ -12,10 +12,10 @@ static const struct beginning {
   { "\x89PNG", "a PNG picture; a trace is wanted, as picture takes one" },
   { "P4", "a PBM picture; a trace is wanted, as picture takes one" },
   { "P1", "a PBM picture; a trace is wanted, as picture takes one" },
-  { "frame 132 65", "a listing, as list prints it; the trace that it was"
-                    " printed for is wanted" },
-  { "refused ", "a listing, as list prints it; the trace that it was"
-                " printed for is wanted" },
+  { "frame 132 65", "a listing, as list prints it, which diff alone takes; the"
+                    " trace that it was printed for is wanted" },
+  { "refused ", "a listing, as list prints it, which diff alone takes; the"
+                " trace that it was printed for is wanted" },
   { "\x1F\x8B", "a gzip file; gunzip it first" },
   { "PK\x03\x04", "a ZIP file; unzip it first" },
 };
