@@ -136,6 +136,7 @@ check-tool: $(TOOL) $(NO_PNG) $(PARTS) $(LISTINGS)
 check-traces: $(TOOL) oracle
 	traces/check.sh $(ORACLE) $(RUN) $(TOOL)
 	traces/test.sh $(ORACLE) $(RUN) $(TOOL)
+	traces/differ.sh $(ORACLE) $(RUN) $(TOOL)
 
 check-install: $(TOOL) $(ARCHIVE) $(SHARED)
 	MAKE=$(MAKING) MODEL=$(MODEL) CC=$(CC) install/test.sh $(RUN)
