@@ -12,6 +12,8 @@ read -ra without <<< "$2"
 # shellcheck source=host/test/checks.sh
 . "$(dirname "$0")/checks.sh"
 png=$(realpath "$(dirname "$0")/png.py")
+readme=$(realpath "$(dirname "$0")/../README.md")
+traces=$(realpath "$(dirname "$0")/../../traces")
 
 run() { ran "${tool[@]}" diff "$@"; }
 
@@ -438,6 +440,19 @@ fault 2 'expected the end of the line; found "s"' 'frame 132 65\nends\n'
 fault 3 'expected nothing after end; found the end of the line' 'frame 132 65\nend\n\n'
 fault 4 'expected nothing after end; found "end"' 'frame 132 65\n5 0-1\nend\nend\n'
 fault 4 'expected nothing after end; found "\x00"' 'frame 132 65\n5 0-1\nend\n\x00'
+
+# ---- what the README shows ----
+
+# Of the screen rows 24 to 30, without the edge, as far as place 58.
+errors=$traces/errors/version-3-recipe
+run --show "$errors-3E5.trace" "$errors-385.trace"
+check 'README: status 1' status_is 1
+{ sed -n '26,32s/^│//p' out | cut -c 1-59; sed -n '69,$p' out; } > shown
+sed -n '/^####[.]/,/^```/p' "$readme" | sed '$d' > stands
+check 'README: the screen and the runs' cmp -s shown stands
+run --memory "$errors-3E5.trace" "$errors-385.trace"
+sed -n '/^page 3, column 53/,/^```/p' "$readme" | sed '$d' > stands
+check 'README: the memory' cmp -s out stands
 
 # ---- command line and errors ----
 
