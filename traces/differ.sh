@@ -65,10 +65,7 @@ compare() {
   local numbers=$1 status=0 expected found
   shift
   count=$((count + 1))
-  if ! "$oracle" differ "$@" "$first" "$second" > "$here/oracle"; then
-    differ "the oracle fails ($*)" '' ''
-    return
-  fi
+  "$oracle" differ "$@" "$first" "$second" > "$here/oracle" || { differ "the oracle fails ($*)" '' ''; exit 1; }
   # A trace that is refused is compared as it stands there.
   "${tool[@]}" diff --refused "$@" "$first" "$second" > "$here/tool" 2> "$here/said" || status=$?
   expected=$(cat "$here/oracle")

@@ -68,7 +68,7 @@ bytes 02 00 01 00 AF B8 01 00 02 00 01 > "$here/icon.trace"
 # line_shows LINE TEXT: a line as the terminal has it, which puts CR before LF.
 line_shows() { line_is "$1" "$2"$'\r'; }
 # cells COUNT ABOVE BELOW: so many cells, the colours of their halves.
-cells() { printf "\033[38;5;$2;48;5;$3m▀%.0s" $(seq "$1"); }
+cells() { printf '\033[38;5;%d;48;5;%dm' "$2" "$3"; printf '▀%.0s' $(seq "$1"); }
 # The colours are 16 for black, 245 gray, 33 blue and 214 orange.
 shown="diff --show $here/sample.trace $here/other.trace"
 at_terminal "TERM=xterm $tool $shown" < /dev/null

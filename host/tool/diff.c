@@ -6,11 +6,6 @@
 #include "numbers.h"
 #include "picture.h"
 
-const char *diff_plural(size_t count)
-{
-  return count == 1 ? "" : "s";
-}
-
 void diff_names(FILE *out, const struct options *options)
 {
   if (options->brief) {

@@ -10,9 +10,6 @@
 #include "options.h"
 #include "screen.h"
 
-/* The ending of a noun of which there are so many. */
-const char *diff_plural(size_t count);
-
 /* The names of the two, before a line that stands alone. */
 void diff_names(FILE *out, const struct options *options);
 

@@ -1,5 +1,7 @@
 #include "diff.h"
 
+#include "plural.h"
+
 /* A byte that differs, as ssd1815b_compare_memories() lists it. */
 static void print_byte(FILE *out, const uint8_t *entry)
 {
@@ -44,8 +46,8 @@ size_t diff_memories(FILE *out, const struct options *options,
   } else {
     size_t pages = pages_in(list, count);
     fprintf(out, "%zu byte%s of memory differ%s, in %zu page%s\n", count,
-            diff_plural(count), count == 1 ? "s" : "", pages,
-            diff_plural(pages));
+            plural(count), count == 1 ? "s" : "", pages,
+            plural(pages));
   }
   return count;
 }

@@ -2,6 +2,8 @@
 
 #include <string.h>
 
+#include "plural.h"
+
 static void print_run(FILE *out, const uint8_t *run)
 {
   static const char *const states[] = { "dark", "lit" };
@@ -33,9 +35,9 @@ static void print_summary(FILE *out, const struct screen *first,
     return;
   }
   fprintf(out, "%zu run%s differ%s, %zu place%s in %zu row%s\n", runs,
-          diff_plural(runs), runs == 1 ? "s" : "", differences->places,
-          diff_plural(differences->places), differences->rows,
-          diff_plural(differences->rows));
+          plural(runs), runs == 1 ? "s" : "", differences->places,
+          plural(differences->places), differences->rows,
+          plural(differences->rows));
 }
 
 size_t diff_screens(FILE *out, const struct options *options,

@@ -51,13 +51,20 @@ static void print_letters(FILE *out, const uint8_t *marks, size_t row,
 }
 
 /* One row in colours above another, which may be none: a cell's upper half is
-** painted and its lower half left. */
+** painted and its lower half left.  Colours are set where they change. */
 static void print_line(FILE *out, const uint8_t *above, const uint8_t *below)
 {
+  int upper = MARKS;
+  int lower = MARKS;
   fputs("│", out);
   for (size_t x = 0; x < SSD1815B_COLUMNS; x++) {
-    unsigned lower = below == NULL ? DARK_IN_BOTH : below[x];
-    fprintf(out, "\033[38;5;%u;48;5;%um▀", colours[above[x]], colours[lower]);
+    int next = below == NULL ? DARK_IN_BOTH : below[x];
+    if (above[x] != upper || next != lower) {
+      upper = above[x];
+      lower = next;
+      fprintf(out, "\033[38;5;%u;48;5;%um", colours[upper], colours[lower]);
+    }
+    fputs("▀", out);
   }
   fputs("\033[0m│\n", out);
 }

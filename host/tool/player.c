@@ -1,5 +1,6 @@
 #include "player.h"
 
+#include "plural.h"
 #include "progress.h"
 
 enum { PART = 1 << 20 };
@@ -27,6 +28,6 @@ void tell_fewer(const struct played *played, const char *name, size_t records)
       && played->count < records) {
     fprintf(stderr, "ssd1815b: --after %zu: %s has %zu record%s, and all of it"
             " is played\n", records, name, played->count,
-            played->count == 1 ? "" : "s");
+            plural(played->count));
   }
 }

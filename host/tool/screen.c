@@ -68,6 +68,7 @@ static bool read_either(struct screen *screen, size_t records)
 
 bool screen_read(struct screen *screen, const char *name, size_t records)
 {
+  *screen = (struct screen){ .stored = false };
   if (!input_open(&screen->input, name)) {
     return false;
   }
