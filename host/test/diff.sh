@@ -456,6 +456,10 @@ check 'README: the memory' cmp -s out stands
 
 # ---- command line and errors ----
 
+"${tool[@]}" diff --help > help
+for option in --memory --show '--picture FILE' '--scale N' '-q, --brief' --refused '--after N'; do
+  check "help: names $option" grep -q -- "^  $option  " help
+done
 wrong() {
   local words=$1
   shift

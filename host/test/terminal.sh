@@ -91,7 +91,9 @@ for declined in 'TERM=xterm NO_COLOR=1' 'TERM=dumb' 'env -u TERM'; do
 done
 at_terminal "TERM=xterm $tool $shown | cat" < /dev/null
 check 'diff: no colours in a pipe' [ "$(grep -c $'\033' "$here/out")" -eq 0 ]
-at_terminal "$tool diff $here/sample.trace -" < /dev/null
+# Where the end is not kept it would wait again.
+at_terminal "timeout --foreground 20 $tool diff $here/sample.trace -" < /dev/null
+check 'diff: one Ctrl-D ends it' status_is 1
 check 'diff: a word while it waits' out_says 'waiting for the bytes of a trace on standard input'
 
 checks_end terminal

@@ -22,6 +22,9 @@ static const char *const meanings[] = {
   [SSD1815B_FRAME_BYTE_ABOVE] = "a byte of a frame is above 1",
 };
 
+_Static_assert(sizeof meanings / sizeof *meanings
+                 == SSD1815B_FRAME_BYTE_ABOVE + 1, "the last number is here");
+
 const char *number_meaning(uint8_t number)
 {
   return number < sizeof meanings / sizeof *meanings
