@@ -58,6 +58,7 @@ CALLS    := $(OUT)/calls
 DIFFER   := $(OUT)/differences
 SAMPLES  := $(OUT)/samples
 PARTS    := $(OUT)/parts
+LISTINGS := $(OUT)/listings
 HEADER   := $(OUT)/header
 BENCH    := $(OUT)/bench/bench
 ARCHIVE  := $(OUT)/libssd1815b.a
@@ -124,17 +125,20 @@ ifeq ($(MODEL),proved)
 	CC=$(CC) NM=$(CROSS)nm host/test/library.sh $(LIBRARY) $(RUN)
 endif
 
-check-tool: $(TOOL) $(NO_PNG) $(PARTS)
+check-tool: $(TOOL) $(NO_PNG) $(PARTS) $(LISTINGS)
 	$(RUN) $(PARTS)
+	$(RUN) $(LISTINGS) traces/*/*.list
 	host/test/tool.sh $(RUN) $(TOOL)
 	host/test/refusals.sh $(RUN) $(TOOL)
 	host/test/pictures.sh '$(RUN) $(TOOL)' '$(RUN) $(NO_PNG)'
+	host/test/diff.sh '$(RUN) $(TOOL)' '$(RUN) $(NO_PNG)'
 	host/test/terminal.sh $(RUN) $(TOOL)
 	MODEL=$(MODEL) MAKE=$(MAKING) host/test/makefile.sh
 
 check-traces: $(TOOL) oracle
 	traces/check.sh $(ORACLE) $(RUN) $(TOOL)
 	traces/test.sh $(ORACLE) $(RUN) $(TOOL)
+	traces/differ.sh $(ORACLE) $(RUN) $(TOOL)
 
 check-install: $(TOOL) $(ARCHIVE) $(SHARED)
 	MAKE=$(MAKING) MODEL=$(MODEL) CC=$(CC) install/test.sh $(RUN)
@@ -207,13 +211,14 @@ $(DIFFER): $(OUT)/host/test/differences.o $(OUT)/host/compare/room.o $(LINKED)
 $(SAMPLES): $(OUT)/host/test/samples.o $(LINKED)
 $(PARTS): $(OUT)/host/test/parts.o $(LINKED) \
           $(addprefix $(OUT)/host/tool/,played.o progress.o replay.o)
+$(LISTINGS): $(OUT)/host/test/listings.o $(OUT)/host/tool/stored.o $(LINKED)
 # The tool as it is where libstb-dev is missing.
 $(NO_PNG): $(filter-out %/png.o,$(call objects,host/tool/*.c)) \
            $(OUT)/host/tool/no_png.o $(LINKED)
 $(BENCH): $(OUT)/bench/bench.o $(OUT)/bench/workloads.o $(OUT)/bench/plain.o \
           $(LINKED)
 
-$(TOOL) $(NO_PNG) $(COMPARE) $(CALLS) $(DIFFER) $(SAMPLES) $(PARTS) $(BENCH):
+$(TOOL) $(NO_PNG) $(COMPARE) $(CALLS) $(DIFFER) $(SAMPLES) $(PARTS) $(LISTINGS) $(BENCH):
 	$(Q)$(CC) $(CFLAGS) $^ -o $@
 
 # The header as C++ takes it.

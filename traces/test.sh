@@ -1,7 +1,8 @@
 #!/usr/bin/env bash
-# Tests of make.py, typed.py, list.sh, pack.py and check.sh: what they say of
-# sources, listings and recordings that are not as they should be, and that they
-# overwrite nothing that is not theirs.  All is done in a temporary copy.
+# Tests of make.py, typed.py, list.sh, pack.py, check.sh and differ.sh: what they
+# say of sources, listings, recordings and differences that are not as they should
+# be, and that they overwrite nothing that is not theirs.  All is done in a
+# temporary copy.
 #
 #   test.sh ORACLE TOOL...      TOOL... is the command that runs the tool
 set -euo pipefail
@@ -351,5 +352,60 @@ bytes 00 > "$copy/traces/rules/bits.trace"
 check_traces
 check 'make.py: another trace than its source says, fails' status_is 1
 check 'make.py: another trace than its source says, by name' grep -q 'rules/bits.trace is not what its source says' "$here/out"
+
+# ---- where two traces differ ----
+
+# Row 0 is lit at 0 and 1 and row 1 at 0; row 0 at 0 and the icon line at 131.
+pairs=$here/pairs
+mkdir -p "$pairs/traces/folder"
+cp "$traces/differ.sh" "$pairs/traces"
+bytes 01 00 01 00 AF 02 00 02 00 03 01 > "$pairs/traces/folder/a.trace"
+bytes 01 00 01 00 AF 01 00 02 00 01 03 00 01 00 B8 03 18 01 00 02 00 FF > "$pairs/traces/folder/b.trace"
+# An oracle that answers the file which the options and names say.
+cat > "$pairs/oracle" <<'END'
+#!/bin/sh
+shift
+memory=
+[ "$1" != --memory ] || { memory=memory-; shift; }
+cat "$(dirname "$0")/$memory$(basename "$1" .trace)-$(basename "$2" .trace)"
+END
+chmod +x "$pairs/oracle"
+# answers: those files as they should be; page 8, column 131 is 8 * 132 + 131.
+answers() {
+  for same in a-a b-b memory-a-a memory-b-b; do : > "$pairs/$same"; done
+  printf '0 1 1 1 0\n1 0 0 1 0\n64 131 131 0 1\n' > "$pairs/a-b"
+  printf '0 3 1\n1 1 0\n1187 0 1\n' > "$pairs/memory-a-b"
+}
+differs() { ran "$pairs/traces/differ.sh" "$pairs/oracle" "$@"; }
+answers
+differs "${tool[@]}"
+check 'differ.sh: as it should be' status_is 0
+check 'differ.sh: each with itself and with the next' out_is 'differ: 6 compared, 0 differences'
+# not_so FILE LINES: another answer of the oracle.
+not_so() {
+  answers
+  printf '%b' "$2" > "$pairs/$1"
+  differs "${tool[@]}"
+  check "differ.sh: fails ($1: $2)" status_is 1
+  check "differ.sh: which ($1: $2)" err_has 'oracle and tool'
+}
+not_so a-a '0 0 0 0 1\n'
+not_so memory-b-b '7 0 1\n'
+not_so a-b '0 1 1 1 0\n1 0 0 1 0\n'
+not_so a-b '0 1 1 1 0\n1 0 0 1 0\n64 130 131 0 1\n'
+not_so a-b '0 1 1 1 0\n1 0 0 0 1\n64 131 131 0 1\n'
+not_so a-b '0 1 1 1 0\n2 0 0 1 0\n64 131 131 0 1\n'
+not_so memory-a-b '0 3 1\n1 1 0\n1187 0 255\n'
+not_so memory-a-b '0 3 1\n1 1 0\n1186 0 1\n'
+answers
+differs true
+check 'differ.sh: a tool that prints nothing, fails' status_is 1
+rm "$pairs/a-b"
+differs "${tool[@]}"
+check 'differ.sh: an oracle that fails, fails' status_is 1
+check 'differ.sh: an oracle that fails, said' err_has 'folder/b.trace: the oracle fails'
+rm "$pairs"/traces/folder/*
+differs "${tool[@]}"
+check 'differ.sh: no trace is no success' status_is 1
 
 checks_end 'trace scripts'

@@ -1,6 +1,7 @@
 #!/usr/bin/env bash
 # Tests of the tool at a terminal, which util-linux's script plays: it waits
-# with a word, says how far long work is, and sends no picture there.
+# with a word, says how far long work is, sends no picture there, and draws where
+# screens differ in colours.
 #
 #   terminal.sh TOOL...      the command that runs the tool
 set -euo pipefail
@@ -58,5 +59,41 @@ at_terminal "$tool state $here/sample.trace > $here/state" < /dev/null
 check 'short: nothing is said' says_nothing
 ran "$@" state "$here/long.trace"
 check 'long: nothing where standard error is no terminal' nothing_on err
+
+# ---- where screens differ ----
+
+# Row 0 is lit at 0 and 1 in both, row 1 at 0 in the one and at 1 in the other.
+bytes 01 00 01 00 AF 02 00 02 00 01 03 > "$here/other.trace"
+bytes 02 00 01 00 AF B8 01 00 02 00 01 > "$here/icon.trace"
+# line_shows LINE TEXT: a line as the terminal has it, which puts CR before LF.
+line_shows() { line_is "$1" "$2"$'\r'; }
+# cells COUNT ABOVE BELOW: so many cells, the colours of their halves.
+cells() { printf '\033[38;5;%d;48;5;%dm' "$2" "$3"; printf '▀%.0s' $(seq "$1"); }
+# The colours are 16 for black, 245 gray, 33 blue and 214 orange.
+shown="diff --show $here/sample.trace $here/other.trace"
+at_terminal "TERM=xterm $tool $shown" < /dev/null
+check 'diff: status 1' status_is 1
+check 'diff: 32 lines of panel rows, 1 of icons, 3 edges, the legend, 2 runs, their sum' [ "$(wc -l < "$here/out")" -eq 40 ]
+check 'diff: rows 0 and 1 in colours' line_shows 2 "│$(cells 1 245 33)$(cells 1 245 214)$(cells 130 16 16)"$'\033[0m│'
+check 'diff: rows 2 and 3 in colours' line_shows 3 "│$(cells 132 16 16)"$'\033[0m│'
+legend=$'\033[38;5;16m█\033[0m dark in both, \033[38;5;245m█\033[0m lit in both, '
+legend+=$'\033[38;5;33m█\033[0m lit in the first alone, \033[38;5;214m█\033[0m lit in the second alone'
+check 'diff: which colour is what' line_shows 37 "$legend"
+check 'diff: the lines are plain' line_shows 38 'row 1, 0: lit, then dark'
+at_terminal "TERM=xterm $tool diff --show $here/sample.trace $here/icon.trace" < /dev/null
+check 'diff: an icon in colours' line_shows 35 "│$(cells 1 214 16)$(cells 131 16 16)"$'\033[0m│'
+at_terminal "TERM=xterm NO_COLOR= $tool $shown" < /dev/null
+check 'diff: NO_COLOR that is empty declines nothing' [ "$(grep -c $'\033' "$here/out")" -gt 0 ]
+for declined in 'TERM=xterm NO_COLOR=1' 'TERM=dumb' 'env -u TERM'; do
+  at_terminal "$declined $tool $shown" < /dev/null
+  check "diff: letters ($declined)" line_shows 3 "│-+$(printf '.%.0s' {1..130})│"
+  check "diff: no colours ($declined)" [ "$(grep -c $'\033' "$here/out")" -eq 0 ]
+done
+at_terminal "TERM=xterm $tool $shown | cat" < /dev/null
+check 'diff: no colours in a pipe' [ "$(grep -c $'\033' "$here/out")" -eq 0 ]
+# Where the end is not kept it would wait again.
+at_terminal "timeout --foreground 20 $tool diff $here/sample.trace -" < /dev/null
+check 'diff: one Ctrl-D ends it' status_is 1
+check 'diff: a word while it waits' out_says 'waiting for the bytes of a trace on standard input'
 
 checks_end terminal

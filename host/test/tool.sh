@@ -242,7 +242,7 @@ helps -h
 helps help
 helps --help x
 helps picture --scale --help
-for command in list show picture state memory check; do
+for command in list show picture state memory diff check; do
   check "help: names $command" grep -q "^  $command " <("${tool[@]}" --help)
   helps $command --help
   check "help: of $command" grep -q "^usage: ssd1815b $command " "$here/out"
@@ -252,7 +252,7 @@ for command in list show picture state memory check; do
   helps $command -h "$here/sample.trace"
   check "help: the same of $command -h" cmp -s "$here/out" "$here/help"
 done
-for option in --after --scale --png --output --; do
+for option in --after --scale --png --output --memory --show --picture --brief --refused --; do
   check "help: names $option" grep -q -- "^  .*$option" <("${tool[@]}" --help)
 done
 run --version < /dev/null
@@ -276,8 +276,8 @@ wrong 'no such option: --scales' picture --scales 2
 wrong 'no such option: --scales=2' picture --scales=2
 wrong 'no such option: -x' list -x
 wrong 'no such option: --version' list --version
-wrong '--scale is for picture alone' list --scale 2
-wrong '--scale is for picture alone' list --scale=2
+wrong '--scale is for picture and diff alone' list --scale 2
+wrong '--scale is for picture and diff alone' list --scale=2
 wrong '--png is for picture alone' show --png
 wrong '-o is for picture alone' show -o x.png
 wrong '--after is not for check' check --after 2

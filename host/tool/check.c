@@ -2,6 +2,7 @@
 
 #include "numbers.h"
 #include "player.h"
+#include "plural.h"
 
 /* The verdict on a trace, in a line. */
 static void print_verdict(FILE *out, const char *name,
@@ -9,10 +10,9 @@ static void print_verdict(FILE *out, const char *name,
 {
   if (played->number == SSD1815B_TAKEN) {
     fprintf(out, "%s: taken, %zu record%s\n", name, played->count,
-            played->count == 1 ? "" : "s");
+            plural(played->count));
   } else {
-    fprintf(out, "%s: refused %u at %zu: %s\n", name, played->number,
-            played->offset, number_meaning(played->number));
+    number_print(out, name, played->number, played->offset);
   }
 }
 

@@ -10,8 +10,14 @@
 #include "options.h"
 #include "played.h"
 
-/* The tool's status. */
-enum status { ALL_TAKEN = 0, REFUSED = 1, FAILED = 2 };
+/* The tool's status; diff has the first two by names of its own. */
+enum status {
+  ALL_TAKEN = 0,
+  REFUSED = 1,
+  FAILED = 2,
+  THE_SAME = ALL_TAKEN,
+  DIFFERENT = REFUSED
+};
 
 /* The status that a run asks for. */
 enum status status_of(const struct played *played);
@@ -37,6 +43,10 @@ void state(FILE *out, const struct played *played);
 
 /* The display memory by page, the bytes read, and where the run stopped. */
 void memory(FILE *out, const struct played *played);
+
+/* Where the screens of two traces or listings differ, or the memories of two
+** traces. */
+enum status diff(FILE *out, const struct options *options);
 
 /* A line for each of several traces. */
 enum status check(FILE *out, const struct options *options);

@@ -51,6 +51,9 @@ static bool make_room(struct input *input, size_t more)
 
 bool input_more(struct input *input, size_t most)
 {
+  if (input->ended) {
+    return true;
+  }
   bool done = make_room(input, most);
   if (done) {
     errno = 0;

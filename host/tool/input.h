@@ -23,8 +23,8 @@ struct input {
 ** and answers whether it could. */
 bool input_open(struct input *input, const char *name);
 
-/* Reads on, so many bytes at most.  Says why it cannot, and answers whether it
-** could. */
+/* Reads on, so many bytes at most; after the end nothing, as a terminal would
+** begin anew.  Says why it cannot, and answers whether it could. */
 bool input_more(struct input *input, size_t most);
 
 /* Gives back what the input took, and closes the file. */

@@ -23,7 +23,7 @@ enum status list(FILE *out, const struct options *options, struct input *input)
   if (outcome == LISTING_TOO_LONG) {
     return FAILED;
   }
-  tell_fewer(&played, options->records);
+  tell_fewer(&played, "the trace", options->records);
   stop_print(stderr, &played);
   return status_of(&played);
 }

@@ -1,12 +1,8 @@
 #include "looks.h"
 
-#include <stdbool.h>
 #include <string.h>
 
 #include "kinds.h"
-
-/* How much of the input is looked at for text. */
-enum { LOOKED_AT = 4096 };
 
 /* What a file begins with, what it then looks like, and what to do. */
 static const struct beginning {
@@ -16,10 +12,10 @@ static const struct beginning {
   { "\x89PNG", "a PNG picture; a trace is wanted, as picture takes one" },
   { "P4", "a PBM picture; a trace is wanted, as picture takes one" },
   { "P1", "a PBM picture; a trace is wanted, as picture takes one" },
-  { "frame 132 65", "a listing, as list prints it; the trace that it was"
-                    " printed for is wanted" },
-  { "refused ", "a listing, as list prints it; the trace that it was"
-                " printed for is wanted" },
+  { "frame 132 65", "a listing, as list prints it, which diff alone takes; the"
+                    " trace that it was printed for is wanted" },
+  { "refused ", "a listing, as list prints it, which diff alone takes; the"
+                " trace that it was printed for is wanted" },
   { "\x1F\x8B", "a gzip file; gunzip it first" },
   { "PK\x03\x04", "a ZIP file; unzip it first" },
 };
@@ -36,8 +32,7 @@ static const char *begins_as(const uint8_t *bytes, size_t length)
   return NULL;
 }
 
-/* Printable characters and white space, and few bytes of other letters. */
-static bool is_text(const uint8_t *bytes, size_t length)
+bool looks_text(const uint8_t *bytes, size_t length)
 {
   size_t looked_at = length < LOOKED_AT ? length : LOOKED_AT;
   size_t other = 0;
@@ -82,7 +77,7 @@ static const char *first_header(const uint8_t *header)
 static const char *whole_input(const uint8_t *bytes, size_t length)
 {
   const char *words = begins_as(bytes, length);
-  if (words == NULL && is_text(bytes, length)) {
+  if (words == NULL && looks_text(bytes, length)) {
     words = "text; if it is the source of a trace, traces/make.py FILE.txt"
             " makes FILE.trace of it";
   }

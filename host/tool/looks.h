@@ -8,6 +8,13 @@
 
 #include "played.h"
 
+/* How much of the input is looked at for text. */
+enum { LOOKED_AT = 4096 };
+
+/* Whether the input is text: printable characters and white space, and few
+** bytes of other letters. */
+bool looks_text(const uint8_t *bytes, size_t length);
+
 /* A line if the trace from the record at this offset on looks like something
 ** else; nothing if it does not. */
 void looks_print(FILE *out, const struct played *played, size_t first);

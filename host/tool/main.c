@@ -28,7 +28,7 @@ static bool written(void)
 static enum status on_played(const struct options *options,
                              const struct played *played)
 {
-  tell_fewer(played, options->records);
+  tell_fewer(played, "the trace", options->records);
   switch (options->command) {
   case SHOW:
     show(stdout, played);
@@ -66,6 +66,19 @@ static enum status on_one_trace(const struct options *options)
   return status;
 }
 
+/* The command that the options name. */
+static enum status run(const struct options *options)
+{
+  switch (options->command) {
+  case CHECK:
+    return check(stdout, options);
+  case DIFF:
+    return diff(stdout, options);
+  default:
+    return on_one_trace(options);
+  }
+}
+
 int main(int argc, char **argv)
 {
   struct options options;
@@ -78,8 +91,7 @@ int main(int argc, char **argv)
     version_print(stdout);
     break;
   case WISH_COMMAND:
-    status = options.command == CHECK ? check(stdout, &options)
-                                      : on_one_trace(&options);
+    status = run(&options);
     break;
   case WISH_NONE:
     return FAILED;

@@ -18,10 +18,21 @@ static const char *const meanings[] = {
   [SSD1815B_KIND_UNKNOWN] = "kind not 1 to 4, or kind 4 with a payload",
   [SSD1815B_READ_DIFFERS] =
     "a compared read differs; that read has not happened",
+  [SSD1815B_LIST_TOO_SMALL] = "a list buffer is too small for all entries",
+  [SSD1815B_FRAME_BYTE_ABOVE] = "a byte of a frame is above 1",
 };
+
+_Static_assert(sizeof meanings / sizeof *meanings
+                 == SSD1815B_FRAME_BYTE_ABOVE + 1, "the last number is here");
 
 const char *number_meaning(uint8_t number)
 {
   return number < sizeof meanings / sizeof *meanings
-           ? meanings[number] : "not a number of document 01";
+           ? meanings[number] : "not a number of document 01 or 02";
+}
+
+void number_print(FILE *out, const char *name, uint8_t number, size_t offset)
+{
+  fprintf(out, "%s: refused %u at %zu: %s\n", name, number, offset,
+          number_meaning(number));
 }

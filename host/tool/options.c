@@ -14,7 +14,8 @@ enum { LARGEST_SCALE = 64, USUAL_SCALE = 4 };
 
 static const char *const command_names[COMMANDS] = {
   [LIST] = "list",   [SHOW] = "show",     [PICTURE] = "picture",
-  [STATE] = "state", [MEMORY] = "memory", [CHECK] = "check"
+  [STATE] = "state", [MEMORY] = "memory", [DIFF] = "diff",
+  [CHECK] = "check"
 };
 
 void options_wrong(const char *why, const char *what)
@@ -64,15 +65,55 @@ static bool take_png(struct options *options, const char *text)
 
 /* A picture's file.  Its ending is asked, so that a trace that is named here
 ** by mistake is not written over. */
-static bool take_output(struct options *options, const char *text)
+static bool take_file(struct options *options, const char *text,
+                      const char *other)
 {
   const char *ending = strrchr(text, '.');
   bool png = ending != NULL && strcasecmp(ending, ".png") == 0;
-  if (!png && (ending == NULL || strcasecmp(ending, ".pbm") != 0)) {
-    options_wrong("a picture's file is named FILE.png or FILE.pbm, not ", text);
+  if (!png && (ending == NULL || strcasecmp(ending, other) != 0)) {
+    fprintf(stderr, "ssd1815b: a picture's file is named FILE.png or FILE%s,"
+            " not %s\nssd1815b --help says more\n", other, text);
     return false;
   }
   options->output = text;
+  return true;
+}
+
+static bool take_output(struct options *options, const char *text)
+{
+  return take_file(options, text, ".pbm");
+}
+
+static bool take_picture(struct options *options, const char *text)
+{
+  return take_file(options, text, ".ppm");
+}
+
+static bool take_memory(struct options *options, const char *text)
+{
+  (void)text;
+  options->memory = true;
+  return true;
+}
+
+static bool take_show(struct options *options, const char *text)
+{
+  (void)text;
+  options->show = true;
+  return true;
+}
+
+static bool take_brief(struct options *options, const char *text)
+{
+  (void)text;
+  options->brief = true;
+  return true;
+}
+
+static bool take_refused(struct options *options, const char *text)
+{
+  (void)text;
+  options->refused = true;
   return true;
 }
 
@@ -84,14 +125,25 @@ struct option {
   bool (*take)(struct options *options, const char *text);
 };
 
-enum { FOR_PICTURE = 1 << PICTURE, NOT_FOR_CHECK = (1 << CHECK) - 1 };
+enum {
+  FOR_PICTURE = 1 << PICTURE,
+  FOR_DIFF = 1 << DIFF,
+  NOT_FOR_CHECK = (1 << CHECK) - 1
+};
 
 static const struct option table[] = {
   { "--after", "a number", NOT_FOR_CHECK, "is not for check", take_after },
-  { "--scale", "a number", FOR_PICTURE, "is for picture alone", take_scale },
+  { "--scale", "a number", FOR_PICTURE | FOR_DIFF,
+    "is for picture and diff alone", take_scale },
   { "--png", NULL, FOR_PICTURE, "is for picture alone", take_png },
   { "--output", "a file", FOR_PICTURE, "is for picture alone", take_output },
   { "-o", "a file", FOR_PICTURE, "is for picture alone", take_output },
+  { "--picture", "a file", FOR_DIFF, "is for diff alone", take_picture },
+  { "--memory", NULL, FOR_DIFF, "is for diff alone", take_memory },
+  { "--show", NULL, FOR_DIFF, "is for diff alone", take_show },
+  { "--brief", NULL, FOR_DIFF, "is for diff alone", take_brief },
+  { "-q", NULL, FOR_DIFF, "is for diff alone", take_brief },
+  { "--refused", NULL, FOR_DIFF, "is for diff alone", take_refused },
 };
 
 /* The option of which this is the name, or the name, = and a value. */
@@ -186,14 +238,51 @@ static bool take_words(int argc, char **argv, struct options *options)
   return true;
 }
 
-/* What no option shows by itself. */
-static bool fit_together(struct options *options)
+/* As many traces as the command takes. */
+static bool traces_fit(const struct options *options)
 {
-  if (options->trace_count > 1 && options->command != CHECK) {
-    options_wrong("more than one trace, which check alone takes: ",
-                  options->traces[1]);
+  int most = options->command == DIFF ? 2 : 1;
+  if (options->trace_count > most && options->command != CHECK) {
+    options_wrong(options->command == DIFF
+                    ? "diff compares two, and this is a third: "
+                    : "more than one trace, which check alone takes: ",
+                  options->traces[most]);
     return false;
   }
+  if (options->command == DIFF && options->trace_count < 2) {
+    options_wrong("diff compares two, each a trace or a listing: FIRST SECOND",
+                  "");
+    return false;
+  }
+  if (options->command == DIFF && strcmp(options->traces[0], "-") == 0
+      && strcmp(options->traces[1], "-") == 0) {
+    options_wrong("standard input cannot be both FIRST and SECOND", "");
+    return false;
+  }
+  return true;
+}
+
+/* What diff is asked for goes together. */
+static bool diff_fits(const struct options *options)
+{
+  const char *wrong =
+    options->memory && options->show
+      ? "--memory has no screen for --show"
+    : options->memory && options->output != NULL
+      ? "--memory has no screen for --picture"
+    : options->brief && options->show
+      ? "--brief is one line, and --show a screen"
+    : options->scale != 0 && options->output == NULL
+      ? "--scale is for --picture" : NULL;
+  if (wrong != NULL) {
+    options_wrong(wrong, "");
+  }
+  return wrong == NULL;
+}
+
+/* The picture's form is that of its file. */
+static bool output_fits(struct options *options)
+{
   if (options->output != NULL) {
     bool png = strcasecmp(strrchr(options->output, '.'), ".png") == 0;
     if (options->png && !png) {
@@ -205,12 +294,22 @@ static bool fit_together(struct options *options)
   return true;
 }
 
+/* What no option shows by itself. */
+static bool fit_together(struct options *options)
+{
+  if (!traces_fit(options) || !output_fits(options)
+      || (options->command == DIFF && !diff_fits(options))) {
+    return false;
+  }
+  options->scale = options->scale == 0 ? USUAL_SCALE : options->scale;
+  return true;
+}
+
 enum wish options_of(int argc, char **argv, struct options *options)
 {
   static char dash[] = "-";
   static char *standard_input[] = { dash };
-  *options = (struct options){ .command = COMMANDS, .records = ALL_RECORDS,
-                               .scale = USUAL_SCALE };
+  *options = (struct options){ .command = COMMANDS, .records = ALL_RECORDS };
   if (argc < 2) {
     options_wrong("no command", "");
     return WISH_NONE;

@@ -7,16 +7,21 @@
 #include <stdbool.h>
 #include <stddef.h>
 
-enum command { LIST, SHOW, PICTURE, STATE, MEMORY, CHECK, COMMANDS };
+enum command { LIST, SHOW, PICTURE, STATE, MEMORY, DIFF, CHECK, COMMANDS };
 
 struct options {
   enum command command; /* COMMANDS if help is asked for all of them */
   char **traces;        /* their names; "-" is standard input */
-  int trace_count;      /* one, or more for check */
+  int trace_count;      /* one, two for diff, or any number for check */
   size_t records;       /* to be played, or ALL_RECORDS */
   unsigned scale;       /* each dot of a picture is scale by scale */
   bool png;             /* the picture is to be a PNG */
-  const char *output;   /* the picture's file; null is standard output */
+  const char *output;   /* the picture's file; null is standard output, and
+                        ** none for diff */
+  bool memory;          /* diff: the memories, not the screens */
+  bool show;            /* diff: the screen, too */
+  bool brief;           /* diff: one line */
+  bool refused;         /* diff: a refused run counts as it stands */
 };
 
 /* What a command line asks for. */

@@ -9,14 +9,20 @@
 #include "commands.h"
 #include "stop.h"
 
-bool picture_lit(const uint8_t *frame, unsigned x, unsigned y)
+size_t picture_place(unsigned x, unsigned y)
 {
   enum { ICONS = PICTURE_MARGIN + SSD1815B_ROWS + PICTURE_GAP };
   unsigned column = x - PICTURE_MARGIN;
   unsigned row = y == ICONS ? SSD1815B_ICON_ROW : y - PICTURE_MARGIN;
   /* A place of the margin is a large number here. */
   return column < SSD1815B_COLUMNS && (row < SSD1815B_ROWS || y == ICONS)
-         && frame[row * SSD1815B_COLUMNS + column] == 1;
+           ? row * SSD1815B_COLUMNS + column : SSD1815B_FRAME_SIZE;
+}
+
+bool picture_lit(const uint8_t *frame, unsigned x, unsigned y)
+{
+  size_t place = picture_place(x, y);
+  return place < SSD1815B_FRAME_SIZE && frame[place] == 1;
 }
 
 bool picture_has_place(const struct options *options)
@@ -30,13 +36,14 @@ bool picture_has_place(const struct options *options)
 }
 
 /* The file that a picture goes to, by its name; without PNG in the tool it is
-** a PBM beside the file that was asked for. */
-static FILE *open_output(const struct options *options)
+** one of the other form beside the file that was asked for. */
+static FILE *open_output(const struct options *options,
+                         const struct form *form)
 {
   if (options->output == NULL) {
     return stdout;
   }
-  const char *ending = options->png && !png_built() ? ".pbm" : "";
+  const char *ending = options->png && !png_built() ? form->ending : "";
   size_t size = strlen(options->output) + strlen(ending) + 1;
   char *name = malloc(size);
   if (name == NULL) {
@@ -49,30 +56,32 @@ static FILE *open_output(const struct options *options)
 }
 
 /* Says that there is no PNG in this tool. */
-static void tell_without_png(const struct options *options)
+static void tell_without_png(const struct options *options,
+                             const struct form *form)
 {
-  fputs("ssd1815b: built without PNG (Debian's libstb-dev was missing): a PBM"
-        " is written", stderr);
+  fprintf(stderr, "ssd1815b: built without PNG (Debian's libstb-dev was"
+          " missing): a %s is written", form->name);
   if (options->output != NULL) {
-    fprintf(stderr, " to %s.pbm", options->output);
+    fprintf(stderr, " to %s%s", options->output, form->ending);
   }
   fputs("\n", stderr);
 }
 
-enum status picture(const struct options *options, const struct played *played)
+bool picture_write(const struct options *options, const struct form *form,
+                   const uint8_t *places)
 {
   const char *name = options->output == NULL ? "standard output"
                                              : options->output;
   bool png = options->png && png_built();
   if (options->png && !png) {
-    tell_without_png(options);
+    tell_without_png(options, form);
   }
-  FILE *out = open_output(options);
+  FILE *out = open_output(options, form);
   bool done = out != NULL;
   if (done && png) {
-    done = png_write(out, played->frame, options->scale);
+    done = form->write_png(out, places, options->scale);
   } else if (done) {
-    pbm_write(out, played->frame, options->scale);
+    form->write(out, places, options->scale);
   }
   done = done && fflush(out) == 0 && !ferror(out);
   if (out != NULL && out != stdout) {
@@ -81,6 +90,13 @@ enum status picture(const struct options *options, const struct played *played)
   if (!done) {
     fprintf(stderr, "ssd1815b: cannot write %s: %s\n", name, strerror(errno));
   }
+  return done;
+}
+
+enum status picture(const struct options *options, const struct played *played)
+{
+  static const struct form form = { "PBM", ".pbm", pbm_write, png_write };
+  bool done = picture_write(options, &form, played->frame);
   stop_print(stderr, played);
   return done ? status_of(played) : FAILED;
 }

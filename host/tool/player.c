@@ -1,5 +1,6 @@
 #include "player.h"
 
+#include "plural.h"
 #include "progress.h"
 
 enum { PART = 1 << 20 };
@@ -21,12 +22,12 @@ bool play_input(struct played *played, struct input *input, size_t records)
   return done;
 }
 
-void tell_fewer(const struct played *played, size_t records)
+void tell_fewer(const struct played *played, const char *name, size_t records)
 {
   if (records != ALL_RECORDS && played->number == SSD1815B_TAKEN
       && played->count < records) {
-    fprintf(stderr, "ssd1815b: --after %zu: the trace has %zu record%s, and all"
-            " of it is played\n", records, played->count,
-            played->count == 1 ? "" : "s");
+    fprintf(stderr, "ssd1815b: --after %zu: %s has %zu record%s, and all of it"
+            " is played\n", records, name, played->count,
+            plural(played->count));
   }
 }

@@ -11,8 +11,8 @@
 ** input has ended; says how far it is.  Answers whether it could read. */
 bool play_input(struct played *played, struct input *input, size_t records);
 
-/* Says on standard error if all was taken and had fewer records than asked
-** for. */
-void tell_fewer(const struct played *played, size_t records);
+/* Says on standard error if all of the trace of this name was taken and had
+** fewer records than asked for. */
+void tell_fewer(const struct played *played, const char *name, size_t records);
 
 #endif

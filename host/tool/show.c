@@ -3,21 +3,12 @@
 #include <stdbool.h>
 
 #include "dark.h"
+#include "edge.h"
 #include "stop.h"
 
 static bool lit(const struct played *played, size_t row, size_t x)
 {
   return played->frame[row * SSD1815B_COLUMNS + x] == 1;
-}
-
-static void print_edge(FILE *out, const char *left, const char *right)
-{
-  fputs(left, out);
-  for (int x = 0; x < SSD1815B_COLUMNS; x++) {
-    fputs("─", out);
-  }
-  fputs(right, out);
-  fputs("\n", out);
 }
 
 /* Two rows of the frame, one above the other; below may be no row. */
@@ -35,13 +26,13 @@ static void print_rows(FILE *out, const struct played *played, size_t above,
 
 void show(FILE *out, const struct played *played)
 {
-  print_edge(out, "┌", "┐");
+  edge_print(out, "┌", "┐");
   for (size_t row = 0; row < SSD1815B_ROWS; row += 2) {
     print_rows(out, played, row, true);
   }
-  print_edge(out, "├", "┤");
+  edge_print(out, "├", "┤");
   print_rows(out, played, SSD1815B_ICON_ROW, false);
-  print_edge(out, "└", "┘");
+  edge_print(out, "└", "┘");
   dark_print(out, played);
   stop_print(out, played);
 }

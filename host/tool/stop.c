@@ -6,6 +6,7 @@
 #include "looks.h"
 #include "numbers.h"
 #include "origin.h"
+#include "plural.h"
 
 /* The record in which a run stopped. */
 struct record {
@@ -43,12 +44,6 @@ static const char *kind_name(size_t kind)
     "no kind", "command bytes", "data written", "data read", "the reset pin"
   };
   return names[kind <= KIND_RESET_PIN ? kind : 0];
-}
-
-/* The ending of a noun of which there are so many. */
-static const char *plural(size_t count)
-{
-  return count == 1 ? "" : "s";
 }
 
 /* The codes of document 01's table on either side of one outside it. */

@@ -1,0 +1,245 @@
+#include "stored.h"
+
+#include <stdio.h>
+#include <string.h>
+
+#include "listing.h"
+
+static const char head[] = "frame 132 65";
+static const char too_long[] = "input too long";
+
+/* A text, and how far it has been read. */
+struct reader {
+  const uint8_t *text;
+  size_t length;
+  size_t at;
+  size_t line;  /* in which that is, from 1 */
+  struct fault *fault;
+};
+
+/* ---- what is said of a fault ---- */
+
+/* Some bytes of the line in quotes, those that are not printable in hex. */
+static void quote(const struct reader *reader, char *words, size_t size)
+{
+  enum { LONGEST = 24 };
+  size_t used = (size_t)snprintf(words, size, "\"");
+  size_t i = reader->at;
+  for (; i < reader->length && reader->text[i] != '\n'
+         && i < reader->at + LONGEST; i++) {
+    uint8_t byte = reader->text[i];
+    bool printable = byte >= ' ' && byte < 0x7F;
+    used += (size_t)snprintf(words + used, size - used,
+                             printable ? "%c" : "\\x%02X", byte);
+  }
+  bool more = i < reader->length && reader->text[i] != '\n';
+  snprintf(words + used, size - used, more ? "\" and more" : "\"");
+}
+
+/* What stands at the place. */
+static void name_found(const struct reader *reader, char *words, size_t size)
+{
+  const uint8_t *rest = reader->text + reader->at;
+  size_t left = reader->length - reader->at;
+  if (left == 0) {
+    snprintf(words, size, "the end of the file");
+  } else if (rest[0] == '\n') {
+    snprintf(words, size, "the end of the line");
+  } else if (left > 1 && rest[0] == '\r' && rest[1] == '\n') {
+    snprintf(words, size, "CR LF, and LF alone ends a line here");
+  } else {
+    quote(reader, words, size);
+  }
+}
+
+/* Keeps what was expected and what stands there; false, for the caller to
+** answer. */
+static bool fault_at(struct reader *reader, const char *expected)
+{
+  char found[120];
+  name_found(reader, found, sizeof found);
+  reader->fault->line = reader->line;
+  snprintf(reader->fault->words, sizeof reader->fault->words,
+           "expected %s; found %s", expected, found);
+  return false;
+}
+
+/* ---- parts of a line ---- */
+
+/* Whether this word stands at the place. */
+static bool stands(const struct reader *reader, const char *word)
+{
+  size_t length = strlen(word);
+  return reader->length - reader->at >= length
+         && memcmp(reader->text + reader->at, word, length) == 0;
+}
+
+/* Goes on after a word, if it stands there. */
+static bool passes(struct reader *reader, const char *word)
+{
+  bool there = stands(reader, word);
+  reader->at += there ? strlen(word) : 0;
+  return there;
+}
+
+static bool take_word(struct reader *reader, const char *word,
+                      const char *expected)
+{
+  return passes(reader, word) || fault_at(reader, expected);
+}
+
+static bool take_newline(struct reader *reader, const char *expected)
+{
+  bool taken = take_word(reader, "\n", expected);
+  reader->line += taken;
+  return taken;
+}
+
+/* The numbers that may stand at a place. */
+struct range {
+  const char *name;
+  size_t least;
+  size_t most;
+  const char *more;  /* said after them */
+};
+
+static bool is_digit(const struct reader *reader, size_t at)
+{
+  return at < reader->length && reader->text[at] >= '0'
+         && reader->text[at] <= '9';
+}
+
+/* A number in decimal, with no 0 before its first digit. */
+static bool take_number(struct reader *reader, struct range range,
+                        size_t *number)
+{
+  size_t at = reader->at;
+  bool zeros = stands(reader, "0") && is_digit(reader, at + 1);
+  *number = 0;
+  for (; is_digit(reader, at) && *number <= range.most; at++) {
+    *number = *number * 10 + (size_t)(reader->text[at] - '0');
+  }
+  if (zeros || at == reader->at || *number < range.least
+      || *number > range.most) {
+    char expected[100];
+    snprintf(expected, sizeof expected, "%s from %zu to %zu%s%s", range.name,
+             range.least, range.most, zeros ? " with no 0 before it" : "",
+             range.more);
+    return fault_at(reader, expected);
+  }
+  reader->at = at;
+  return true;
+}
+
+/* ---- lines ---- */
+
+/* A run that begins at *from or later; *from is then the first place at which
+** the next one may, as runs do not touch. */
+static bool take_run(struct reader *reader, uint8_t *row, size_t *from)
+{
+  size_t first;
+  size_t last;
+  struct range firsts = { "a run's first place", *from, SSD1815B_COLUMNS - 1,
+                          *from > 0 ? ", apart from the run before" : "" };
+  if (!take_number(reader, firsts, &first)
+      || !take_word(reader, "-", "- and the run's last place")) {
+    return false;
+  }
+  struct range lasts = { "the run's last place", first, SSD1815B_COLUMNS - 1,
+                         "" };
+  if (!take_number(reader, lasts, &last)) {
+    return false;
+  }
+  memset(row + first, 1, last - first + 1);
+  *from = last + 2;
+  return true;
+}
+
+/* A row that is *least or lower on the screen, with its runs. */
+static bool take_row(struct reader *reader, uint8_t *frame, size_t *least)
+{
+  size_t row;
+  size_t from = 0;
+  struct range rows = { "a row", *least, SSD1815B_ICON_ROW, ", or end" };
+  if (*least > SSD1815B_ICON_ROW) {
+    return fault_at(reader, "end");
+  }
+  if (!take_number(reader, rows, &row)
+      || !take_word(reader, " ", "a space and a run")) {
+    return false;
+  }
+  do {
+    if (!take_run(reader, frame + row * SSD1815B_COLUMNS, &from)) {
+      return false;
+    }
+  } while (from < SSD1815B_COLUMNS && passes(reader, " "));
+  *least = row + 1;
+  return take_newline(reader, from < SSD1815B_COLUMNS
+                                ? "a space and a run, or the end of the line"
+                                : "the end of the line");
+}
+
+/* The line `refused NUMBER at OFFSET`, as a run from power-on can answer. */
+static bool take_refusal(struct reader *reader, struct stored *stored)
+{
+  size_t number;
+  struct range numbers = { "a number", SSD1815B_OUTSIDE_TABLE,
+                           SSD1815B_READ_DIFFERS, "" };
+  struct range offsets = { "an offset", 0, LISTING_LONGEST_TRACE - 1, "" };
+  if (!take_number(reader, numbers, &number)
+      || !take_word(reader, " at ", "at and an offset")
+      || !take_number(reader, offsets, &stored->offset)) {
+    return false;
+  }
+  stored->number = (uint8_t)number;
+  return take_newline(reader, "the end of the line");
+}
+
+/* The lines before the first row. */
+static bool take_head(struct reader *reader, struct stored *stored)
+{
+  const char *expected = "\"frame 132 65\" or \"refused NUMBER at OFFSET\"";
+  if (stands(reader, too_long)) {
+    return fault_at(reader, "a frame, which list prints of no trace above"
+                            " 65,536 bytes (diff takes the trace itself)");
+  }
+  if (passes(reader, "refused ")) {
+    expected = "\"frame 132 65\"";
+    if (!take_refusal(reader, stored)) {
+      return false;
+    }
+  }
+  return take_word(reader, head, expected)
+         && take_newline(reader, "the end of the line");
+}
+
+/* ---- a listing ---- */
+
+bool stored_begins(const uint8_t *text, size_t length)
+{
+  struct reader reader = { .text = text, .length = length };
+  return stands(&reader, "frame ") || stands(&reader, "refused ")
+         || stands(&reader, too_long);
+}
+
+bool stored_read(struct stored *stored, const uint8_t *text, size_t length,
+                 struct fault *fault)
+{
+  struct reader reader = { .text = text, .length = length, .line = 1,
+                           .fault = fault };
+  size_t least = 0;
+  *stored = (struct stored){ .number = SSD1815B_TAKEN };
+  if (!take_head(&reader, stored)) {
+    return false;
+  }
+  while (!passes(&reader, "end")) {
+    if (!take_row(&reader, stored->frame, &least)) {
+      return false;
+    }
+  }
+  if (!take_newline(&reader, "the end of the line")) {
+    return false;
+  }
+  return reader.at == reader.length
+         || fault_at(&reader, "nothing after end");
+}
