@@ -2,8 +2,9 @@
 ** A model of the SSD1815B display driver: what a C host calls.
 **
 ** The model goes from bus events to registers, display memory and the frame
-** on the glass, by the rules of document 01.  It is proved: for every input,
-** refused ones too, each call below answers and leaves what is said here.
+** on the glass, by the rules of documents 01 and 02.  It is proved: for every
+** input, refused ones too, each call below answers and leaves what is said
+** here.
 **
 ** The caller owns all memory.  The library allocates nothing, keeps nothing
 ** between calls, and reads and writes only what it is lent:
@@ -13,7 +14,6 @@
 **   frame    the picture, 8,580 bytes, 0 dark and 1 lit: panel rows 0 to 63
 **            and then the icon line, each 132 wide
 **   trace    recorded bus traffic, any number of bytes
-**
 **   list     where two frames or two memories differ, entry by entry
 **
 ** A typical host:
@@ -34,11 +34,12 @@
 ** LENGTHS
 **
 ** A length may be anything.  One that is too small is answered by
-** SSD1815B_TOO_SHORT; one that is larger than needed is taken, and the bytes
-** past the needed ones are neither used nor changed.  Contents may be
-** anything too: an image that no chip can have is answered by
-** SSD1815B_OUT_OF_RANGE.  There is no byte sequence that a call does not
-** answer.
+** SSD1815B_TOO_SHORT, that of a list by SSD1815B_LIST_TOO_SMALL; one that is
+** larger than needed is taken, and the bytes past the needed ones are neither
+** used nor changed.  Contents may be anything too: an image that no chip can
+** have is answered by SSD1815B_OUT_OF_RANGE, a frame to be compared that is
+** none by SSD1815B_FRAME_BYTE_ABOVE.  There is no byte sequence that a call
+** does not answer.
 **
 **
 ** WHAT THE CALLER MUST SEE TO
@@ -49,7 +50,8 @@
 **      to be read, and to be written too where it is not to const.  An out
 **      parameter points to one object of its type.  No pointer is null, not
 **      even where the length is 0.
-**   *  No two things lent to one call overlap, out parameters included.
+**   *  No two things lent to one call overlap, out parameters included; two
+**      that are only read may be one.
 **   *  Nothing else reads or writes what is lent for writing, or writes what
 **      is lent for reading, before the call returns: no other thread, no
 **      signal handler, no device.
@@ -114,7 +116,8 @@ extern "C" {
 ** 9; then 6 before 7 before 10; and 1 before 12 before 11.
 */
 #define SSD1815B_TAKEN          0
-#define SSD1815B_TOO_SHORT      1  /* something lent is shorter than needed */
+#define SSD1815B_TOO_SHORT      1  /* state, memory, frame or text is shorter
+                                   ** than needed */
 #define SSD1815B_OUT_OF_RANGE   2  /* the state image is out of its ranges */
 #define SSD1815B_OUTSIDE_TABLE  3  /* a byte that is no command, B9 to BF
                                    ** apart, with no code awaited */
@@ -126,7 +129,7 @@ extern "C" {
                                    ** past the end of the trace */
 #define SSD1815B_KIND_UNKNOWN   9  /* kind not 1 to 4, or 4 with a payload */
 #define SSD1815B_READ_DIFFERS  10  /* the byte read is not the recorded one */
-#define SSD1815B_LIST_TOO_SMALL    11  /* a list buffer for fewer entries */
+#define SSD1815B_LIST_TOO_SMALL    11  /* too small for all entries */
 #define SSD1815B_FRAME_BYTE_ABOVE  12  /* a byte of a frame is above 1 */
 
 /*
@@ -427,8 +430,12 @@ uint8_t ssd1815b_compare_frames(
 **
 ** Lists each differing byte once, in rising order; bytes of page 8 differ if
 ** their bit 0 does, and their contents are listed by bit 0, as 0 or 1.  Entry
-** i lies in bytes 4i to 4i + 3 of list: the byte's place in the memory, 0 to
-** 1,187, low byte first; its content in the first memory; and in the second.
+** i lies in bytes 4i to 4i + 3 of list:
+**
+**   SSD1815B_BYTE_PLACE_LOW    the byte's place in the memory, 0 to 1,187: its
+**   SSD1815B_BYTE_PLACE_HIGH   low byte, then its high byte
+**   SSD1815B_BYTE_WAS          its content in the first memory
+**   SSD1815B_BYTE_IS           its content in the second
 **
 ** Answers 0 with the number of entries in *count, the rest of list unchanged;
 ** the count is 0 exactly where the memories hold the same 8,580 bits, and then
@@ -436,7 +443,20 @@ uint8_t ssd1815b_compare_frames(
 ** else 11 if list is shorter than the entries, which a list of
 ** SSD1815B_MEMORY_LIST_SIZE bytes never is.  Then list is not written and
 ** *count is 0.
+**
+** Putting the bytes into the first memory gives the second in all 8,580 bits:
+**
+**     for (size_t i = 0; i < count; i++) {
+**       const uint8_t *byte = list + i * SSD1815B_MEMORY_ENTRY_SIZE;
+**       first[byte[SSD1815B_BYTE_PLACE_LOW]
+**             + 256 * byte[SSD1815B_BYTE_PLACE_HIGH]] = byte[SSD1815B_BYTE_IS];
+**     }
 */
+#define SSD1815B_BYTE_PLACE_LOW   0
+#define SSD1815B_BYTE_PLACE_HIGH  1
+#define SSD1815B_BYTE_WAS         2
+#define SSD1815B_BYTE_IS          3
+
 uint8_t ssd1815b_compare_memories(
   const uint8_t *first, size_t first_len,
   const uint8_t *second, size_t second_len,

@@ -51,6 +51,7 @@ settled = record {
   «Registers::power_state» = λ self. equation _;
   «Registers::with_column» = λ self value. equation _;
   «Registers::with_fresh» = λ self value. equation _;
+  «data::kept» = λ page byte. equation _;
   «image::ask» = λ state memory. equation _;
   «image::ask_state» = λ state. equation _;
   «image::short» = λ state memory. equation _;

@@ -7,6 +7,7 @@ use lib.ListN.{length}
 use Rattle.constants.specs.Settles.{Settles}
 use Rattle.bus.specs.Places.{column, fresh}
 use Rattle.bus.specs.Registers.{imageOf, _with_≔_, powerOn, powerState}
+use Rattle.bus.specs.Memory.{kept}
 use Rattle.bus.specs.Events.{command, write, written, read, resetPin}
 use Rattle.bus.specs.Chip.{commandByte, dataWritten, dataRead, resetPulse}
 use Rattle.bus.specs.Recorded as recorded
@@ -39,6 +40,7 @@ pub record Settled : Type 0 where
   pub «Registers::power_state» : (self : Registers) → Settles (λ (r : PowerState). r ≡ powerState self)
   pub «Registers::with_column» : (self : Registers) (value : ℕ) → Settles (λ (r : Registers). r ≡ (self with column ≔ value))
   pub «Registers::with_fresh» : (self : Registers) (value : ℕ) → Settles (λ (r : Registers). r ≡ (self with fresh ≔ value))
+  pub «data::kept» : (page byte : ℕ) → Settles (λ (r : ℕ). r ≡ kept page byte)
   pub «image::ask» : (state memory : List ℕ) → Settles (λ (r : Asked). r ≡ asked state memory)
   pub «image::ask_state» : (state : List ℕ) → Settles (λ (r : Asked). r ≡ askedState state)
   pub «image::short» : (state memory : List ℕ) → Settles (λ (r : Bool). r ≡ short state memory)
