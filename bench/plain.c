@@ -661,16 +661,16 @@ static uint8_t *put_runs(uint8_t *restrict to, const uint8_t *restrict first,
     if (first[x] == second[x]) {
       continue;
     }
-    uint8_t was = first[x];
-    uint8_t is = second[x];
-    to[SSD1815B_RUN_ROW] = (uint8_t)row;
-    to[SSD1815B_RUN_FIRST] = (uint8_t)x;
-    while (x + 1 < COLUMNS && first[x + 1] == was && second[x + 1] == is) {
+    size_t from = x;
+    while (x + 1 < COLUMNS && first[x + 1] == first[from]
+           && second[x + 1] == second[from]) {
       x++;
     }
+    to[SSD1815B_RUN_ROW] = (uint8_t)row;
+    to[SSD1815B_RUN_FIRST] = (uint8_t)from;
     to[SSD1815B_RUN_LAST] = (uint8_t)x;
-    to[SSD1815B_RUN_WAS] = was;
-    to[SSD1815B_RUN_IS] = is;
+    to[SSD1815B_RUN_WAS] = first[from];
+    to[SSD1815B_RUN_IS] = second[from];
     to += SSD1815B_FRAME_ENTRY_SIZE;
   }
   return to;
