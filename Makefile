@@ -215,6 +215,9 @@ $(TUNED): $(COMPARED:%/differences.o=%/differences_tuned.o) \
           $(OUT)/bench/tuned.o $(LINKED)
 $(T_DIFFER): $(OUT)/host/test/differences_tuned.o $(OUT)/host/compare/room.o \
              $(OUT)/bench/tuned.o
+$(TUNED) $(T_DIFFER):
+	$(Q)$(CC) $(CFLAGS) $^ -o $@
+
 $(SAMPLES): $(OUT)/host/test/samples.o $(LINKED)
 $(PARTS): $(OUT)/host/test/parts.o $(LINKED) \
           $(addprefix $(OUT)/host/tool/,played.o progress.o replay.o)
@@ -224,8 +227,7 @@ $(NO_PNG): $(filter-out %/png.o,$(call objects,host/tool/*.c)) \
 $(BENCH): $(addprefix $(OUT)/bench/,bench.o workloads.o plain.o tuned.o) \
           $(LINKED)
 
-$(TOOL) $(NO_PNG) $(COMPARE) $(TUNED) $(CALLS) $(DIFFER) $(T_DIFFER) \
-$(SAMPLES) $(PARTS) $(BENCH):
+$(TOOL) $(NO_PNG) $(COMPARE) $(CALLS) $(DIFFER) $(SAMPLES) $(PARTS) $(BENCH):
 	$(Q)$(CC) $(CFLAGS) $^ -o $@
 
 # The header as C++ takes it.
