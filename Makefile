@@ -56,6 +56,8 @@ NO_PNG   := $(OUT)/ssd1815b-without-png
 COMPARE  := $(OUT)/compare
 CALLS    := $(OUT)/calls
 DIFFER   := $(OUT)/differences
+TUNED    := $(OUT)/compare-tuned
+T_DIFFER := $(OUT)/differences-tuned
 SAMPLES  := $(OUT)/samples
 PARTS    := $(OUT)/parts
 LISTINGS := $(OUT)/listings
@@ -113,12 +115,15 @@ test: compare calls check-tool check-traces \
       $(if $(VARIANT),,check-install check-python)
 	@echo 'make test: all passed ($(MODEL))'
 
-compare: $(COMPARE) oracle
+# The second stream is for tuned C, which has just the two comparing calls.
+compare: $(COMPARE) $(TUNED) oracle
 	host/compare/compare.sh $(ORACLE) $(SEED) $(TIMES) -- $(RUN) $(COMPARE)
+	bench/tuned.sh $(ORACLE) $(SEED) $(TIMES) -- $(RUN) $(TUNED)
 
-calls: $(CALLS) $(DIFFER) $(SAMPLES) $(HEADER)
+calls: $(CALLS) $(DIFFER) $(T_DIFFER) $(SAMPLES) $(HEADER)
 	$(RUN) $(CALLS)
 	$(RUN) $(DIFFER)
+	$(RUN) $(T_DIFFER)
 	$(RUN) $(SAMPLES)
 	$(RUN) $(HEADER)
 ifeq ($(MODEL),proved)
@@ -204,10 +209,19 @@ $(LIBRARY): crates.txt $(wildcard crates/*/src/*.rt) | cross
 	@AR='$(CROSS)ar' GOALS='$(MAKECMDGOALS)' V='$(V)' host/prove.sh
 
 $(TOOL): $(call objects,host/tool/*.c) $(LINKED)
-$(COMPARE): $(call objects,host/compare/*.c) $(LINKED) \
+COMPARED := $(call objects,host/compare/*.c) \
             $(addprefix $(OUT)/host/tool/,listing.o played.o registers.o)
+$(COMPARE): $(COMPARED) $(LINKED)
 $(CALLS): $(OUT)/host/test/calls.o $(OUT)/host/compare/room.o $(LINKED)
 $(DIFFER): $(OUT)/host/test/differences.o $(OUT)/host/compare/room.o $(LINKED)
+# Tuned C in place of the two comparing calls (bench/as_tuned.h).
+$(TUNED): $(COMPARED:%/differences.o=%/differences_tuned.o) \
+          $(OUT)/bench/tuned.o $(LINKED)
+$(T_DIFFER): $(OUT)/host/test/differences_tuned.o $(OUT)/host/compare/room.o \
+             $(OUT)/bench/tuned.o
+$(TUNED) $(T_DIFFER):
+	$(Q)$(CC) $(CFLAGS) $^ -o $@
+
 $(SAMPLES): $(OUT)/host/test/samples.o $(LINKED)
 $(PARTS): $(OUT)/host/test/parts.o $(LINKED) \
           $(addprefix $(OUT)/host/tool/,played.o progress.o replay.o)
@@ -215,7 +229,7 @@ $(LISTINGS): $(OUT)/host/test/listings.o $(OUT)/host/tool/stored.o $(LINKED)
 # The tool as it is where libstb-dev is missing.
 $(NO_PNG): $(filter-out %/png.o,$(call objects,host/tool/*.c)) \
            $(OUT)/host/tool/no_png.o $(LINKED)
-$(BENCH): $(OUT)/bench/bench.o $(OUT)/bench/workloads.o $(OUT)/bench/plain.o \
+$(BENCH): $(addprefix $(OUT)/bench/,bench.o workloads.o plain.o tuned.o) \
           $(LINKED)
 
 $(TOOL) $(NO_PNG) $(COMPARE) $(CALLS) $(DIFFER) $(SAMPLES) $(PARTS) $(LISTINGS) $(BENCH):
@@ -238,8 +252,12 @@ $(OUT)/host/tool/no_png.o: host/tool/png.c | cross
 	@mkdir -p $(@D)
 	$(Q)$(CC) $(CFLAGS) $(INCLUDE) -DWITHOUT_PNG -MMD -MP -c $< -o $@
 
+$(OUT)/%_tuned.o: %.c | cross
+	@mkdir -p $(@D)
+	$(Q)$(CC) $(CFLAGS) $(INCLUDE) -include bench/as_tuned.h -MMD -MP -c $< -o $@
+
 # What is measured is compiled as well as gcc can.
-$(OUT)/bench/plain.o $(OUT)/bench/plain_as_model.o: CFLAGS += -O3
+$(addprefix $(OUT)/bench/,plain.o plain_as_model.o tuned.o): CFLAGS += -O3
 
 $(OUT)/bench/plain_as_model.o: bench/plain.c | cross
 	@mkdir -p $(@D)

@@ -1,5 +1,6 @@
 /*
-** bench: the library beside plain C.  See usage below.
+** bench: the library beside plain C, and below each pair that is compared the
+** limits, tuned C and memcmp.  See usage below.
 */
 #define _POSIX_C_SOURCE 200809L /* clock_gettime */
 #include <stdbool.h>
@@ -10,6 +11,7 @@
 
 #include "model.h"
 #include "plain.h"
+#include "tuned.h"
 #include "workloads.h"
 
 static const char usage[] =
@@ -17,7 +19,8 @@ static const char usage[] =
   "       bench names                     the workloads: units, unit, name\n"
   "       bench repeat NUMBER MODEL TIMES\n"
   "                                       does a workload, measures nothing;\n"
-  "                                       MODEL is library or plain\n";
+  "                                       MODEL is library, plain or, where\n"
+  "                                       two are compared, tuned\n";
 
 static const struct model models[] = {
   { "library", ssd1815b_command, ssd1815b_write, ssd1815b_read, ssd1815b_run,
@@ -25,9 +28,11 @@ static const struct model models[] = {
     ssd1815b_compare_memories },
   { "plain", plain_command, plain_write, plain_read, plain_run, plain_draw,
     plain_list, plain_compare_frames, plain_compare_memories },
+  { .name = "tuned", .compare_frames = tuned_compare_frames,
+    .compare_memories = tuned_compare_memories },
 };
 
-enum { LIBRARY, PLAIN, MODELS };
+enum { LIBRARY, PLAIN, TUNED, MODELS };
 enum { REPETITIONS = 25 };
 
 static double seconds_between(struct timespec from, struct timespec to)
@@ -60,18 +65,25 @@ static double seconds_by_memcmp(const struct workload *workload, size_t times)
   return seconds_between(from, to);
 }
 
-/* Both models must leave the same from the same. */
+/* How many of the models have what a workload calls: tuned C only compares. */
+static int models_for(const struct workload *workload)
+{
+  return workload->compares ? MODELS : TUNED;
+}
+
+/* All models must leave the same from the same. */
 static void same_result(const struct workload *workload)
 {
   uint64_t left[MODELS];
-  for (int i = 0; i < MODELS; i++) {
+  for (int i = 0; i < models_for(workload); i++) {
     workload->prepare();
     workload_do(workload, &models[i], 2);
     left[i] = workload_left();
-  }
-  if (left[LIBRARY] != left[PLAIN]) {
-    fprintf(stderr, "bench: %s: library and plain C differ\n", workload->name);
-    exit(1);
+    if (left[i] != left[LIBRARY]) {
+      fprintf(stderr, "bench: %s: library and %s C differ\n", workload->name,
+              models[i].name);
+      exit(1);
+    }
   }
 }
 
@@ -92,15 +104,24 @@ static void keep_best(double *best, double seconds)
   }
 }
 
+/* The line below a row: library and plain C as so many times something that
+** takes so many seconds and nanoseconds. */
+static void print_times(const double *best, const char *what, double seconds,
+                        double nanoseconds)
+{
+  printf("%-28s %10.2f %10.2f  times %s, %.2f ns\n", "",
+         best[LIBRARY] / seconds, best[PLAIN] / seconds, what, nanoseconds);
+}
+
 static void measure(const struct workload *workload)
 {
   same_result(workload);
   workload->prepare();
   size_t times = times_for(workload);
-  double best[MODELS] = { 1e9, 1e9 };
+  double best[MODELS] = { 1e9, 1e9, 1e9 };
   double by_memcmp = 1e9;
   for (int repetition = 0; repetition < REPETITIONS; repetition++) {
-    for (int i = 0; i < MODELS; i++) {
+    for (int i = 0; i < models_for(workload); i++) {
       keep_best(&best[i], seconds_of(workload, &models[i], times));
     }
     if (workload->by_memcmp != NULL) {
@@ -111,10 +132,12 @@ static void measure(const struct workload *workload)
   printf("%-28s %10.2f %10.2f  ns per %-6s %6.2f\n", workload->name,
          best[LIBRARY] / units * 1e9, best[PLAIN] / units * 1e9,
          workload->unit, best[LIBRARY] / best[PLAIN]);
+  if (workload->compares) {
+    print_times(best, "tuned C", best[TUNED], best[TUNED] / units * 1e9);
+  }
   if (workload->by_memcmp != NULL) {
-    printf("%-28s %10.2f %10.2f  times memcmp of the same bytes, %.2f ns\n",
-           "", best[LIBRARY] / by_memcmp, best[PLAIN] / by_memcmp,
-           by_memcmp / units * 1e9);
+    print_times(best, "memcmp of the same bytes", by_memcmp,
+                by_memcmp / units * 1e9);
   }
 }
 
@@ -143,7 +166,7 @@ static bool repeat_one(const char *number, const char *model, const char *times)
   if (chosen >= workload_count) {
     return false;
   }
-  for (int i = 0; i < MODELS; i++) {
+  for (int i = 0; i < models_for(&workloads[chosen]); i++) {
     if (strcmp(model, models[i].name) == 0) {
       workloads[chosen].prepare();
       workload_do(&workloads[chosen], &models[i],

@@ -612,152 +612,82 @@ uint8_t plain_list(uint8_t number, size_t offset, const uint8_t *frame,
 
 /* ---- where two frames differ ---- */
 
-/* Whether a byte of a frame is above 1.  Both halves are asked at once, which
-** is twice as fast. */
-static bool any_above_1(const uint8_t *frame)
+/* Whether a byte of either frame is above 1. */
+static bool any_above_1(const uint8_t *first, const uint8_t *second)
 {
-  enum { HALF = FRAME_SIZE / 2 };
   uint8_t bits = 0;
-  uint8_t more = 0;
-  for (size_t i = 0; i < HALF; i++) {
-    bits |= frame[i];
-    more |= frame[HALF + i];
+  for (size_t i = 0; i < FRAME_SIZE; i++) {
+    bits |= first[i] | second[i];
   }
-  return (bits | more) > 1;
+  return bits > 1;
 }
 
-/* A row's places as bits: place x is bit x % 64 of word x / 64. */
-enum { WORDS = 3 };
-
-/* Eight places as bits: the product has each of them once in its high byte. */
-static uint64_t eight_bits(const uint8_t *places)
+/* Whether a row is the same in both frames. */
+static bool same_row(const uint8_t *first, const uint8_t *second)
 {
-  _Static_assert(__BYTE_ORDER__ == __ORDER_LITTLE_ENDIAN__,
-                 "the first place is the low byte of a word");
-  uint64_t word;
-  memcpy(&word, places, sizeof word);
-  return word * 0x0102040810204080 >> 56;
+  return memcmp(first, second, COLUMNS) == 0;
 }
 
-/* All places of a row: 64, 64 and 4. */
-static void row_bits(uint64_t *bits, const uint8_t *row)
+/* How many runs a row has: one begins at each place that differs, and is not
+** as the place before it. */
+static size_t count_runs(const uint8_t *first, const uint8_t *second)
 {
-  for (size_t i = 0; i < WORDS - 1; i++) {
-    bits[i] = 0;
-    for (size_t k = 0; k < 64; k += 8) {
-      bits[i] |= eight_bits(row + 64 * i + k) << k;
+  uint8_t runs = first[0] != second[0];
+  for (size_t x = 1; x < COLUMNS; x++) {
+    uint8_t differs = first[x] ^ second[x];
+    uint8_t turned = (first[x] ^ first[x - 1]) | (second[x] ^ second[x - 1]);
+    runs = (uint8_t)(runs + (differs & turned));
+  }
+  return runs;
+}
+
+/* How many runs two frames have. */
+static size_t count_all_runs(const uint8_t *first, const uint8_t *second)
+{
+  size_t runs = 0;
+  for (size_t at = 0; at < FRAME_SIZE; at += COLUMNS) {
+    if (!same_row(first + at, second + at)) {
+      runs += count_runs(first + at, second + at);
     }
-  }
-  bits[WORDS - 1] = eight_bits(row + COLUMNS - 8) >> 4;
-}
-
-/* A row's runs: the places where they begin, and where they end. */
-struct runs {
-  uint64_t first[WORDS];
-  uint64_t last[WORDS];
-};
-
-/* A run begins at a differing place that is not joined to the place before it,
-** and ends at one that the place after it is not joined to. */
-static struct runs runs_of(const uint8_t *first, const uint8_t *second)
-{
-  uint64_t was[WORDS];
-  uint64_t differs[WORDS];
-  uint64_t joined[WORDS + 1] = { 0 }; /* to the run of the place before */
-  row_bits(was, first);
-  row_bits(differs, second);
-  uint64_t was_before = 0;
-  uint64_t differs_before = 0;
-  for (size_t i = 0; i < WORDS; i++) {
-    differs[i] ^= was[i];
-    joined[i] = differs[i] & (differs[i] << 1 | differs_before)
-                & ~(was[i] ^ (was[i] << 1 | was_before));
-    was_before = was[i] >> 63;
-    differs_before = differs[i] >> 63;
-  }
-  struct runs runs;
-  for (size_t i = 0; i < WORDS; i++) {
-    runs.first[i] = differs[i] & ~joined[i];
-    runs.last[i] = differs[i] & ~(joined[i] >> 1 | joined[i + 1] << 63);
   }
   return runs;
 }
 
 /* Puts a row's runs into a list that is long enough; the place after them. */
-static uint8_t *put_runs(uint8_t *to, const uint8_t *first,
-                         const uint8_t *second, size_t row)
+static uint8_t *put_runs(uint8_t *restrict to, const uint8_t *restrict first,
+                         const uint8_t *restrict second, size_t row)
 {
-  struct runs runs = runs_of(first, second);
-  uint8_t *ended = to;
-  for (size_t i = 0; i < WORDS; i++) {
-    for (uint64_t left = runs.first[i]; left != 0; left &= left - 1) {
-      size_t x = 64 * i + (size_t)__builtin_ctzll(left);
-      to[SSD1815B_RUN_ROW] = (uint8_t)row;
-      to[SSD1815B_RUN_FIRST] = (uint8_t)x;
-      to[SSD1815B_RUN_WAS] = first[x];
-      to[SSD1815B_RUN_IS] = second[x];
-      to += SSD1815B_FRAME_ENTRY_SIZE;
+  for (size_t x = 0; x < COLUMNS; x++) {
+    if (first[x] == second[x]) {
+      continue;
     }
-    for (uint64_t left = runs.last[i]; left != 0; left &= left - 1) {
-      size_t x = 64 * i + (size_t)__builtin_ctzll(left);
-      ended[SSD1815B_RUN_LAST] = (uint8_t)x;
-      ended += SSD1815B_FRAME_ENTRY_SIZE;
+    size_t from = x;
+    while (x + 1 < COLUMNS && first[x + 1] == first[from]
+           && second[x + 1] == second[from]) {
+      x++;
     }
+    to[SSD1815B_RUN_ROW] = (uint8_t)row;
+    to[SSD1815B_RUN_FIRST] = (uint8_t)from;
+    to[SSD1815B_RUN_LAST] = (uint8_t)x;
+    to[SSD1815B_RUN_WAS] = first[from];
+    to[SSD1815B_RUN_IS] = second[from];
+    to += SSD1815B_FRAME_ENTRY_SIZE;
   }
   return to;
 }
 
-/* How many runs a row has: a place begins one if it differs, and the place
-** before it does not, or differs the other way. */
-static size_t count_runs(const uint8_t *first, const uint8_t *second)
+/* All runs into a list that is long enough for them; how many. */
+static size_t put_all_runs(uint8_t *list, const uint8_t *first,
+                           const uint8_t *second)
 {
-  uint8_t runs = first[0] ^ second[0];
-  for (size_t x = 1; x < COLUMNS; x++) {
-    uint8_t differs = first[x] ^ second[x];
-    uint8_t before = first[x - 1] ^ second[x - 1];
-    uint8_t turned = first[x] ^ first[x - 1];
-    runs = (uint8_t)(runs + (differs & (turned | (before ^ 1))));
-  }
-  return runs;
-}
-
-/* The rows that differ, in order; how many. */
-static size_t differing_rows(uint8_t *rows, const uint8_t *first,
-                             const uint8_t *second)
-{
-  size_t count = 0;
-  for (size_t row = 0; row <= ICON_ROW; row++) {
-    if (memcmp(first + row * COLUMNS, second + row * COLUMNS, COLUMNS) != 0) {
-      rows[count++] = (uint8_t)row;
-    }
-  }
-  return count;
-}
-
-/* Lists frames of dots that are not equal.  The runs are counted first where
-** they may be too many: a list aside would take 42,900 bytes of the stack. */
-static uint8_t list_runs(const uint8_t *first, const uint8_t *second,
-                         uint8_t *list, size_t list_len, size_t *count)
-{
-  uint8_t rows[SSD1815B_FRAME_ROWS];
-  size_t row_count = differing_rows(rows, first, second);
-  if (list_len < SSD1815B_FRAME_LIST_SIZE) {
-    size_t runs = 0;
-    for (size_t i = 0; i < row_count; i++) {
-      size_t at = (size_t)rows[i] * COLUMNS;
-      runs += count_runs(first + at, second + at);
-    }
-    if (list_len < runs * SSD1815B_FRAME_ENTRY_SIZE) {
-      return SSD1815B_LIST_TOO_SMALL;
-    }
-  }
   uint8_t *to = list;
-  for (size_t i = 0; i < row_count; i++) {
-    size_t at = (size_t)rows[i] * COLUMNS;
-    to = put_runs(to, first + at, second + at, rows[i]);
+  for (size_t row = 0; row <= ICON_ROW; row++) {
+    size_t at = row * COLUMNS;
+    if (!same_row(first + at, second + at)) {
+      to = put_runs(to, first + at, second + at, row);
+    }
   }
-  *count = (size_t)(to - list) / SSD1815B_FRAME_ENTRY_SIZE;
-  return SSD1815B_TAKEN;
+  return (size_t)(to - list) / SSD1815B_FRAME_ENTRY_SIZE;
 }
 
 uint8_t plain_compare_frames(const uint8_t *first, size_t first_len,
@@ -768,61 +698,91 @@ uint8_t plain_compare_frames(const uint8_t *first, size_t first_len,
   if (first_len < FRAME_SIZE || second_len < FRAME_SIZE) {
     return SSD1815B_TOO_SHORT;
   }
-  bool equal = memcmp(first, second, FRAME_SIZE) == 0;
-  if (any_above_1(first) || (!equal && any_above_1(second))) {
+  if (memcmp(first, second, FRAME_SIZE) == 0) {
+    return any_above_1(first, first) ? SSD1815B_FRAME_BYTE_ABOVE
+                                     : SSD1815B_TAKEN;
+  }
+  if (any_above_1(first, second)) {
     return SSD1815B_FRAME_BYTE_ABOVE;
   }
-  if (equal) {
-    return SSD1815B_TAKEN;
+  if (list_len < SSD1815B_FRAME_LIST_SIZE
+      && list_len < count_all_runs(first, second) * SSD1815B_FRAME_ENTRY_SIZE) {
+    return SSD1815B_LIST_TOO_SMALL;
   }
-  return list_runs(first, second, list, list_len, count);
+  *count = put_all_runs(list, first, second);
+  return SSD1815B_TAKEN;
 }
 
 /* ---- where two memories differ ---- */
+
+/* Whether a page is the same in both memories, in all of its bits. */
+static bool same_page(const uint8_t *first, const uint8_t *second)
+{
+  return memcmp(first, second, COLUMNS) == 0;
+}
+
+/* The bits of a page's bytes that count. */
+static uint8_t bits_of(size_t page)
+{
+  return page == ICON_PAGE ? 0x01 : 0xFF;
+}
 
 /* How many bytes of a page differ, in some of their bits. */
 static size_t count_bytes(const uint8_t *first, const uint8_t *second,
                           uint8_t bits)
 {
   uint8_t bytes = 0;
-  for (size_t c = 0; c < COLUMNS; c++) {
-    bytes = (uint8_t)(bytes + (((first[c] ^ second[c]) & bits) != 0));
+  for (size_t x = 0; x < COLUMNS; x++) {
+    bytes = (uint8_t)(bytes + ((first[x] & bits) != (second[x] & bits)));
   }
   return bytes;
 }
 
-/* Puts a byte into a list, its place low byte first; the place after it. */
-static uint8_t *put_byte(uint8_t *to, size_t place, uint8_t was, uint8_t is)
+/* How many bytes of two memories differ. */
+static size_t count_all_bytes(const uint8_t *first, const uint8_t *second)
 {
-  uint32_t entry = (uint32_t)place | (uint32_t)was << 16 | (uint32_t)is << 24;
-  memcpy(to, &entry, sizeof entry);
-  return to + SSD1815B_MEMORY_ENTRY_SIZE;
+  size_t bytes = 0;
+  for (size_t page = 0; page <= ICON_PAGE; page++) {
+    size_t at = page * COLUMNS;
+    if (!same_page(first + at, second + at)) {
+      bytes += count_bytes(first + at, second + at, bits_of(page));
+    }
+  }
+  return bytes;
 }
 
-/* Puts the bytes of page p that differ, in some of their bits; the place after
-** them.  Four that are equal are passed over at once. */
-static uint8_t *put_bytes(uint8_t *to, const uint8_t *first,
-                          const uint8_t *second, size_t p, uint8_t bits)
+/* Puts the bytes of the page at a place that differ, in some of their bits,
+** into a list that is long enough; the place after them. */
+static uint8_t *put_bytes(uint8_t *restrict to, const uint8_t *restrict first,
+                          const uint8_t *restrict second, size_t at,
+                          uint8_t bits)
 {
-  for (size_t from = p * COLUMNS; from < (p + 1) * COLUMNS; from += 4) {
-    if (memcmp(first + from, second + from, 4) == 0) {
-      continue;
-    }
-    for (size_t i = from; i < from + 4; i++) {
-      uint8_t was = first[i] & bits;
-      uint8_t is = second[i] & bits;
-      if (was != is) {
-        to = put_byte(to, i, was, is);
-      }
+  for (size_t i = at; i < at + COLUMNS; i++) {
+    uint8_t was = first[i] & bits;
+    uint8_t is = second[i] & bits;
+    if (was != is) {
+      to[0] = (uint8_t)i;
+      to[1] = (uint8_t)(i >> 8);
+      to[2] = was;
+      to[3] = is;
+      to += SSD1815B_MEMORY_ENTRY_SIZE;
     }
   }
   return to;
 }
 
-/* The bits of a page's bytes that count. */
-static uint8_t bits_of(size_t p)
+/* All bytes into a list that is long enough for them; how many. */
+static size_t put_all_bytes(uint8_t *list, const uint8_t *first,
+                            const uint8_t *second)
 {
-  return p == ICON_PAGE ? 0x01 : 0xFF;
+  uint8_t *to = list;
+  for (size_t page = 0; page <= ICON_PAGE; page++) {
+    size_t at = page * COLUMNS;
+    if (!same_page(first + at, second + at)) {
+      to = put_bytes(to, first, second, at, bits_of(page));
+    }
+  }
+  return (size_t)(to - list) / SSD1815B_MEMORY_ENTRY_SIZE;
 }
 
 uint8_t plain_compare_memories(const uint8_t *first, size_t first_len,
@@ -836,21 +796,11 @@ uint8_t plain_compare_memories(const uint8_t *first, size_t first_len,
   if (memcmp(first, second, MEMORY_SIZE) == 0) {
     return SSD1815B_TAKEN;
   }
-  size_t bytes[SSD1815B_PAGES];
-  size_t all = 0;
-  for (size_t p = 0; p < SSD1815B_PAGES; p++) {
-    size_t at = p * COLUMNS;
-    bytes[p] = count_bytes(first + at, second + at, bits_of(p));
-    all += bytes[p];
-  }
-  if (list_len < all * SSD1815B_MEMORY_ENTRY_SIZE) {
+  if (list_len < SSD1815B_MEMORY_LIST_SIZE
+      && list_len < count_all_bytes(first, second)
+                    * SSD1815B_MEMORY_ENTRY_SIZE) {
     return SSD1815B_LIST_TOO_SMALL;
   }
-  for (size_t p = 0; p < SSD1815B_PAGES; p++) {
-    if (bytes[p] > 0) {
-      list = put_bytes(list, first, second, p, bits_of(p));
-    }
-  }
-  *count = all;
+  *count = put_all_bytes(list, first, second);
   return SSD1815B_TAKEN;
 }

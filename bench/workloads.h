@@ -4,6 +4,8 @@
 #ifndef WORKLOADS_H
 #define WORKLOADS_H
 
+#include <stdbool.h>
+
 #include "model.h"
 
 struct workload {
@@ -12,6 +14,7 @@ struct workload {
   void (*prepare)(void);                    /* fills the buffers */
   void (*once)(const struct model *model);  /* the measured calls */
   size_t (*units)(void);                    /* how many units those are */
+  bool compares;                            /* two frames or two memories */
   void (*by_memcmp)(void);                  /* memcmp of the same, or null */
 };
 

@@ -10,6 +10,10 @@
 #include "room.h"
 #include "ssd1815b.h"
 
+#ifndef TESTED
+#define TESTED "differences"
+#endif
+
 _Static_assert(SSD1815B_FRAME_LIST_SIZE
                == SSD1815B_FRAME_SIZE * SSD1815B_FRAME_ENTRY_SIZE,
                "at most every place is a run");
@@ -525,5 +529,5 @@ int main(void)
   bytes_by_hand();
   every_content();
   most_bytes();
-  return checks_end("differences");
+  return checks_end(TESTED);
 }

@@ -1,0 +1,8 @@
+/*
+** Put before a test by the compiler's -include: the test then makes the two
+** comparing calls on tuned C, and all others on the model that it is linked
+** with.
+*/
+#define ssd1815b_compare_frames tuned_compare_frames
+#define ssd1815b_compare_memories tuned_compare_memories
+#define TESTED "differences by tuned C" /* as host/test/differences.c tells */
