@@ -1,4 +1,4 @@
--- What the code's own functions state: how they put entries into a list buffer that has room for them, and a row that is one run.
+-- What the code's own functions state: how they put entries into a list buffer that has room for them, rows that are the same, and a row that is one run.
 use Prim.Native.Nat.{ℕ, _+_, _*_, _≤_, _<_}
 use mathlib.Core.Path.{_≡_}
 use mathlib.Core.List.{List}
@@ -22,3 +22,7 @@ Uniform w row = (x : ℕ) → x < w → getD row x 0 ≡ getD row 0 0
 -- A row differs in one way throughout.
 abbrev pub OneRun : ℕ → List ℕ → List ℕ → Type 0
 OneRun w a b = (getD a 0 0 ≡ getD b 0 0 → ⊥) × Uniform w a × Uniform w b
+
+-- The n rows of w places from row p on are the same in both frames.
+abbrev pub SameRows : ℕ → ℕ → ℕ → List ℕ → List ℕ → Type 0
+SameRows w n p f g = (i : ℕ) → i < n * w → getD f (p * w + i) 0 ≡ getD g (p * w + i) 0

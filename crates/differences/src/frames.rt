@@ -1,12 +1,13 @@
 // Where two frames differ.
 ghost use mathlib.Core.Path.{_≡_};
-ghost use Prim.Native.Nat.{_*_, _≤_};
+ghost use mathlib.Core.Bool.{true};
+ghost use Prim.Native.Nat.{_+_, _*_, _≤_, _<_};
 ghost use lib.Dec.{ltb};
 ghost use lib.ListN.{length, take};
-ghost use Rattle.constants.specs.Sizes.{frameSize, frameEntrySize};
+ghost use Rattle.constants.specs.Sizes.{width, frameRows, frameSize, frameEntrySize};
 ghost use Rattle.differences.specs.Runs.{runsOf};
 ghost use Rattle.differences.specs.Entries.{runEntry};
-ghost use Rattle.differences.specs.Put.{Room, Put};
+ghost use Rattle.differences.specs.Put.{Room, Put, SameRows};
 ghost use Rattle.differences.specs.Compare.{outcome, anyAbove, compareFrames};
 use crate::compared::Compared;
 use crate::count::count_rows;
@@ -20,6 +21,9 @@ use constants::sizes::FRAME_ROWS;
 use constants::sizes::FRAME_SIZE;
 use constants::sizes::LONGEST_FRAME_LIST;
 use constants::sizes::WIDTH;
+
+// Bytes of five rows.
+const FIVE_ROWS: usize = 660;
 
 // Lists each run of differing places of two frames into a lent buffer, or refuses and writes nothing.
 pub fn compare_frames(first: &[u8], second: &[u8], list: &mut [u8]) -> Compared
@@ -75,7 +79,7 @@ fn any_above(frame: &[u8]) -> bool
     1 < largest
 }
 
-// Puts the runs of the 65 rows.
+// Puts the runs of the 65 rows; five rows at a time are passed over where they are the same in both.
 fn put_rows(list: &mut [u8], first: &[u8], second: &[u8]) -> usize
     requires { ⌜ (frameSize ≤ length (now first)) × (frameSize ≤ length (now second)) ⌝ }
     requires { ⌜ Room frameEntrySize (now list) 0 (runsOf (now first) (now second)) ⌝ }
@@ -84,10 +88,27 @@ fn put_rows(list: &mut [u8], first: &[u8], second: &[u8]) -> usize
     let mut next = 0;
     let mut p = 0;
     while p < FRAME_ROWS {
-        let start = p * WIDTH;
-        let end = start + WIDTH;
-        next = put_row(list, next, p, &first[start..end], &second[start..end]);
-        p += 1;
+        if five_same(first, second, p) {
+            p += 5;
+        } else {
+            let start = p * WIDTH;
+            let end = start + WIDTH;
+            next = put_row(list, next, p, &first[start..end], &second[start..end]);
+            p += 1;
+        }
     }
     next
+}
+
+// Whether the five rows from row p on are the same in both: asked of every fifth row alone, and `false` tells nothing.
+fn five_same(first: &[u8], second: &[u8], p: usize) -> bool
+    requires { ⌜ (p < frameRows) × (frameSize ≤ length (now first)) × (frameSize ≤ length (now second)) ⌝ }
+    ensures { λ r. ⌜ (r ≡ true → (p + 5 ≤ frameRows) × SameRows width 5 p (now (first .entry)) (now (second .entry))) ⌝ }
+{
+    if p % 5 == 0 {
+        let start = p * WIDTH;
+        let end = start + FIVE_ROWS;
+        return same(&first[start..end], &second[start..end]);
+    }
+    false
 }

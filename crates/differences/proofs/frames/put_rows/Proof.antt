@@ -11,7 +11,8 @@ use Rattle.differences.specs.Runs.{rowRuns, runsIn, runsOf}
 use Rattle.differences.specs.Entries.{runEntry}
 use Rattle.picture.specs.Frame.{rowOf}
 use Rattle.differences.proofs.PutEntries.{Rest, begin, turns, done, rest-length, room-for}
-use Rattle.differences.proofs.ByRows.{rows-on, rows-end, part, part-length}
+use Rattle.differences.proofs.ByRows.{rows-on, rows-end, rows-over, part, part-length}
+use Rattle.differences.proofs.AlongRow.{runs-same}
 use Rattle.differences.proofs.Entries.{run-sized, runs-few}
 
 abbrev Inv-loop : tie.InvT-loop
@@ -23,6 +24,25 @@ abbrev μ-loop : tie.MeasureT-loop
 loop-holds : tie.Need-loop-holds Inv-loop μ-loop
 unfolding runsIn
 loop-holds c = (omega arith, omega arith, begin _ _ _ _ _ _)
+
+five-same-requires : tie.Need-five-same-requires Inv-loop μ-loop
+five-same-requires c κs = (omega arith, c .before .before .before .before .before .pre .0 .0, c .before .before .before .before .before .pre .0 .1)
+
+add-p : tie.Need-add-p Inv-loop μ-loop
+add-p c = omega (arith, c .before .five-same .ensures (c .if1 .taken) .0)
+
+loop-less : tie.Need-loop-less Inv-loop μ-loop
+loop-less c = omega arith
+
+loop-again : tie.Need-loop-again Inv-loop μ-loop
+loop-again c =
+    let at = c .before .before .before in
+    let start = at .before .before .before .before in
+    let a = start .args in
+    let f = now (a .first) in
+    let g = now (a .second) in
+    let five = c .before .five-same .ensures (c .if1 .taken) in
+    (five .0, omega arith, rw (rows-over width (rowRuns width) (λ p row. runs-same p row width 0) f g frameRows (start .pre .0 .0) (start .pre .0 .1) 5 (at .loop .p) (five .0) (five .1)) at (at .loop .inv .2))
 
 mul-start : tie.Need-mul-start Inv-loop μ-loop
 mul-start c = omega arith
@@ -50,7 +70,7 @@ part-put-row-end-2 c = omega arith
 
 put-row-requires : tie.Need-put-row-requires Inv-loop μ-loop
 put-row-requires c κs =
-    let at = c .before .before .before .before in
+    let at = c .before .before .before .before .before .before in
     let a = at .before .before .before .before .args in
     let f = now (a .first) in
     let g = now (a .second) in
@@ -58,15 +78,15 @@ put-row-requires c κs =
     let room = room-for _ _ _ (rowRuns width p (rowOf width p f) (rowOf width p g)) _ (rw (rows-on width (rowRuns width) f g frameRows p (omega arith)) at (at .loop .inv .2)) (at .before .before .before .before .pre .1) in
     ((omega arith, omega arith, part-length f p (omega arith), part-length g p (omega arith)), rw (part f p, part g p) room)
 
-add-p : tie.Need-add-p Inv-loop μ-loop
-add-p c = omega arith
+add-p-2 : tie.Need-add-p-2 Inv-loop μ-loop
+add-p-2 c = omega arith
 
-loop-less : tie.Need-loop-less Inv-loop μ-loop
-loop-less c = omega arith
+loop-less-2 : tie.Need-loop-less-2 Inv-loop μ-loop
+loop-less-2 c = omega arith
 
-loop-again : tie.Need-loop-again Inv-loop μ-loop
-loop-again c =
-    let at = c .before .before .before .before .before .before .before in
+loop-again-2 : tie.Need-loop-again-2 Inv-loop μ-loop
+loop-again-2 c =
+    let at = c .before .before .before .before .before .before .before .before .before in
     let a = at .before .before .before .before .args in
     let f = now (a .first) in
     let g = now (a .second) in
@@ -91,6 +111,10 @@ put-rows-spec =
     Inv-loop
     μ-loop
     loop-holds
+    five-same-requires
+    add-p
+    loop-less
+    loop-again
     mul-start
     add-end
     sub-put-row
@@ -100,8 +124,8 @@ put-rows-spec =
     part-put-row-start-2
     part-put-row-end-2
     put-row-requires
-    add-p
-    loop-less
-    loop-again
+    add-p-2
+    loop-less-2
+    loop-again-2
     same-length
     returns)
