@@ -34,6 +34,8 @@ pub mod ReadBack
 pub mod Samples
 -- What each call states has one result.
 pub mod Settled
+-- For the code: bytes passed, and whether one is above 1.
+pub mod Above
 -- For the code: what holds of the places passed.
 pub mod Below
 -- For the code: entries put one after the other.

@@ -12,6 +12,7 @@ ghost use Rattle.differences.specs.Compare.{outcome, anyAbove, compareFr
 use crate::compared::Compared;
 use crate::count::count_rows;
 use crate::row::put_row;
+use crate::same::look;
 use crate::same::same;
 use constants::refusal::FRAME_BYTE_ABOVE;
 use constants::refusal::LIST_TOO_SMALL;
@@ -35,10 +36,11 @@ pub fn compare_frames(first: &[u8], second: &[u8], list: &mut [u8]) -> Compared
     if second.len() < FRAME_SIZE {
         return Compared::Refused(TOO_SHORT);
     }
-    if any_above(first) {
+    let seen = look(first, second);
+    if seen.above {
         return Compared::Refused(FRAME_BYTE_ABOVE);
     }
-    if same(&first[..FRAME_SIZE], &second[..FRAME_SIZE]) {
+    if seen.same {
         return Compared::Listed(0);
     }
     if any_above(second) {

@@ -11,8 +11,6 @@ use native.Mathlib.Omega.{arith}
 use borrow.Author.Tests.{lt-ltb, le-ltb, ltb-true, ltb-false}
 use denote.Ref.{now}
 use lib.ListN.{length, take}
-use lib.Seq.{length-take-le}
-use borrow.Author.Needs.{needs}
 use Rattle.constants.specs.Sizes.{frameSize, frameEntrySize}
 use Rattle.differences.specs.Runs.{runsOf}
 use Rattle.differences.specs.Entries.{runEntry}
@@ -51,42 +49,33 @@ returns c = sym (first-short _ _ _ (c .if1 .taken))
 returns-2 : tie.Need-returns-2
 returns-2 c = sym (second-short _ _ _ (c .before .if1 .left) (c .if2 .taken))
 
-any-above-requires : tie.Need-any-above-requires
-any-above-requires c κs = search needs
+look-requires : tie.Need-look-requires
+look-requires c κs = (c .before .if1 .left, c .if2 .left)
 
 returns-3 : tie.Need-returns-3
-returns-3 c = sym (first-above _ _ _ (c .before .before .before .if1 .left) (c .before .before .if2 .left) (sym (c .before .any-above .ensures) ∙ c .if3 .taken))
-
-slice-aggregate-same : tie.Need-slice-aggregate-same
-slice-aggregate-same c = sym (length-take-le frameSize (now (c .before .before .before .before .before .before .before .before .args .first)) (c .before .before .before .before .if1 .left))
-
-slice-aggregate-same-2 : tie.Need-slice-aggregate-same-2
-slice-aggregate-same-2 c = sym (length-take-le frameSize (now (c .before .before .before .before .before .before .before .before .before .args .second)) (c .before .before .before .before .if2 .left))
-
-same-requires : tie.Need-same-requires
-same-requires c κs = length-take-le frameSize (now (c .before .before .before .before .before .before .before .before .before .args .first)) (c .before .before .before .before .before .if1 .left) ∙ sym (length-take-le frameSize (now (c .before .before .before .before .before .before .before .before .before .args .second)) (c .before .before .before .before .if2 .left))
+returns-3 c = sym (first-above _ _ _ (c .before .before .before .if1 .left) (c .before .before .if2 .left) (sym (c .before .look .ensures .0) ∙ c .if3 .taken))
 
 returns-4 : tie.Need-returns-4
-returns-4 c = sym (put-back .sameFrames _ _ _ (c .before .before .before .before .before .before .before .if1 .left) (c .before .before .before .before .before .before .if2 .left) (none-above frameSize _ (sym (c .before .before .before .before .before .any-above .ensures) ∙ c .before .before .before .before .if3 .left)) (c .before .same .ensures (c .if4 .taken)))
+returns-4 c = sym (put-back .sameFrames _ _ _ (c .before .before .before .before .if1 .left) (c .before .before .before .if2 .left) (none-above frameSize _ (sym (c .before .before .look .ensures .0) ∙ c .before .if3 .left)) (c .before .before .look .ensures .1 (c .if4 .taken)))
 
-any-above-requires-2 : tie.Need-any-above-requires-2
-any-above-requires-2 c κs = search needs
+any-above-requires : tie.Need-any-above-requires
+any-above-requires c κs = c .before .before .before .if2 .left
 
 too-small-requires : tie.Need-too-small-requires
 too-small-requires c κs = search needs
 
 put-rows-requires : tie.Need-put-rows-requires
 put-rows-requires c κs =
-    let a = c .before .before .before .before .before .before .before .before .before .before .before .before .before .before .before .before .args in
+    let a = c .before .before .before .before .before .before .before .before .before .before .before .before .before .args in
     let room : length (runsOf (now (a .first)) (now (a .second))) * frameEntrySize ≤ length (now (a .list)) = ltb-false _ _ (sym (c .before .before .too-small .ensures) ∙ c .before .if6 .left) in
-    ((c .before .before .before .before .before .before .before .before .before .before .before .before .if1 .left, c .before .before .before .before .before .before .before .before .before .before .before .if2 .left), omega (arith, room))
+    ((c .before .before .before .before .before .before .before .before .before .if1 .left, c .before .before .before .before .before .before .before .before .if2 .left), omega (arith, room))
 
 returns-5 : tie.Need-returns-5
-returns-5 c = sym (second-above _ _ _ (c .before .before .before .before .before .before .before .before .before .if1 .left) (c .before .before .before .before .before .before .before .before .if2 .left) (sym (c .before .before .before .before .before .before .before .any-above .ensures) ∙ c .before .before .before .before .before .before .if3 .left) (sym (c .before .any-above2 .ensures) ∙ c .if5 .taken))
+returns-5 c = sym (second-above _ _ _ (c .before .before .before .before .before .before .if1 .left) (c .before .before .before .before .before .if2 .left) (sym (c .before .before .before .before .look .ensures .0) ∙ c .before .before .before .if3 .left) (sym (c .before .any-above .ensures) ∙ c .if5 .taken))
 
 returns-6 : tie.Need-returns-6
 returns-6 c =
-    let all = all-in-order _ _ _ (c .before .before .before .before .before .before .before .before .before .before .before .if1 .left) (c .before .before .before .before .before .before .before .before .before .before .if2 .left) (sym (c .before .before .before .before .before .before .before .before .before .any-above .ensures) ∙ c .before .before .before .before .before .before .before .before .if3 .left) (sym (c .before .before .before .any-above2 .ensures) ∙ c .before .before .if5 .left) in
+    let all = all-in-order _ _ _ (c .before .before .before .before .before .before .before .before .if1 .left) (c .before .before .before .before .before .before .before .if2 .left) (sym (c .before .before .before .before .before .before .look .ensures .0) ∙ c .before .before .before .before .before .if3 .left) (sym (c .before .before .before .any-above .ensures) ∙ c .before .before .if5 .left) in
     sym (all ∙ listed-not frameEntrySize runEntry run-sized _ _ (ltb-true _ _ (sym (c .before .too-small .ensures) ∙ c .if6 .taken)))
 
 same-length : tie.Need-same-length
@@ -94,7 +83,7 @@ same-length c = search needs
 
 returns-7 : tie.Need-returns-7
 returns-7 c =
-    let all = all-in-order _ _ _ (c .before .before .before .before .before .before .before .before .before .before .before .before .before .before .before .if1 .left) (c .before .before .before .before .before .before .before .before .before .before .before .before .before .before .if2 .left) (sym (c .before .before .before .before .before .before .before .before .before .before .before .before .before .any-above .ensures) ∙ c .before .before .before .before .before .before .before .before .before .before .before .before .if3 .left) (sym (c .before .before .before .before .before .before .before .any-above2 .ensures) ∙ c .before .before .before .before .before .before .if5 .left) in
+    let all = all-in-order _ _ _ (c .before .before .before .before .before .before .before .before .before .before .before .before .if1 .left) (c .before .before .before .before .before .before .before .before .before .before .before .if2 .left) (sym (c .before .before .before .before .before .before .before .before .before .before .look .ensures .0) ∙ c .before .before .before .before .before .before .before .before .before .if3 .left) (sym (c .before .before .before .before .before .before .before .any-above .ensures) ∙ c .before .before .before .before .before .before .if5 .left) in
     put-listed frameEntrySize runEntry run-sized (c .before .before .put-rows .ensures) (ltb-false _ _ (sym (c .before .before .before .before .before .too-small .ensures) ∙ c .before .before .before .before .if6 .left)) ∙ sym all
 
 pub compare-frames-spec : {M : Type 1} → statement M
@@ -103,13 +92,10 @@ compare-frames-spec =
     (tie.spec
     returns
     returns-2
-    any-above-requires
+    look-requires
     returns-3
-    slice-aggregate-same
-    slice-aggregate-same-2
-    same-requires
     returns-4
-    any-above-requires-2
+    any-above-requires
     too-small-requires
     put-rows-requires
     returns-5
