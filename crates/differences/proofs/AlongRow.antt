@@ -2,7 +2,7 @@
 -- Assumes nothing.
 use Prim.Native.Nat.{ℕ, zero, suc, _+_, _-_, _≤_, _<_}
 use mathlib.Core.Path.{_≡_, refl, sym, _∙_, ap}
-use mathlib.Core.Bool.{Bool, true, false, _&&_, not, cond, true≢false}
+use mathlib.Core.Bool.{Bool, true, false, _&&_, not, cond}
 use mathlib.Core.List.{List, [], _∷_}
 use native.Mathlib.Nat.{not-suc-le-zero, add-zero, add-suc, suc-add}
 use native.Mathlib.Numerals.{add-one}
@@ -12,6 +12,7 @@ use lib.Dec.{eqb}
 use lib.ListN.{length, getD}
 use Rattle.differences.specs.Runs.{Run, alike, goesOn, begins, more, runAt, runsFrom}
 use Rattle.differences.specs.Put.{OneRun}
+use Rattle.differences.proofs.RowRuns.{more-within, more-ends}
 
 module _ (p : ℕ) (a b : List ℕ) where
   -- a place that is the same in both begins no run
@@ -53,29 +54,6 @@ module _ (p : ℕ) (a b : List ℕ) where
       by false e later =
           let g : suc n - 0 ≡ suc n = omega arith in
           rw (add-zero, g)
-
--- no more places go on than there are
-pub more-most : (a b : List ℕ) (n x : ℕ) → more a b n x ≤ n
-unfolding more
-more-most a b zero x = omega arith
-more-most a b (suc n) x = by (alike a b x) (more-most a b n (suc x))
-  where
-    by : (t : Bool) → more a b n (suc x) ≤ n → cond t (suc (more a b n (suc x))) 0 ≤ suc n
-    by true h = omega (arith, h)
-    by false h = omega arith
-
--- the place after those that go on does not
-pub more-ends : (a b : List ℕ) (n x : ℕ) → more a b n x < n → alike a b (x + more a b n x) ≡ false
-unfolding more
-more-ends a b zero x h = absurd (not-suc-le-zero h)
-more-ends a b (suc n) x h = by (alike a b x) refl (more-ends a b n (suc x)) h
-  where
-    k : ℕ
-    k = more a b n (suc x)
-
-    by : (t : Bool) → alike a b x ≡ t → (k < n → alike a b (suc x + k) ≡ false) → cond t (suc k) 0 < suc n → alike a b (x + cond t (suc k) 0) ≡ false
-    by true e later h = rw (add-suc, ← suc-add) (later (omega (arith, h)))
-    by false e later h = rw add-zero e
 
 -- the place after x goes on, or does not, or there is none
 pub more-on : (a b : List ℕ) (w x : ℕ) → x + 1 < w → alike a b x ≡ true → more a b (w - (x + 1)) x ≡ suc (more a b (w - (x + 1 + 1)) (x + 1))
@@ -155,7 +133,7 @@ runs-same p a (suc n) x = none-here p a a n x refl ∙ runs-same p a n (suc x)
 
 -- a run ends within its row
 pub run-within : (w : ℕ) (a b : List ℕ) (x last : ℕ) → x < w → last ≡ x + more a b (w - (x + 1)) x → last < w
-run-within w a b x last h e = omega (arith, e, more-most a b (w - (x + 1)) x)
+run-within w a b x last h e = omega (arith, e, more-within a b (w - (x + 1)) x)
 
 -- where all n places after x go on, there are n
 more-all : (a b : List ℕ) (n x : ℕ) → ((y : ℕ) → x ≤ y → y < x + n → alike a b y ≡ true) → more a b n x ≡ n

@@ -6,7 +6,7 @@ use mathlib.Core.List.{List, [], _++_}
 use native.Mathlib.Nat.{add-zero}
 use native.Mathlib.Numerals.{add-one}
 use native.Mathlib.Omega.{arith}
-use lib.ListN.{length, getD, take, drop, length-take, length-drop}
+use lib.ListN.{length, getD, take, drop, length-drop}
 use lib.Seq.{length-take-le, getD-take, getD-drop, ext-getD}
 use Rattle.picture.specs.Frame.{rowOf}
 use Rattle.differences.specs.ByRows.{byRows}
@@ -47,9 +47,6 @@ part f p =
     let e : p * 132 + 132 - p * 132 ≡ 132 = omega arith in
     rw e
 
-pub part-length : (f : List ℕ) (p : ℕ) → p * 132 + 132 ≤ length f → length (take (p * 132 + 132 - p * 132) (drop (p * 132) f)) ≡ 132
-part-length f p h = rw (length-take, length-drop) (omega arith)
-
 -- rows that are the same in both, where such rows give nothing, are passed over
 pub rows-over : {A : Type 0} (w : ℕ) (each : ℕ → List ℕ → List ℕ → List A) → ((p : ℕ) (a : List ℕ) → each p a a ≡ []) → (f g : List ℕ) (n : ℕ) → n * w ≤ length f → n * w ≤ length g
     → (k p : ℕ) → p + k ≤ n → SameRows w k p f g → byRows w each f g (n - p) p ≡ byRows w each f g (n - (p + k)) (p + k)
@@ -73,3 +70,6 @@ lent-places f g a k same i h =
     let e : a + k - a ≡ k = omega arith in
     let part : take k (drop a f) ≡ take k (drop a g) = rw e at same in
     sym (getD-take k (drop a f) i 0 h ∙ getD-drop a f i 0) ∙ ap (λ l. getD l i 0) part ∙ getD-take k (drop a g) i 0 h ∙ getD-drop a g i 0
+
+pub part-length : (f : List ℕ) (p : ℕ) → p * 132 + 132 ≤ length f → length (take (p * 132 + 132 - p * 132) (drop (p * 132) f)) ≡ 132
+part-length f p = lent-length f (p * 132) 132
