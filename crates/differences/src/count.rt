@@ -30,7 +30,7 @@ pub fn count_rows(first: &[u8], second: &[u8]) -> usize
     count
 }
 
-// The runs of a row; their number is the same in every row.
+// How many runs a row has, whatever its number.
 fn count_row(first: &[u8], second: &[u8]) -> u8
     requires { ⌜ (length (now first) ≡ width) × (length (now second) ≡ width) ⌝ }
     ensures { λ r. ⌜ r ≡ length (rowRuns width 0 (now (first .entry)) (now (second .entry))) ⌝ }
