@@ -355,6 +355,8 @@ class Header(unittest.TestCase):
         for group in (Number, Register, Power):
             names |= {member.name: member.value for member in group}
         names |= {f"RUN_{field.strip('_').upper()}": place for place, field in enumerate(DifferingRun._fields)}
+        of_byte = ("place_low", "place_high", *DifferingByte._fields[1:])  # a place is two bytes of its entry
+        names |= {f"BYTE_{field.strip('_').upper()}": place for place, field in enumerate(of_byte)}
         for name, value in defined.items():
             if not name.startswith("VERSION"):
                 self.assertEqual(names[name], int(value), name)
