@@ -35,6 +35,7 @@ module _ (f g : List ℕ) where
     -- every differing byte is listed
     pub every : (place : ℕ) → place < memorySize → content f place ≢ content g place → Some (λ byte. byte .place ≡ place) list
 
+-- For memories of any length; a place past the end of a list counts as 0.
 pub record TheOnlyBytes : Type 0 where
   -- the bytes of any two memories meet the rule
   pub meets : (f g : List ℕ) → MemoryRule f g (bytesOf f g)

@@ -59,16 +59,10 @@ returns-4 : tie.Need-returns-4
 returns-4 c = sym (put-back .sameFrames _ _ _ (c .before .before .before .before .if1 .left) (c .before .before .before .if2 .left) (none-above frameSize _ (sym (c .before .before .look .ensures .0) ∙ c .before .if3 .left)) (c .before .before .look .ensures .1 (c .if4 .taken)))
 
 any-above-requires : tie.Need-any-above-requires
-any-above-requires c κs = c .before .before .before .if2 .left
+any-above-requires c κs = search needs
 
 too-small-requires : tie.Need-too-small-requires
 too-small-requires c κs = search needs
-
-put-rows-requires : tie.Need-put-rows-requires
-put-rows-requires c κs =
-    let a = c .before .before .before .before .before .before .before .before .before .before .before .before .before .args in
-    let room : length (runsOf (now (a .first)) (now (a .second))) * frameEntrySize ≤ length (now (a .list)) = ltb-false _ _ (sym (c .before .before .too-small .ensures) ∙ c .before .if6 .left) in
-    ((c .before .before .before .before .before .before .before .before .before .if1 .left, c .before .before .before .before .before .before .before .before .if2 .left), omega (arith, room))
 
 returns-5 : tie.Need-returns-5
 returns-5 c = sym (second-above _ _ _ (c .before .before .before .before .before .before .if1 .left) (c .before .before .before .before .before .if2 .left) (sym (c .before .before .before .before .look .ensures .0) ∙ c .before .before .before .if3 .left) (sym (c .before .any-above .ensures) ∙ c .if5 .taken))
@@ -77,6 +71,12 @@ returns-6 : tie.Need-returns-6
 returns-6 c =
     let all = all-in-order _ _ _ (c .before .before .before .before .before .before .before .before .if1 .left) (c .before .before .before .before .before .before .before .if2 .left) (sym (c .before .before .before .before .before .before .look .ensures .0) ∙ c .before .before .before .before .before .if3 .left) (sym (c .before .before .before .any-above .ensures) ∙ c .before .before .if5 .left) in
     sym (all ∙ listed-not frameEntrySize runEntry run-sized _ _ (ltb-true _ _ (sym (c .before .too-small .ensures) ∙ c .if6 .taken)))
+
+put-rows-requires : tie.Need-put-rows-requires
+put-rows-requires c κs =
+    let a = c .before .before .before .before .before .before .before .before .before .before .before .before .before .args in
+    let room : length (runsOf (now (a .first)) (now (a .second))) * frameEntrySize ≤ length (now (a .list)) = ltb-false _ _ (sym (c .before .before .too-small .ensures) ∙ c .before .if6 .left) in
+    ((c .before .before .before .before .before .before .before .before .before .if1 .left, c .before .before .before .before .before .before .before .before .if2 .left), omega (arith, room))
 
 same-length : tie.Need-same-length
 same-length c = search needs
