@@ -505,9 +505,10 @@ uint8_t plain_draw(const uint8_t *state, size_t state_len,
     return SSD1815B_TAKEN;
   }
   unsigned in_use = state[MULTIPLEX] + 1u;
+  unsigned above = (ROWS - in_use) / 2;
   for (unsigned p = 0; p < ROWS; p++) {
     uint8_t *row = frame + (size_t)p * COLUMNS;
-    unsigned com = (p + state[OFFSET]) % ROWS;
+    unsigned com = (p + state[OFFSET] + ROWS - above) % ROWS;
     if (com >= in_use) {
       memset(row, 0, COLUMNS);
     } else {

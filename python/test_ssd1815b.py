@@ -1,7 +1,7 @@
 #!/usr/bin/env python3
 """Tests of ssd1815b.py: document 01's samples, refusals, misuse, the search for the library, the README's examples.
 
-What is expected is what document 01 says.  SSD1815B_LIBRARY names the library.
+What is expected is what documents 01 and 02 say.  SSD1815B_LIBRARY names the library.
 """
 
 from __future__ import annotations
@@ -47,7 +47,7 @@ def ram_row(memory: bytes, number: int) -> bytes:
 
 
 class Samples(unittest.TestCase):
-    """The twelve sample events of document 01, by their numbers there."""
+    """The twelve sample events of document 01, by their numbers there; 9 and 11 as document 02, Order 2, has them."""
 
     def test_01_data(self) -> None:
         chip = Chip()
@@ -100,7 +100,7 @@ class Samples(unittest.TestCase):
     def test_09_entire_on(self) -> None:
         frame = commanded(0xA8, 0x0F, 0xAF, 0xA5).draw().frame
         for number in range(65):
-            lit = number <= 15 or number == 64
+            lit = 24 <= number <= 39 or number == 64
             self.assertEqual(row(frame, number), bytes([lit]) * 132, f"row {number}")
 
     def test_10_start_line_and_offset(self) -> None:
@@ -114,7 +114,7 @@ class Samples(unittest.TestCase):
     def test_11_rows_reversed(self) -> None:
         chip = commanded(0xA8, 0x0F, 0xC8, 0xAF)
         chip.memory = random.Random(11).randbytes(1188)
-        self.assertEqual(row(chip.draw().frame, 0), ram_row(chip.memory, 15))
+        self.assertEqual(row(chip.draw().frame, 24), ram_row(chip.memory, 15))
 
     def test_12_display_off(self) -> None:
         self.assertEqual(commanded(0xA5).draw(), (0, bytes(8580)))

@@ -1,6 +1,7 @@
 /*
-** Document 01, "Sample events", by the calls that a host makes.  What is
-** expected here was written from document 01.
+** Document 01, "Sample events", by the calls that a host makes; 9 and 11 as
+** document 02, Order 2, has them.  What is expected here was written from these
+** documents.
 */
 #include <stdbool.h>
 #include <string.h>
@@ -175,7 +176,7 @@ static void sample_9(void)
   CHECK(command(&chip, 0xAF) == 0);
   CHECK(command(&chip, 0xA5) == 0);
   draw(&chip);
-  CHECK(lit_rows_are(0, 15, true));
+  CHECK(lit_rows_are(24, 39, true));
 }
 
 static void sample_10(void)
@@ -199,7 +200,7 @@ static void sample_11(void)
   CHECK(command(&chip, 0xA8) == 0);
   CHECK(command(&chip, 0x0F) == 0);
   CHECK(command(&chip, 0xC8) == 0);
-  CHECK(shows(chip, 0, 15));
+  CHECK(shows(chip, 24, 15));
 }
 
 static void sample_12(void)

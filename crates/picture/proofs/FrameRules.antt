@@ -1,6 +1,6 @@
 -- The rules of the frame, for any number of rows in use.
 -- Assumes nothing.
-use mathlib.Core.Path.{_≡_, refl, _∙_}
+use mathlib.Core.Path.{_≡_, refl, _∙_, ap}
 use mathlib.Core.Bool.{Bool, true, false, cond}
 use mathlib.Core.List.{List}
 use Prim.Native.Nat.{ℕ, zero, suc, _+_, _-_, _%_, _≤_, _<_}
@@ -10,7 +10,7 @@ use lib.Dec.{eqb}
 use Rattle.bus.proofs.Tests.{chosen}
 use Rattle.constants.specs.Sizes.{width, height}
 use Rattle.bus.specs.declared.registers.Registers.{Registers}
-use Rattle.picture.specs.Scan.{panelRow, ramRow, comOf, used, ramRowOf, panelShows, rowShows, columnOf}
+use Rattle.picture.specs.Scan.{panelRow, comNumber, ramRow, comOf, used, ramRowOf, panelShows, rowShows, columnOf}
 use Rattle.picture.specs.Rows.{rowsInUse, scanOf}
 use Rattle.picture.specs.Frame.{turned, shownBit, whileOn, segment, line, frame, rowOf}
 use Rattle.picture.specs.FrameRules.{comAt, PanelRowRules, IconLineRules, SegmentRules, FrameRules}
@@ -30,21 +30,26 @@ unfolding segment whileOn
 dark-shows r memory x = chosen (λ v. v ≡ 0) (eqb (r .on) 0) _ _ (λ e. refl) (λ e. refl)
 
 module _ (r : Registers) (memory : List ℕ) (p : ℕ) (l : p < height) where
+  -- the COM by the chip's scan and by the chip's own numbers
+  com-at : comOf (scanOf r) (panelRow p) ≡ comNumber (comAt r p)
+  unfolding comOf
+  com-at = ap (λ a. comNumber (a % 64)) (omega arith)
+
   row-dark : rowsInUse r ≤ comAt r p → rowShows (scanOf r) (panelRow p) ≡ Shown.Dark
-  unfolding rowShows panelShows used comOf
-  row-dark h = rw (lt-ltb p height l, le-ltb (comAt r p) (rowsInUse r) h)
+  unfolding rowShows panelShows used
+  row-dark h = rw (lt-ltb p height l, com-at, le-ltb (comAt r p) (rowsInUse r) h)
 
   row-normal : r .«row_direction» ≡ 0 → comAt r p < rowsInUse r → rowShows (scanOf r) (panelRow p) ≡ Shown.Ram (ramRow ((r .start + comAt r p) % 64))
-  unfolding rowShows panelShows used comOf ramRowOf
-  row-normal d h = rw (lt-ltb p height l, lt-ltb (comAt r p) (rowsInUse r) h, d)
+  unfolding rowShows panelShows used ramRowOf
+  row-normal d h = rw (lt-ltb p height l, com-at, lt-ltb (comAt r p) (rowsInUse r) h, d)
 
   row-reversed : r .«row_direction» ≡ 1 → comAt r p < rowsInUse r → rowShows (scanOf r) (panelRow p) ≡ Shown.Ram (ramRow ((r .start + rowsInUse r - 1 - comAt r p) % 64))
-  unfolding rowShows panelShows used comOf ramRowOf
-  row-reversed d h = rw (lt-ltb p height l, lt-ltb (comAt r p) (rowsInUse r) h, d)
+  unfolding rowShows panelShows used ramRowOf
+  row-reversed d h = rw (lt-ltb p height l, com-at, lt-ltb (comAt r p) (rowsInUse r) h, d)
 
-  row-used : comAt r p < rowsInUse r → rowShows (scanOf r) (panelRow p) ≡ Shown.Ram (ramRowOf (scanOf r) (comOf (scanOf r) (panelRow p)))
-  unfolding rowShows panelShows used comOf
-  row-used h = rw (lt-ltb p height l, lt-ltb (comAt r p) (rowsInUse r) h)
+  row-used : comAt r p < rowsInUse r → rowShows (scanOf r) (panelRow p) ≡ Shown.Ram (ramRowOf (scanOf r) (comNumber (comAt r p)))
+  unfolding rowShows panelShows used
+  row-used h = rw (lt-ltb p height l, com-at, lt-ltb (comAt r p) (rowsInUse r) h)
 
   panel-row-rules : PanelRowRules r memory p
   panel-row-rules = record {

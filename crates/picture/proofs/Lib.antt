@@ -18,6 +18,8 @@ pub mod AllLit
 pub mod Drawing
 -- the rules of the frame, for any number of rows in use
 pub mod FrameRules
+-- Order 2: where the rows in use are
+pub mod CentredBand
 -- one outcome for each public call
 pub mod Settled
 -- what drawing does not ask

@@ -1,4 +1,4 @@
--- Document 01, "The frame", rule by rule over the chip's own numbers, for any number of rows in use.
+-- Document 01, "The frame", with document 02's Order 2, rule by rule over the chip's own numbers, for any number of rows in use.
 use Prim.Native.Nat.{ℕ, _+_, _-_, _%_, _≤_, _<_}
 use mathlib.Core.Path.{_≡_}
 use mathlib.Core.List.{List}
@@ -6,13 +6,13 @@ use Rattle.constants.specs.Sizes.{width, height}
 use Rattle.bus.specs.Memory.{address}
 use Rattle.bus.specs.declared.registers.Registers.{Registers}
 use Rattle.picture.specs.Scan.{ramRow}
-use Rattle.picture.specs.Rows.{rowsInUse}
+use Rattle.picture.specs.Rows.{rowsInUse, rowsAbove}
 use Rattle.picture.specs.Frame.{bit, turned, shownBit, line, frame, rowOf}
 use Rattle.picture.specs.declared.rows.RamRow.{RamRow}
 
--- Panel row p belongs to COM k = (p + offset) modulo 64.
+-- Panel row p belongs to COM k = (p + offset - t) modulo 64 (Order 2).
 abbrev pub comAt : Registers → ℕ → ℕ
-comAt r p = (p + r .offset) % 64
+comAt r p = (p + r .offset + 64 - rowsAbove r) % 64
 
 pub record PanelRowRules (r : Registers) (memory : List ℕ) (p : ℕ) : Type 0 where
   -- If k is M or more, the row is dark: reverse does not turn it round, and entire on does not light it.

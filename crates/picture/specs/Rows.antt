@@ -1,5 +1,5 @@
--- Document 01, "The frame": the numbers that this chip's scan goes by.
-use Prim.Native.Nat.{ℕ, _+_}
+-- The numbers that this chip's scan goes by: document 01, "The frame", and document 02, Order 2.
+use Prim.Native.Nat.{ℕ, _+_, _-_, _/_}
 use Rattle.constants.specs.Sizes.{height}
 use Rattle.bus.specs.declared.registers.Registers.{Registers}
 use Rattle.picture.specs.Scan.{Scan}
@@ -8,9 +8,13 @@ use Rattle.picture.specs.Scan.{Scan}
 abbrev pub rowsInUse : Registers → ℕ
 rowsInUse r = r .multiplex + 1
 
--- Panel row p belongs to COM k = (p + offset) modulo 64: the shift is the offset.
+-- t, the rows above the band where the offset is 0: (64 - M) / 2 rounded down.
+abbrev pub rowsAbove : Registers → ℕ
+rowsAbove r = (height - rowsInUse r) / 2
+
+-- Panel row p belongs to COM (p + offset - t) modulo 64 (Order 2): the shift is offset - t, counted on by 64, since a natural number does not go below 0.
 abbrev pub shift : Registers → ℕ
-shift r = r .offset
+shift r = r .offset + height - rowsAbove r
 
 abbrev pub scanOf : Registers → Scan
 scanOf r = record { size = height; inUse = rowsInUse r; shift = shift r; start = r .start; direction = r .«row_direction» }

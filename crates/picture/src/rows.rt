@@ -3,7 +3,7 @@ ghost use mathlib.Core.Path.{_≡_};
 ghost use Prim.Native.Nat.{_≤_, _<_, _-_, _%_};
 ghost use Rattle.constants.specs.Sizes.{height};
 ghost use Rattle.picture.specs.Scan.{comNumber, comOf, used, ramRowOf, rowShows};
-ghost use Rattle.picture.specs.Rows.{shift, scanOf};
+ghost use Rattle.picture.specs.Rows.{rowsInUse, rowsAbove, shift, scanOf};
 use bus::registers::Registers;
 use constants::sizes::HEIGHT;
 
@@ -77,11 +77,30 @@ pub fn row_shows(registers: Registers, row: PanelRow) -> Shown
     Shown::Ram(RamRow(HEIGHT))
 }
 
-// The shift from a panel row to its COM.
+// The shift from a panel row to its COM: the offset less the rows above the band, counted on by 64.
 fn shifted_by(registers: Registers) -> u16
     ensures { λ r. ⌜ r ≡ shift registers ⌝ }
 {
-    registers.offset as u16
+    let offset = registers.offset as u16;
+    offset + (HEIGHT as u16) - rows_above(registers)
+}
+
+// The rows above the band where the offset is 0: half of those not in use, rounded down.
+fn rows_above(registers: Registers) -> u16
+    ensures { λ r. ⌜ r ≡ rowsAbove registers ⌝ }
+{
+    let in_use = rows_in_use(registers);
+    if in_use < (HEIGHT as u16) {
+        return ((HEIGHT as u16) - in_use) / 2;
+    }
+    0
+}
+
+// M, the dot rows in use.
+fn rows_in_use(registers: Registers) -> u16
+    ensures { λ r. ⌜ r ≡ rowsInUse registers ⌝ }
+{
+    (registers.multiplex as u16) + 1
 }
 
 // A row counted on past the last panel row comes round to the first.
