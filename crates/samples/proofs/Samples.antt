@@ -1,12 +1,12 @@
 -- The twelve sample events hold.
 -- Assumes nothing.
-use mathlib.Core.Path.{_≡_, refl, ap, _∙_}
-use mathlib.Core.Bool.{Bool, true, false, cond, _||_}
+use mathlib.Core.Path.{_≡_, refl}
+use mathlib.Core.Bool.{Bool, true, false, cond, _&&_, _||_}
 use mathlib.Core.List.{List}
 use Prim.Native.Nat.{ℕ, _+_, _%_, _<_}
 use native.Mathlib.Decide.{decLt}
-use borrow.Author.Tests.{lt-ltb, ne-eqb}
-use lib.Dec.{leb, ltb, eqb, leb·suc-suc}
+use borrow.Author.Tests.{lt-ltb, le-ltb, le-leb, lt-leb, ne-eqb}
+use lib.Dec.{leb, ltb, eqb}
 use Rattle.constants.specs.Sizes.{width, height, frameRows}
 use Rattle.bus.specs.declared.registers.Registers.{Registers}
 use Rattle.picture.specs.Frame.{whileOn, segment, grid, frame}
@@ -31,17 +31,23 @@ unfolding segment whileOn
 shade r memory row x on entire true = rw (on, entire)
 shade r memory row x on entire false = rw on
 
--- with 16 rows in use and no offset, those are rows 0 to 15 and the icons
-sixteen-lit : (r : Registers) (memory : List ℕ) → r .on ≡ 1 → r .entire ≡ 1 → r .offset ≡ 0 → r .multiplex ≡ 15 → frame r memory ≡ grid width frameRows (λ y x. cond (leb y 15 || eqb y 64) 1 0)
-unfolding frame rowShows panelShows comOf used
+-- with 16 rows in use and no offset, those are rows 24 to 39: their COMs are y - 24, those of the rows above y + 40
+sixteen-used : (r : Registers) (y : ℕ) → y < height → r .offset ≡ 0 → r .multiplex ≡ 15 → used (scanOf r) (comOf (scanOf r) (panelRow y)) ≡ (leb 24 y && leb y 39)
+unfolding comOf used
+sixteen-used r y l offset multiplex = rw (offset, multiplex) (either (decLt y 24) (decLt y 40))
+  where
+    either : Dec (y < 24) → Dec (y < 40) → ltb ((y + 40) % 64) 16 ≡ (leb 24 y && leb y 39)
+    either (yes k) _ = rw (le-ltb ((y + 40) % 64) 16 (omega arith), lt-leb 24 y k)
+    either (no k) (yes h) = rw (lt-ltb ((y + 40) % 64) 16 (omega arith), le-leb 24 y (omega arith), le-leb y 39 (omega arith))
+    either (no k) (no h) = rw (le-ltb ((y + 40) % 64) 16 (omega arith), le-leb 24 y (omega arith), lt-leb y 39 (omega arith))
+
+-- entire on lights them and the icons
+sixteen-lit : (r : Registers) (memory : List ℕ) → r .on ≡ 1 → r .entire ≡ 1 → r .offset ≡ 0 → r .multiplex ≡ 15 → frame r memory ≡ grid width frameRows (λ y x. cond (leb 24 y && leb y 39 || eqb y 64) 1 0)
+unfolding frame rowShows panelShows
 sixteen-lit r memory on entire offset multiplex = grid-same width frameRows _ _ (λ y x l k. place y x l (decLt y height))
   where
-    place : (y x : ℕ) → y < frameRows → Dec (y < height) → segment r memory (rowShows (scanOf r) (panelRow y)) x ≡ cond (leb y 15 || eqb y 64) 1 0
-    place y x l (yes k) =
-        let k-is : (y + r .offset) % height ≡ y = omega arith in
-        let m-is : r .multiplex + 1 ≡ 16 = omega arith in
-        let test = ap (λ k. ltb k (r .multiplex + 1)) k-is ∙ ap (λ m. ltb y m) m-is ∙ leb·suc-suc y 15 in
-        rw (lt-ltb y height k, test, ne-eqb y 64 (omega arith)) (shade r memory _ x on entire (leb y 15))
+    place : (y x : ℕ) → y < frameRows → Dec (y < height) → segment r memory (rowShows (scanOf r) (panelRow y)) x ≡ cond (leb 24 y && leb y 39 || eqb y 64) 1 0
+    place y x l (yes k) = rw (lt-ltb y height k, sixteen-used r y k offset multiplex, ne-eqb y 64 (omega arith)) (shade r memory _ x on entire (leb 24 y && leb y 39))
     place y x l (no n) =
         let e : y ≡ 64 = omega arith in
         rw e (shade r memory (ramRow height) x on entire true)
@@ -59,7 +65,7 @@ samples = record {
   sample8 = (refl, refl);
   sample9 = sixteen-lit _ _ refl refl refl refl;
   sample10 = (λ memory. row-plain _ memory 0 5 (omega arith) refl refl refl refl refl, λ memory. row-plain _ memory 63 4 (omega arith) refl refl refl refl refl, λ memory. row-plain _ memory 0 0 (omega arith) refl refl refl refl refl, λ memory. row-plain _ memory 63 1 (omega arith) refl refl refl refl refl);
-  sample11 = λ memory. row-plain _ memory 0 15 (omega arith) refl refl refl refl refl;
+  sample11 = λ memory. row-plain _ memory 24 15 (omega arith) refl refl refl refl refl;
   sample12 = off-dark _ _ refl;
 }
 

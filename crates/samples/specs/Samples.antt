@@ -1,7 +1,7 @@
--- Document 01, "Sample events": the twelve as a single table over the meanings, from power-on with zero memory unless said.
+-- Document 01, "Sample events", 9 and 11 as document 02's Order 2 has them: the twelve as a single table over the meanings, from power-on with zero memory unless said.
 use Prim.Native.Nat.{ℕ}
 use mathlib.Core.Path.{_≡_}
-use mathlib.Core.Bool.{cond, _||_}
+use mathlib.Core.Bool.{cond, _&&_, _||_}
 use mathlib.Core.List.{List, [], _∷_, _++_, map}
 use lib.Dec.{leb, eqb}
 use lib.ListN.{getD, replicate}
@@ -74,12 +74,12 @@ pub record Samples : Type 0 where
   pub sample7 : (numberFor (dataWritten 0x00) (fromPowerOn (commands (0x81 ∷ []))) ≡ 6) × (fromPowerOn (commandByte 0x81 ∷ dataWritten 0x00 ∷ commandByte 0xC5 ∷ []) .registers .contrast ≡ 5)
   -- 8. D3 40: 5; then 3F: offset 63.
   pub sample8 : (numberFor (commandByte 0x40) (fromPowerOn (commands (0xD3 ∷ []))) ≡ 5) × (fromPowerOn (commands (0xD3 ∷ 0x40 ∷ 0x3F ∷ [])) .registers .offset ≡ 63)
-  -- 9. A8 0F, AF, A5: lit are panel rows 0 to 15 and the icons.
-  pub sample9 : picture (fromPowerOn (commands (0xA8 ∷ 0x0F ∷ 0xAF ∷ 0xA5 ∷ []))) ≡ grid width frameRows (λ y x. cond (leb y 15 || eqb y 64) 1 0)
+  -- 9. A8 0F, AF, A5: lit are panel rows 24 to 39 and the icons (Order 2).
+  pub sample9 : picture (fromPowerOn (commands (0xA8 ∷ 0x0F ∷ 0xAF ∷ 0xA5 ∷ []))) ≡ grid width frameRows (λ y x. cond (leb 24 y && leb y 39 || eqb y 64) 1 0)
   -- 10. Start line 3, offset 2, M = 64: panel row 0 shows RAM row 5, row 63 shows 4. Rows reversed: 0 and 1.
   pub sample10 : Shows startThreeOffsetTwo 0 5 × Shows startThreeOffsetTwo 63 4 × Shows (startThreeOffsetTwo ++ commands (0xC8 ∷ [])) 0 0 × Shows (startThreeOffsetTwo ++ commands (0xC8 ∷ [])) 63 1
-  -- 11. A8 0F, rows reversed: panel row 0 shows RAM row 15.
-  pub sample11 : Shows (commands (0xA8 ∷ 0x0F ∷ 0xC8 ∷ 0xAF ∷ [])) 0 15
+  -- 11. A8 0F, rows reversed: panel row 24 shows RAM row 15 (Order 2).
+  pub sample11 : Shows (commands (0xA8 ∷ 0x0F ∷ 0xC8 ∷ 0xAF ∷ [])) 24 15
   -- 12. A5 with display off: all dark.
   pub sample12 : picture (fromPowerOn (commands (0xA5 ∷ []))) ≡ replicate frameSize 0
 
