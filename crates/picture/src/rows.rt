@@ -81,19 +81,18 @@ pub fn row_shows(registers: Registers, row: PanelRow) -> Shown
 fn shifted_by(registers: Registers) -> u16
     ensures { λ r. ⌜ r ≡ shift registers ⌝ }
 {
-    let offset = registers.offset as u16;
-    offset + (HEIGHT as u16) - rows_above(registers)
+    (registers.offset as u16) + rows_not_above(registers)
 }
 
-// The rows above the band where the offset is 0: half of those not in use, rounded down.
-fn rows_above(registers: Registers) -> u16
-    ensures { λ r. ⌜ r ≡ rowsAbove registers ⌝ }
+// The panel rows that are not above the band where the offset is 0: half of 64 + M, rounded up. Sums alone are worked out once for all rows (DECISIONS 104).
+fn rows_not_above(registers: Registers) -> u16
+    ensures { λ r. ⌜ r ≡ height - rowsAbove registers ⌝ }
 {
     let in_use = rows_in_use(registers);
     if in_use < (HEIGHT as u16) {
-        return ((HEIGHT as u16) - in_use) / 2;
+        return ((HEIGHT as u16) + in_use + 1) / 2;
     }
-    0
+    HEIGHT as u16
 }
 
 // M, the dot rows in use.
