@@ -71,6 +71,27 @@ fn the_row_rule_for_all_settings() {
     }
 }
 
+/// The row of the frame that shows a RAM row; none if it is not shown.
+fn row_showing(rig: &Rig, ram_row: usize) -> Option<usize> {
+    if ram_row == 64 {
+        return Some(64);
+    }
+    let start_line = i32::from(rig.state[START_LINE]);
+    let offset = i32::from(rig.state[OFFSET]);
+    let in_use = i32::from(rig.state[MULTIPLEX]) + 1;
+    let ram_row = i32::try_from(ram_row).unwrap();
+    let com = if rig.state[ROW_DIRECTION] == 0 {
+        (ram_row - start_line).rem_euclid(64)
+    } else {
+        (start_line + in_use - 1 - ram_row).rem_euclid(64)
+    };
+    // The middle is between rows 31 and 32; of an odd M, the row left over is
+    // above it.
+    let first_row = 32 - (in_use + 1) / 2;
+    let row = (first_row + com - offset).rem_euclid(64);
+    (com < in_use).then(|| usize::try_from(row).unwrap())
+}
+
 /// The frame the other way round: each memory bit is carried to the glass.
 fn carried_to_the_glass(rig: &Rig) -> Vec<u8> {
     let state = &rig.state;
@@ -78,31 +99,15 @@ fn carried_to_the_glass(rig: &Rig) -> Vec<u8> {
     if state[DISPLAY_ON] == 0 {
         return frame;
     }
-    let start_line = i32::from(state[START_LINE]);
-    let offset = i32::from(state[OFFSET]);
-    let in_use = i32::from(state[MULTIPLEX]) + 1;
     for (place, &byte) in rig.memory.iter().enumerate() {
         let (page, column) = (place / 132, place % 132);
         for bit in 0..8 {
-            let ram_row = i32::try_from(8 * page + bit).unwrap();
             if page == 8 && bit > 0 {
                 continue;
             }
-            let mut row = 64;
-            if page < 8 {
-                let com = if state[ROW_DIRECTION] == 0 {
-                    (ram_row - start_line).rem_euclid(64)
-                } else {
-                    (start_line + in_use - 1 - ram_row).rem_euclid(64)
-                };
-                if com >= in_use {
-                    continue;
-                }
-                // The middle is between rows 31 and 32; of an odd M, the row
-                // left over is above it.
-                let first_row = 32 - (in_use + 1) / 2;
-                row = (first_row + com - offset).rem_euclid(64);
-            }
+            let Some(row) = row_showing(rig, 8 * page + bit) else {
+                continue;
+            };
             let segment = if state[COLUMN_DIRECTION] == 0 {
                 column
             } else {
@@ -115,7 +120,7 @@ fn carried_to_the_glass(rig: &Rig) -> Vec<u8> {
             if state[ENTIRE_ON] == 1 {
                 lit = 1;
             }
-            frame[132 * usize::try_from(row).unwrap() + segment] = lit;
+            frame[132 * row + segment] = lit;
         }
     }
     frame
