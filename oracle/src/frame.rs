@@ -32,10 +32,19 @@ pub struct RamRow(pub usize);
 /// The RAM row of the icons.
 pub const ICON_ROW: RamRow = RamRow(64);
 
+/// The dark rows above the band of the rows in use while the offset is 0:
+/// Order 2's t.
+#[must_use]
+pub fn rows_above_band(registers: Registers) -> usize {
+    (DOT_ROWS - usize::from(registers.rows_in_use())) / 2
+}
+
 /// The COM a panel row belongs to.
 #[must_use]
 pub fn com_of(registers: Registers, panel_row: PanelRow) -> Com {
-    Com((panel_row.0 + usize::from(registers.offset)) % DOT_ROWS)
+    // Without the 64, which modulo 64 is nothing, this could be below 0.
+    let sum = DOT_ROWS + panel_row.0 + usize::from(registers.offset) - rows_above_band(registers);
+    Com(sum % DOT_ROWS)
 }
 
 /// The RAM row a COM shows; none if the COM is not in use.

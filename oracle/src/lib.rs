@@ -1,6 +1,6 @@
-//! The SSD1815B as document 01 states it, with Order 1 of document 02, written
-//! from documents 00, 01 and 02 alone, to be compared with a model written by
-//! other people.
+//! The SSD1815B as document 01 states it, with Orders 1 and 2 of document 02,
+//! written from documents 00, 01 and 02 alone, to be compared with a model
+//! written by other people.
 //!
 //! The model: [`registers`], [`command`], [`memory`], [`event`], [`frame`],
 //! [`trace`], [`listing`], [`compare`], each answering with the numbers of

@@ -19,8 +19,8 @@ use oracle::text::from_hex;
 use oracle::trace;
 
 const HELP: &str = "\
-oracle: the SSD1815B as document 01 states it, with Order 1 of document 02, to
-compare another model with
+oracle: the SSD1815B as document 01 states it, with Orders 1 and 2 of document
+02, to compare another model with
 
 usage:
   oracle list < trace

@@ -1,12 +1,13 @@
 //! The whole stream of cases: the sweep of the base, then random cases of each
-//! of its kinds; then the same for the comparisons of Order 1.
+//! of its kinds; then the same for the comparisons of Order 1; then the sweep
+//! of the bands of Order 2, whose random cases are the base's.
 
 use std::io;
 
 use crate::cases::Case;
 use crate::generate;
 use crate::random::Random;
-use crate::sweep::{Sink, sweep, sweep_of_comparisons};
+use crate::sweep::{Sink, sweep, sweep_of_bands, sweep_of_comparisons};
 
 /// How many cases of each kind to make, and from what seed.
 #[derive(Clone, Copy, PartialEq, Eq, Debug)]
@@ -77,10 +78,14 @@ pub fn each_case(plan: &Plan, sink: &mut Sink) -> io::Result<()> {
     for _ in 0..plan.listings {
         sink(Case::Listing(generate::listing(&mut random)))?;
     }
-    each_comparison(plan, sink)
+    each_comparison(plan, sink)?;
+    if plan.sweep {
+        sweep_of_bands(sink)?;
+    }
+    Ok(())
 }
 
-/// The cases of Order 1. They come last, so that the cases of the base keep
+/// The cases of Order 1. They come after those of the base, which so keep
 /// their places in the stream.
 fn each_comparison(plan: &Plan, sink: &mut Sink) -> io::Result<()> {
     if plan.sweep {

@@ -1,5 +1,6 @@
 //! Counts of what a stream of cases has reached.
 
+mod bands;
 mod compared;
 
 use std::fmt;
@@ -11,7 +12,8 @@ use crate::listing::LONGEST_TRACE;
 use crate::memory::{COLUMNS, ICON_PAGE, LAST_COLUMN, MEMORY_LENGTH, place};
 use crate::refusal::TAKEN;
 use crate::registers::{Awaited, FIELDS, IMAGE_LENGTH, Image, Registers};
-use crate::trace::{HEADER_LENGTH, Payload, Record, first_record};
+use crate::trace::{HEADER_LENGTH, Payload, Record, first_record, run_from_power_on};
+use bands::BandCoverage;
 use compared::ComparedCoverage;
 
 /// Counts of things of one sort.
@@ -217,6 +219,7 @@ pub struct Coverage {
     run_situations: Group,
     listing_situations: Group,
     compared: ComparedCoverage,
+    bands: BandCoverage,
 }
 
 impl Default for Coverage {
@@ -305,6 +308,7 @@ impl Coverage {
             run_situations: Group::new("situations of runs", RUN_SITUATIONS),
             listing_situations: Group::new("situations of listings", LISTING_SITUATIONS),
             compared: ComparedCoverage::new(),
+            bands: BandCoverage::new(),
         }
     }
 
@@ -345,6 +349,7 @@ impl Coverage {
             &self.listing_situations,
         ];
         groups.extend(self.compared.groups());
+        groups.extend(self.bands.groups());
         groups
     }
 
@@ -637,6 +642,7 @@ impl Coverage {
         }
         self.offsets.hit(registers.offset);
         self.start_lines.hit(registers.start_line);
+        self.bands.see_draw(registers);
     }
 
     fn see_listing(&mut self, listing: &Listing) {
@@ -661,6 +667,10 @@ impl Coverage {
                 (false, None) => "lit places",
                 (false, Some(_)) => "refused, lit places",
             });
+        let (registers, _, _) = run_from_power_on(&listing.trace);
+        if registers.display_on {
+            self.bands.see_listing(registers);
+        }
     }
 }
 

@@ -1,6 +1,7 @@
 //! Cases that are the same for every seed: the small spaces, gone through
 //! value by value.
 
+mod bands;
 mod compared_frames;
 mod compared_memories;
 
@@ -38,6 +39,15 @@ pub fn sweep(sink: &mut Sink) -> io::Result<()> {
 pub fn sweep_of_comparisons(sink: &mut Sink) -> io::Result<()> {
     compared_frames::compared_frames(sink)?;
     compared_memories::compared_memories(sink)
+}
+
+/// Gives every band of the sweep, drawn or listed, to the sink.
+///
+/// # Errors
+/// Those of the sink.
+pub fn sweep_of_bands(sink: &mut Sink) -> io::Result<()> {
+    bands::drawings(sink)?;
+    bands::listings(sink)
 }
 
 /// Registers of which each differs from power-on.

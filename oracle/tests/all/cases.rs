@@ -1,5 +1,6 @@
 //! The stream of cases: its format, its honesty, and what it reaches.
 
+use std::collections::HashSet;
 use std::io;
 
 use oracle::cases::{Case, Comparison, list_pattern, pattern};
@@ -23,6 +24,21 @@ fn small(seed: u64) -> Plan {
         listings: 60,
         compared_frames: 60,
         compared_memories: 120,
+    }
+}
+
+/// The cases that are the same for every seed, and no others.
+fn only_the_sweep() -> Plan {
+    Plan {
+        seed: 0,
+        sweep: true,
+        singles: 0,
+        events: 0,
+        runs: 0,
+        draws: 0,
+        listings: 0,
+        compared_frames: 0,
+        compared_memories: 0,
     }
 }
 
@@ -389,7 +405,8 @@ fn is_as_called<const ENTRY: usize>(
     assert!(list == expected);
 }
 
-/// The random cases alone reach everything that is counted.
+/// The random cases alone reach everything that is counted but a few places
+/// of the band for one M or another.
 #[test]
 fn everything_is_reached_without_the_sweep() {
     let plan = Plan {
@@ -403,38 +420,64 @@ fn everything_is_reached_without_the_sweep() {
         compared_frames: 3_000,
         compared_memories: 6_000,
     };
-    let mut coverage = Coverage::new();
-    each_case(&plan, &mut |case| {
-        coverage.see(&case);
-        Ok(())
-    })
-    .unwrap();
-    assert_eq!(coverage.faults(), Vec::<String>::new());
+    let mut faults = faults_of(&plan);
+    faults.retain(|fault| !(fault.starts_with("bands ") && fault.contains(", M: ")));
+    assert_eq!(faults, Vec::<String>::new());
 }
 
-/// The sweep alone reaches every class of comparisons, whatever the seed.
+/// The sweep alone reaches every class of comparisons and every place of the
+/// band, whatever the seed.
 #[test]
-fn every_comparison_is_reached_by_the_sweep() {
-    let plan = Plan {
-        sweep: true,
-        singles: 0,
-        events: 0,
-        runs: 0,
-        draws: 0,
-        listings: 0,
-        compared_frames: 0,
-        compared_memories: 0,
-        ..small(0)
-    };
+fn every_comparison_and_every_band_is_reached_by_the_sweep() {
+    let mut faults = faults_of(&only_the_sweep());
+    faults.retain(|fault| fault.starts_with("compared ") || fault.starts_with("bands "));
+    assert_eq!(faults, Vec::<String>::new());
+}
+
+/// What the cases of a plan miss.
+fn faults_of(plan: &Plan) -> Vec<String> {
     let mut coverage = Coverage::new();
-    each_case(&plan, &mut |case| {
+    each_case(plan, &mut |case| {
         coverage.see(&case);
         Ok(())
     })
     .unwrap();
-    let mut faults = coverage.faults();
-    faults.retain(|fault| fault.starts_with("compared "));
-    assert_eq!(faults, Vec::<String>::new());
+    coverage.faults()
+}
+
+/// The bands come last, so that all other cases stand where they stood: six
+/// places of each M drawn, each M listed in both row directions.
+#[test]
+fn bands_come_after_all_other_cases() {
+    let cases = cases_of(&only_the_sweep());
+    let (others, bands) = cases.split_at(cases.len() - 6 * 64 - 2 * 64);
+    assert!(matches!(others.last(), Some(Case::ComparedMemories(_))));
+    let (drawn, listed) = bands.split_at(6 * 64);
+    for case in drawn {
+        let Case::Draw(draw) = case else {
+            panic!("a drawing is due");
+        };
+        assert!(draw.frame.is_some());
+        assert_eq!(ram_rows_of(&draw.memory).len(), 65);
+    }
+    for case in listed {
+        let Case::Listing(listing) = case else {
+            panic!("a listing is due");
+        };
+        assert!(listing.text.starts_with("frame 132 65\n"));
+        let (_, memory, _) = trace::run_from_power_on(&listing.trace);
+        assert_eq!(ram_rows_of(&memory).len(), 65);
+    }
+}
+
+/// The different contents of RAM rows 0 to 64.
+fn ram_rows_of(memory: &[u8]) -> HashSet<Vec<u8>> {
+    (0..65)
+        .map(|row| {
+            let page = &memory[132 * (row / 8)..132 * (row / 8 + 1)];
+            page.iter().map(|byte| byte >> (row % 8) & 1).collect()
+        })
+        .collect()
 }
 
 /// What was never met is told, and so is what cannot be.
@@ -450,6 +493,7 @@ fn what_is_not_reached_is_told() {
     let faults = coverage.faults();
     assert!(faults.contains(&"numbers of draws: 5 impossible".to_string()));
     assert!(faults.contains(&"compared memories, numbers: 11 not reached".to_string()));
+    assert!(faults.contains(&"bands drawn at the top, M: 17 not reached".to_string()));
     assert!(faults.contains(&"numbers of draws: 0 not reached".to_string()));
     assert!(!faults.contains(&"numbers of draws: 5 not reached".to_string()));
 }
@@ -457,18 +501,7 @@ fn what_is_not_reached_is_told() {
 /// The sweep is written and read back whole, and no body is too long.
 #[test]
 fn the_sweep_is_a_good_stream() {
-    let plan = Plan {
-        sweep: true,
-        singles: 0,
-        events: 0,
-        runs: 0,
-        draws: 0,
-        listings: 0,
-        compared_frames: 0,
-        compared_memories: 0,
-        ..small(0)
-    };
-    let stream = stream_of(&plan);
+    let stream = stream_of(&only_the_sweep());
     let mut reader = Reader::begin(&stream[..]).unwrap();
     let mut count = 0;
     while reader.next_case().unwrap().is_some() {

@@ -4,11 +4,12 @@ use std::collections::HashMap;
 
 use oracle::random::Random;
 
-use crate::rig::{COLUMN_DIRECTION, OFFSET, REVERSE, ROW_DIRECTION, Rig, START_LINE};
+use crate::rig::{COLUMN_DIRECTION, MULTIPLEX, OFFSET, REVERSE, ROW_DIRECTION, Rig, START_LINE};
 
 /// All 64 rows in use, the panel on, random memory.
 fn full_panel() -> Rig {
     let mut rig = Rig::after(&[0xAF]);
+    assert_eq!(rig.state[MULTIPLEX], 63);
     Random::new(8, 580).fill(&mut rig.memory);
     rig
 }

@@ -5,15 +5,17 @@ use crate::rig::{COLUMN, CONTRAST, DISPLAY_ON, FRESH, PAGE, Rig};
 #[test]
 fn rows_turn_round_within_m_not_within_64() {
     let rig = Rig::after(&[0xA8, 0x0F, 0xC8, 0xAF]);
-    for panel_row in 0..16 {
-        assert_eq!(rig.ram_row_shown(panel_row), Some(15 - panel_row));
+    // Of the 48 rows not in use, 24 are above: panel row p is COM p - 24, and
+    // shows RAM row 15 - (p - 24).
+    for panel_row in 24..40 {
+        assert_eq!(rig.ram_row_shown(panel_row), Some(39 - panel_row));
     }
-    for panel_row in 16..64 {
+    for panel_row in (0..24).chain(40..64) {
         assert_eq!(rig.ram_row_shown(panel_row), None);
     }
     // The offset finds the COM first; only then do the rows turn round:
-    // panel row 62 is COM (62 + 5) - 64 = 3, and 15 - 3 = 12.
-    let rig = Rig::after(&[0xA8, 0x0F, 0xC8, 0xAF, 0xD3, 0x05]);
+    // panel row 62 is COM (62 + 29 - 24) - 64 = 3, and 15 - 3 = 12.
+    let rig = Rig::after(&[0xA8, 0x0F, 0xC8, 0xAF, 0xD3, 0x1D]);
     assert_eq!(rig.ram_row_shown(0), Some(10));
     assert_eq!(rig.ram_row_shown(10), Some(0));
     assert_eq!(rig.ram_row_shown(11), None);

@@ -1,5 +1,7 @@
 //! The drawn frame, and the row rule checked in other ways.
 
+use std::collections::VecDeque;
+
 use oracle::frame::{PanelRow, shown_on};
 use oracle::random::Random;
 use oracle::registers::Registers;
@@ -9,25 +11,40 @@ use crate::rig::{
     START_LINE,
 };
 
-/// The RAM rows of the 64 COMs, laid out as a list and turned: in use are M
-/// RAM rows from the start line on, in their order or turned round; the rest
-/// is dark; the panel begins with COM number offset.
-fn rows_as_a_list(start_line: u8, offset: u8, in_use: u8, reversed: bool) -> Vec<Option<usize>> {
+/// The panel as a list of RAM rows, laid out and turned: in use are M RAM
+/// rows from the start line on, in their order or turned round; dark rows are
+/// put round them, below and above in turn, until there are 64; the offset
+/// moves all of them up, round the 64.
+fn rows_as_a_list(
+    start_line: u8,
+    offset: u8,
+    in_use: u8,
+    reversed: bool,
+) -> VecDeque<Option<usize>> {
     let mut ram_row = usize::from(start_line);
-    let mut coms = Vec::new();
+    let mut rows = VecDeque::new();
     for _ in 0..in_use {
-        coms.push(Some(ram_row));
+        if reversed {
+            rows.push_front(Some(ram_row));
+        } else {
+            rows.push_back(Some(ram_row));
+        }
         ram_row += 1;
         if ram_row == 64 {
             ram_row = 0;
         }
     }
-    if reversed {
-        coms.reverse();
+    let mut below = true;
+    while rows.len() < 64 {
+        if below {
+            rows.push_back(None);
+        } else {
+            rows.push_front(None);
+        }
+        below = !below;
     }
-    coms.resize(64, None);
-    coms.rotate_left(usize::from(offset));
-    coms
+    rows.rotate_left(usize::from(offset));
+    rows
 }
 
 #[test]
@@ -54,6 +71,27 @@ fn the_row_rule_for_all_settings() {
     }
 }
 
+/// The row of the frame that shows a RAM row; none if it is not shown.
+fn row_showing(rig: &Rig, ram_row: usize) -> Option<usize> {
+    if ram_row == 64 {
+        return Some(64);
+    }
+    let start_line = i32::from(rig.state[START_LINE]);
+    let offset = i32::from(rig.state[OFFSET]);
+    let in_use = i32::from(rig.state[MULTIPLEX]) + 1;
+    let ram_row = i32::try_from(ram_row).unwrap();
+    let com = if rig.state[ROW_DIRECTION] == 0 {
+        (ram_row - start_line).rem_euclid(64)
+    } else {
+        (start_line + in_use - 1 - ram_row).rem_euclid(64)
+    };
+    // The middle is between rows 31 and 32; of an odd M, the row left over is
+    // above it.
+    let first_row = 32 - (in_use + 1) / 2;
+    let row = (first_row + com - offset).rem_euclid(64);
+    (com < in_use).then(|| usize::try_from(row).unwrap())
+}
+
 /// The frame the other way round: each memory bit is carried to the glass.
 fn carried_to_the_glass(rig: &Rig) -> Vec<u8> {
     let state = &rig.state;
@@ -61,28 +99,15 @@ fn carried_to_the_glass(rig: &Rig) -> Vec<u8> {
     if state[DISPLAY_ON] == 0 {
         return frame;
     }
-    let start_line = i32::from(state[START_LINE]);
-    let offset = i32::from(state[OFFSET]);
-    let in_use = i32::from(state[MULTIPLEX]) + 1;
     for (place, &byte) in rig.memory.iter().enumerate() {
         let (page, column) = (place / 132, place % 132);
         for bit in 0..8 {
-            let ram_row = i32::try_from(8 * page + bit).unwrap();
             if page == 8 && bit > 0 {
                 continue;
             }
-            let mut row = 64;
-            if page < 8 {
-                let com = if state[ROW_DIRECTION] == 0 {
-                    (ram_row - start_line).rem_euclid(64)
-                } else {
-                    (start_line + in_use - 1 - ram_row).rem_euclid(64)
-                };
-                if com >= in_use {
-                    continue;
-                }
-                row = (com - offset).rem_euclid(64);
-            }
+            let Some(row) = row_showing(rig, 8 * page + bit) else {
+                continue;
+            };
             let segment = if state[COLUMN_DIRECTION] == 0 {
                 column
             } else {
@@ -95,7 +120,7 @@ fn carried_to_the_glass(rig: &Rig) -> Vec<u8> {
             if state[ENTIRE_ON] == 1 {
                 lit = 1;
             }
-            frame[132 * usize::try_from(row).unwrap() + segment] = lit;
+            frame[132 * row + segment] = lit;
         }
     }
     frame
@@ -154,9 +179,9 @@ fn junk_above_bit_0_of_page_8_is_not_drawn() {
 #[test]
 fn reverse_turns_the_icons_and_no_dark_row() {
     let mut rig = Rig::after(&[0xAF, 0xA7, 0xA8, 0x0F]);
-    let in_use_and_icons: Vec<usize> = (0..16).chain([64]).collect();
+    let in_use_and_icons: Vec<usize> = (24..40).chain([64]).collect();
     assert_eq!(rig.lit_rows(), in_use_and_icons);
-    assert_eq!(rig.row(0), vec![1; 132]);
+    assert_eq!(rig.row(24), vec![1; 132]);
     assert_eq!(rig.row(64), vec![1; 132]);
     rig.memory.fill(0xFF);
     assert_eq!(rig.lit_rows(), []);
@@ -166,9 +191,9 @@ fn reverse_turns_the_icons_and_no_dark_row() {
 fn entire_on_wins_over_reverse_and_leaves_unused_rows_dark() {
     for reverse in [0xA6, 0xA7] {
         for byte in [0x00, 0xFF] {
-            // Panel row p is COM p + 3 (modulo 64), in use while below 16:
-            // rows 0 to 12, and 61 to 63.
-            let mut rig = Rig::after(&[0xAF, 0xA5, 0xA8, 0x0F, 0xD3, 0x03, reverse]);
+            // Panel row p is COM p + 27 - 24 (modulo 64), in use while below
+            // 16: rows 0 to 12, and 61 to 63.
+            let mut rig = Rig::after(&[0xAF, 0xA5, 0xA8, 0x0F, 0xD3, 0x1B, reverse]);
             rig.memory.fill(byte);
             let expected: Vec<usize> = (0..13).chain(61..65).collect();
             assert_eq!(rig.lit_rows(), expected);

@@ -40,12 +40,23 @@ fn the_icon_line_is_row_64() {
 
 #[test]
 fn whole_rows_are_one_run() {
-    // A8 02 AF A5: rows 0 to 2 and the icons.
+    // A8 02 AF A5: three rows, of the 61 others 30 above them, and the icons.
     let trace = [0x04, 0x00, 0x01, 0x00, 0xA8, 0x02, 0xAF, 0xA5];
     assert_eq!(
         listing(&trace),
-        "frame 132 65\n0 0-131\n1 0-131\n2 0-131\n64 0-131\nend\n"
+        "frame 132 65\n30 0-131\n31 0-131\n32 0-131\n64 0-131\nend\n"
     );
+}
+
+#[test]
+fn a_band_over_the_edge_is_listed_from_the_top() {
+    // A8 02 D3 1F AF, then 07 and 05 written: RAM rows 0 and 2 have columns 0
+    // and 1, row 1 has column 0. COM 0 is at panel row 30 - 31, which is 63.
+    let trace = [
+        0x05, 0x00, 0x01, 0x00, 0xA8, 0x02, 0xD3, 0x1F, 0xAF, //
+        0x02, 0x00, 0x02, 0x00, 0x07, 0x05,
+    ];
+    assert_eq!(listing(&trace), "frame 132 65\n0 0-0\n1 0-1\n63 0-1\nend\n");
 }
 
 #[test]

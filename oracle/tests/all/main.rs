@@ -1,5 +1,6 @@
 //! Every expectation here is worked out by hand from documents 01 and 02.
 
+mod band;
 mod cases;
 mod commands;
 mod compare;

@@ -206,14 +206,15 @@ fn differ_uses_a_refused_trace_where_it_stopped() {
         text_of(&["differ", "--memory", stopped.name(), empty.name()], b""),
         "1187 1 0\n"
     );
-    // A8 00, AF, A5: row 0 and the icons are lit, then 80 is refused.
+    // A8 00, AF, A5: the one row in use and the icons are lit, then 80 is
+    // refused. Of the 63 other rows 31 are above it.
     let lit = TraceFile::new(
         "lit",
         &[0x05, 0x00, 0x01, 0x00, 0xA8, 0x00, 0xAF, 0xA5, 0x80],
     );
     assert_eq!(
         text_of(&["differ", empty.name(), lit.name()], b""),
-        "0 0 131 0 1\n64 0 131 0 1\n"
+        "31 0 131 0 1\n64 0 131 0 1\n"
     );
 }
 
