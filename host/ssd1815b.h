@@ -74,8 +74,8 @@ extern "C" {
 ** As text, and as the number 1000000 * major + 1000 * minor + patch, so that
 ** a program can ask `#if SSD1815B_VERSION_NUMBER >= 4000000`.
 */
-#define SSD1815B_VERSION         "4.1.0"
-#define SSD1815B_VERSION_NUMBER  4001000
+#define SSD1815B_VERSION         "4.2.0"
+#define SSD1815B_VERSION_NUMBER  4002000
 
 /*
 ** Sizes
@@ -340,6 +340,11 @@ uint8_t ssd1815b_power_state(
 **
 ** Draws what the panel shows into the first 8,580 bytes of frame: row r,
 ** place x at 132r + x, 0 dark and 1 lit, the icon line as row 64.
+**
+** With M rows in use they lie in the middle: with offset 0 from panel row
+** (64 - M) / 2, rounded down, on (M = 16: 24 to 39), and each step of the
+** offset moves them up by one, round the 64.  The others are dark.  Up to
+** version 4.1.0 they lay from panel row 0 on (M = 16: 0 to 15).
 **
 ** Answers 0; or 1 if state, memory or frame is too short, or 2 if the image
 ** is out of its ranges, and then nothing is written.  state and memory are

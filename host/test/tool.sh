@@ -166,12 +166,20 @@ check 'dark: nothing is said of a screen that is lit' [ "$(wc -l < "$here/out")"
 run state < <(bytes 06 00 01 00 A8 0F A5 AD 02 D3)
 check 'state: status 0' status_is 0
 check 'state: multiplex' out_has 'multiplex          15, 16 rows in use'
+check 'state: 16 rows in the middle' out_has 'rows in use        panel rows 24 to 39'
 check 'state: awaited code' out_has 'awaited code       D3'
 check 'state: standby' out_has 'power save         standby'
 check 'state: image' out_has 'image              000000000F2004000000000000000100000102D3000001'
 check 'state: run' out_has 'run                taken, number 0 at 10, whole records 1'
 run state < <(bytes 01 00 01 00 A5)
 check 'state: sleep' out_has 'power save         sleep'
+check 'state: all rows in use' out_has 'rows in use        panel rows 0 to 63'
+run state < <(bytes 04 00 01 00 A8 0F D3 20)
+check 'state: the band over the edge' out_has 'rows in use        panel rows 56 to 63 and 0 to 7'
+run state < <(bytes 04 00 01 00 A8 0F D3 19)
+check 'state: one row of the band over the edge' out_has 'rows in use        panel rows 63 and 0 to 14'
+run state < <(bytes 02 00 01 00 A8 00)
+check 'state: one row' out_has 'rows in use        panel row 31'
 run state < <(bytes 03 00 01 00 A5 AF B9)
 check 'state: no power save with display on' out_has 'power save         no'
 check 'state: refused, status 1' status_is 1

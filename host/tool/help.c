@@ -83,8 +83,8 @@ static const char *const usage[COMMANDS] = {
   [STATE] =
     "usage: ssd1815b state [--after N] [TRACE]\n"
     "\n"
-    "Prints the registers by name, whether they are power save, the image in\n"
-    "hex, and what the run answered.\n",
+    "Prints the registers by name, which panel rows are in use, whether the\n"
+    "registers are power save, the image in hex, and what the run answered.\n",
   [MEMORY] =
     "usage: ssd1815b memory [--after N] [TRACE]\n"
     "\n"

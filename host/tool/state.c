@@ -1,5 +1,7 @@
 #include "commands.h"
 
+#include <string.h>
+
 #include "registers.h"
 #include "stop.h"
 
@@ -46,11 +48,67 @@ static const char *power_save(const uint8_t *image)
   return names[power];
 }
 
+/* Whether each panel row is in use: entire on lights just these.  The row rule
+** is the library's, and stands in no second place. */
+static void find_rows_in_use(const uint8_t *image, bool *in_use)
+{
+  static const uint8_t memory[SSD1815B_MEMORY_SIZE];
+  uint8_t lit[SSD1815B_STATE_SIZE];
+  uint8_t frame[SSD1815B_FRAME_SIZE];
+  memcpy(lit, image, sizeof lit);
+  lit[SSD1815B_DISPLAY_ON] = 1;
+  lit[SSD1815B_ENTIRE_ON] = 1;
+  /* A run leaves a legal image, so this does not refuse. */
+  ssd1815b_draw(lit, sizeof lit, memory, sizeof memory, frame, sizeof frame);
+  for (size_t row = 0; row < SSD1815B_ROWS; row++) {
+    in_use[row] = frame[row * SSD1815B_COLUMNS] == 1;
+  }
+}
+
+/* Prints a stretch of rows. */
+static void print_stretch(FILE *out, size_t first, size_t last)
+{
+  if (first == last) {
+    fprintf(out, "%zu", first);
+  } else {
+    fprintf(out, "%zu to %zu", first, last);
+  }
+}
+
+/* The panel rows in use from the first COM on: a band that comes in again at
+** the top is two stretches, the lower one first. */
+static void print_rows_in_use(FILE *out, const uint8_t *image)
+{
+  bool in_use[SSD1815B_ROWS];
+  find_rows_in_use(image, in_use);
+  size_t last = SSD1815B_ROWS - 1;
+  while (!in_use[last]) {
+    last--;
+  }
+  size_t first = last;
+  while (first > 0 && in_use[first - 1]) {
+    first--;
+  }
+  size_t above = 0;
+  while (above < first && in_use[above]) {
+    above++;
+  }
+  bool one = image[SSD1815B_MULTIPLEX] == 0;
+  fprintf(out, "%-18s panel row%s ", "rows in use", one ? "" : "s");
+  print_stretch(out, first, last);
+  if (above > 0) {
+    fputs(" and ", out);
+    print_stretch(out, 0, above - 1);
+  }
+  fputc('\n', out);
+}
+
 void state(FILE *out, const struct played *played)
 {
   for (int place = 0; place < SSD1815B_STATE_SIZE; place++) {
     print_register(out, place, played->state[place]);
   }
+  print_rows_in_use(out, played->state);
   fprintf(out, "%-18s %s\n", "power save", power_save(played->state));
   fprintf(out, "%-18s ", "image");
   for (int place = 0; place < SSD1815B_STATE_SIZE; place++) {

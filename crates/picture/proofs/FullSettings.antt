@@ -62,7 +62,7 @@ pub rows-both-ways : (r : Registers) → Bijection frameRows (ramOf r) (rowShowi
 rows-both-ways r = rows-bijection height (eqb (r .«row_direction») 0) (scroll r) (scroll-below r)
 
 module _ (r : Registers) (b : Bounds r) where
-  -- this chip's shift, with all rows in use, is the offset
+  -- this chip's shift, with all rows in use, is the offset modulo 64
   full-shift : shift r % height ≡ r .offset
   full-shift = omega (arith, b .offset, b .allRows)
 

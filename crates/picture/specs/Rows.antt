@@ -8,7 +8,7 @@ use Rattle.picture.specs.Scan.{Scan}
 abbrev pub rowsInUse : Registers → ℕ
 rowsInUse r = r .multiplex + 1
 
--- t, the rows above the band where the offset is 0: (64 - M) / 2 rounded down.
+-- t, the rows above the band where the offset is 0: (64 - M) / 2 rounded down; 0 for the M above 64 of registers out of their ranges.
 abbrev pub rowsAbove : Registers → ℕ
 rowsAbove r = (height - rowsInUse r) / 2
 

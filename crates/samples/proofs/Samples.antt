@@ -42,11 +42,11 @@ sixteen-used r y l offset multiplex = rw (offset, multiplex) (either (decLt y 24
     either (no k) (no h) = rw (le-ltb ((y + 40) % 64) 16 (omega arith), le-leb 24 y (omega arith), lt-leb y 39 (omega arith))
 
 -- entire on lights them and the icons
-sixteen-lit : (r : Registers) (memory : List ℕ) → r .on ≡ 1 → r .entire ≡ 1 → r .offset ≡ 0 → r .multiplex ≡ 15 → frame r memory ≡ grid width frameRows (λ y x. cond (leb 24 y && leb y 39 || eqb y 64) 1 0)
+sixteen-lit : (r : Registers) (memory : List ℕ) → r .on ≡ 1 → r .entire ≡ 1 → r .offset ≡ 0 → r .multiplex ≡ 15 → frame r memory ≡ grid width frameRows (λ y x. cond ((leb 24 y && leb y 39) || eqb y 64) 1 0)
 unfolding frame rowShows panelShows
 sixteen-lit r memory on entire offset multiplex = grid-same width frameRows _ _ (λ y x l k. place y x l (decLt y height))
   where
-    place : (y x : ℕ) → y < frameRows → Dec (y < height) → segment r memory (rowShows (scanOf r) (panelRow y)) x ≡ cond (leb 24 y && leb y 39 || eqb y 64) 1 0
+    place : (y x : ℕ) → y < frameRows → Dec (y < height) → segment r memory (rowShows (scanOf r) (panelRow y)) x ≡ cond ((leb 24 y && leb y 39) || eqb y 64) 1 0
     place y x l (yes k) = rw (lt-ltb y height k, sixteen-used r y k offset multiplex, ne-eqb y 64 (omega arith)) (shade r memory _ x on entire (leb 24 y && leb y 39))
     place y x l (no n) =
         let e : y ≡ 64 = omega arith in

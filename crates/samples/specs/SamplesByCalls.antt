@@ -61,7 +61,7 @@ pub record SamplesByCalls : Type 0 where
   -- 8. D3 40: 5; then 3F: offset 63.
   pub sample8 : (answerTo (commandByte 0x40) (left (commands (0xD3 ∷ []))) ≡ 5) × (register offset (left (commands (0xD3 ∷ 0x40 ∷ 0x3F ∷ []))) ≡ 63)
   -- 9. A8 0F, AF, A5: lit are panel rows 24 to 39 and the icons (Order 2).
-  pub sample9 : Draws (commands (0xA8 ∷ 0x0F ∷ 0xAF ∷ 0xA5 ∷ [])) (grid width frameRows (λ y x. cond (leb 24 y && leb y 39 || eqb y 64) 1 0))
+  pub sample9 : Draws (commands (0xA8 ∷ 0x0F ∷ 0xAF ∷ 0xA5 ∷ [])) (grid width frameRows (λ y x. cond ((leb 24 y && leb y 39) || eqb y 64) 1 0))
   -- 10. Start line 3, offset 2, M = 64: panel row 0 shows RAM row 5, row 63 shows 4. Rows reversed: 0 and 1.
   pub sample10 : Shows startThreeOffsetTwo 0 5 × Shows startThreeOffsetTwo 63 4 × Shows (startThreeOffsetTwo ++ commands (0xC8 ∷ [])) 0 0 × Shows (startThreeOffsetTwo ++ commands (0xC8 ∷ [])) 63 1
   -- 11. A8 0F, rows reversed: panel row 24 shows RAM row 15 (Order 2).
