@@ -206,7 +206,7 @@ clean:
 # ---- how things are built ----
 
 $(LIBRARY): crates.txt $(wildcard crates/*/src/*.rt) | cross
-	@AR='$(CROSS)ar' GOALS='$(MAKECMDGOALS)' V='$(V)' host/prove.sh
+	@AR='$(CROSS)ar' OBJCOPY='$(CROSS)objcopy' GOALS='$(MAKECMDGOALS)' V='$(V)' host/prove.sh
 
 $(TOOL): $(call objects,host/tool/*.c) $(LINKED)
 COMPARED := $(call objects,host/compare/*.c) \
