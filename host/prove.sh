@@ -51,7 +51,7 @@ each_crate() {
 
 # Both archives in one, libhost.a. Each function begins at a multiple of 64
 # bytes, so that its time does not depend on the program that it is linked into
-# (DECISIONS 110).
+# (DECISIONS 110); objcopy does so since binutils 2.33.
 join() {
   local made=target/staticlib
   "${AR:-ar}" -M <<SCRIPT

@@ -344,7 +344,7 @@ uint8_t ssd1815b_power_state(
 ** With M rows in use they lie in the middle: with offset 0 from panel row
 ** (64 - M) / 2, rounded down, on (M = 16: 24 to 39), and each step of the
 ** offset moves them up by one, round the 64.  The others are dark.  Up to
-** version 4.1.0 they lay from panel row 0 on (M = 16: 0 to 15).
+** version 4.1.0 they lay from panel row 0 on with offset 0 (M = 16: 0 to 15).
 **
 ** Answers 0; or 1 if state, memory or frame is too short, or 2 if the image
 ** is out of its ranges, and then nothing is written.  state and memory are

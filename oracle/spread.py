@@ -386,7 +386,7 @@ def setting_cases(chance):
               + [dict(rows=b, offset=o, entire=0) for o in (0, 1, 32, 63) for b in both]
               + [dict(rows=b, start=s, entire=0) for s in (0, 1, 32, 63) for b in both]
               + [dict(on=0, entire=d) for d in both] + [dict(entire=0)] * 8
-              + [dict(multiplex=m, offset=o, entire=0) for m, o in ((15, 24), (15, 25), (16, 23), (16, 40), (0, 31), (0, 32), (61, 2))])
+              + [dict(multiplex=m, offset=o, entire=int(m == 0)) for m, o in ((15, 24), (15, 25), (16, 23), (16, 40), (0, 31), (0, 32), (61, 2))])
     for turn, registers in enumerate(picked):
         row = [0, 63, 64, chance.below(64), chance.below(16)][turn % 5]
         column = [0, 131, chance.below(WIDTH)][turn % 3]

@@ -336,7 +336,10 @@ class Chip:
         return Run(number, offset.value, count.value)
 
     def draw(self) -> Drawn:
-        """The frame that the panel shows: 0 dark, 1 lit, the icon line as row 64; or 2."""
+        """The frame that the panel shows: 0 dark, 1 lit, the icon line as row 64; or 2.
+
+        M rows in use lie in the middle, from row (64 - M) // 2 on, moved up by the offset, round the 64.
+        """
         frame = (BYTE * FRAME_SIZE)()
         number = _call("ssd1815b_draw", *self._lent, frame, FRAME_SIZE)
         return Drawn(number, bytes(frame) if number == Number.TAKEN else b"")

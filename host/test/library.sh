@@ -43,4 +43,13 @@ check 'the line links' status_is 0
 ran "${run[@]}" "$here/mine"
 check 'rows 0 and 1 are lit at their first place' status_is 0
 
+# The calls of the program, by their addresses, that do not begin at a multiple
+# of 64 bytes; and how many calls it has.
+astray() { "$NM" "$here/mine" | awk '$3 ~ /^ssd1815b_/ && $1 !~ /[048c]0$/'; }
+calls() { "$NM" "$here/mine" | grep -c ' T ssd1815b_'; }
+ran astray
+check 'every call begins at a multiple of 64 bytes' out_is ''
+ran calls
+check 'the program has calls' [ "$(cat "$here/out")" -ge 4 ]
+
 checks_end library

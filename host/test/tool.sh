@@ -177,7 +177,13 @@ check 'state: all rows in use' out_has 'rows in use        panel rows 0 to 63'
 run state < <(bytes 04 00 01 00 A8 0F D3 20)
 check 'state: the band over the edge' out_has 'rows in use        panel rows 56 to 63 and 0 to 7'
 run state < <(bytes 04 00 01 00 A8 0F D3 19)
-check 'state: one row of the band over the edge' out_has 'rows in use        panel rows 63 and 0 to 14'
+check 'state: one row of the band at the bottom' out_has 'rows in use        panel rows 63 and 0 to 14'
+run state < <(bytes 04 00 01 00 A8 0F D3 27)
+check 'state: one row of the band at the top' out_has 'rows in use        panel rows 49 to 63 and 0'
+run state < <(bytes 02 00 01 00 A8 10)
+check 'state: an odd number of rows' out_has 'rows in use        panel rows 23 to 39'
+run state < <(bytes 02 00 01 00 D3 05)
+check 'state: all rows, moved' out_has 'rows in use        panel rows 0 to 63'
 run state < <(bytes 02 00 01 00 A8 00)
 check 'state: one row' out_has 'rows in use        panel row 31'
 run state < <(bytes 03 00 01 00 A5 AF B9)

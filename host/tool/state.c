@@ -54,7 +54,7 @@ static void find_rows_in_use(const uint8_t *image, bool *in_use)
 {
   static const uint8_t memory[SSD1815B_MEMORY_SIZE];
   uint8_t lit[SSD1815B_STATE_SIZE];
-  uint8_t frame[SSD1815B_FRAME_SIZE];
+  uint8_t frame[SSD1815B_FRAME_SIZE] = { 0 };
   memcpy(lit, image, sizeof lit);
   lit[SSD1815B_DISPLAY_ON] = 1;
   lit[SSD1815B_ENTIRE_ON] = 1;
@@ -75,14 +75,14 @@ static void print_stretch(FILE *out, size_t first, size_t last)
   }
 }
 
-/* The panel rows in use from the first COM on: a band that comes in again at
-** the top is two stretches, the lower one first. */
+/* The panel rows in use: one stretch, or two where the band comes in again at
+** the top, the lower one first. */
 static void print_rows_in_use(FILE *out, const uint8_t *image)
 {
   bool in_use[SSD1815B_ROWS];
   find_rows_in_use(image, in_use);
   size_t last = SSD1815B_ROWS - 1;
-  while (!in_use[last]) {
+  while (last > 0 && !in_use[last]) {
     last--;
   }
   size_t first = last;

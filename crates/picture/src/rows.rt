@@ -84,7 +84,7 @@ fn shifted_by(registers: Registers) -> u16
     (registers.offset as u16) + rows_not_above(registers)
 }
 
-// The panel rows that are not above the band where the offset is 0: half of 64 + M, rounded up. Sums alone are worked out once for all rows (DECISIONS 104).
+// The panel rows that are not above the band where the offset is 0, which is 64 - t: half of 64 + M, rounded up. As a sum it is worked out once a frame (DECISIONS 104).
 fn rows_not_above(registers: Registers) -> u16
     ensures { λ r. ⌜ r ≡ height - rowsAbove registers ⌝ }
 {

@@ -105,7 +105,7 @@ impl BandCoverage {
                 "bands drawn over the edge with one row at the bottom, M",
                 2..=63,
             ),
-            offsets: Group::new("bands drawn with an offset new to it, M", 1..=64),
+            offsets: Group::new("bands drawn with different offsets, M", 1..=64),
             met: [[false; DOT_ROWS]; DOT_ROWS],
             lights: Group::new(
                 "bands drawn, lights",

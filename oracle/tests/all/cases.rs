@@ -405,10 +405,10 @@ fn is_as_called<const ENTRY: usize>(
     assert!(list == expected);
 }
 
-/// The random cases alone reach everything that is counted but a few places
-/// of the band for one M or another.
+/// The random cases alone reach everything that is counted but the bands of
+/// single Ms.
 #[test]
-fn everything_is_reached_without_the_sweep() {
+fn all_but_bands_of_single_ms_is_reached_without_the_sweep() {
     let plan = Plan {
         seed: 1815,
         sweep: false,
