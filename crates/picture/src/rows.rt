@@ -88,11 +88,12 @@ fn shifted_by(registers: Registers) -> u16
 fn rows_not_above(registers: Registers) -> u16
     ensures { λ r. ⌜ r ≡ height - rowsAbove registers ⌝ }
 {
+    let panel_rows = HEIGHT as u16;
     let in_use = rows_in_use(registers);
-    if in_use < (HEIGHT as u16) {
-        return ((HEIGHT as u16) + in_use + 1) / 2;
+    if in_use < panel_rows {
+        return (panel_rows + in_use + 1) / 2;
     }
-    HEIGHT as u16
+    panel_rows
 }
 
 // M, the dot rows in use.
