@@ -3,6 +3,7 @@
 ** the library's own names, and can be linked in its place (make MODEL=plain).
 */
 #define plain_start ssd1815b_start
+#define plain_start_upright ssd1815b_start_upright
 #define plain_command ssd1815b_command
 #define plain_write ssd1815b_write
 #define plain_read ssd1815b_read

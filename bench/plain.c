@@ -274,8 +274,8 @@ static void read(uint8_t *state)
 
 /* ---- starting and the four event calls ---- */
 
-uint8_t plain_start(uint8_t *state, size_t state_len, uint8_t *memory,
-                    size_t memory_len)
+uint8_t plain_start_upright(uint8_t *state, size_t state_len, uint8_t *memory,
+                            size_t memory_len)
 {
   if (too_short(state_len, memory_len)) {
     return SSD1815B_TOO_SHORT;
@@ -283,6 +283,17 @@ uint8_t plain_start(uint8_t *state, size_t state_len, uint8_t *memory,
   memcpy(state, power_on, STATE_SIZE);
   memset(memory, 0, MEMORY_SIZE);
   return SSD1815B_TAKEN;
+}
+
+uint8_t plain_start(uint8_t *state, size_t state_len, uint8_t *memory,
+                    size_t memory_len)
+{
+  uint8_t number = plain_start_upright(state, state_len, memory, memory_len);
+  if (number == SSD1815B_TAKEN) {
+    state[COLUMN_DIRECTION] = 1;
+    state[ROW_DIRECTION] = 1;
+  }
+  return number;
 }
 
 uint8_t plain_command(uint8_t *state, size_t state_len, const uint8_t *memory,

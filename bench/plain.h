@@ -10,6 +10,8 @@
 
 uint8_t plain_start(uint8_t *state, size_t state_len, uint8_t *memory,
                     size_t memory_len);
+uint8_t plain_start_upright(uint8_t *state, size_t state_len, uint8_t *memory,
+                            size_t memory_len);
 uint8_t plain_command(uint8_t *state, size_t state_len, const uint8_t *memory,
                       size_t memory_len, uint8_t byte);
 uint8_t plain_write(uint8_t *state, size_t state_len, uint8_t *memory,

@@ -43,14 +43,14 @@ static uint32_t next_random(void)
   return seed;
 }
 
-/* Power-on, a memory of random bytes, and some commands. */
+/* The chip upright, as at power-on, a memory of random bytes, and some commands. */
 static void begin(const uint8_t *commands, size_t count)
 {
   seed = 1815;
   answers = 0;
   text_length = 0;
   memset(frame, 0, sizeof frame);
-  plain_start(state, sizeof state, memory, sizeof memory);
+  plain_start_upright(state, sizeof state, memory, sizeof memory);
   for (size_t i = 0; i < sizeof memory; i++) {
     memory[i] = (uint8_t)next_random();
   }

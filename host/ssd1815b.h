@@ -28,7 +28,8 @@
 **     ssd1815b_draw(state, sizeof state, memory, sizeof memory,
 **                   frame, sizeof frame);
 **
-** now panel rows 0 and 1 are lit at their first place.
+** now panel rows 63 and 62 are lit at their last place; in an old cabinet, from
+** ssd1815b_start_upright(), rows 0 and 1 at their first.
 **
 **
 ** LENGTHS
@@ -74,8 +75,8 @@ extern "C" {
 ** As text, and as the number 1000000 * major + 1000 * minor + patch, so that
 ** a program can ask `#if SSD1815B_VERSION_NUMBER >= 4000000`.
 */
-#define SSD1815B_VERSION         "4.2.0"
-#define SSD1815B_VERSION_NUMBER  4002000
+#define SSD1815B_VERSION         "4.3.0"
+#define SSD1815B_VERSION_NUMBER  4003000
 
 /*
 ** Sizes
@@ -166,18 +167,29 @@ extern "C" {
                                        ** the dummy read */
 
 /*
-** Power on
+** Start
 **
-** Puts the power-on image into the first 23 bytes of state and zeros into
-** the first 1,188 of memory.
+** Puts a starting image into the first 23 bytes of state and zeros into the
+** first 1,188 of memory.
 **
-** Answers 0; or 1 if state is shorter than 23 or memory shorter than 1,188,
-** and then nothing is written.
+** ssd1815b_start() is for a new cabinet, which hangs the module upside down:
+** SSD1815B_COLUMN_DIRECTION and SSD1815B_ROW_DIRECTION are 1, and all else is
+** as at power-on.  ssd1815b_start_upright() is for an old cabinet, and for
+** what was recorded in one: all is as at power-on.  Up to version 4.2
+** ssd1815b_start() was that.
 **
-** (The reset pin, ssd1815b_reset(), gives the same image and leaves memory
-** as it is.)
+** Both answer 0; or 1 if state is shorter than 23 or memory shorter than
+** 1,188, and then nothing is written.
+**
+** The reset pin and E2 do as the chip does, whichever the start was:
+** ssd1815b_reset() gives the power-on image, upright, and leaves memory as it
+** is; E2 puts the row direction to 0 and leaves the column direction.
 */
 uint8_t ssd1815b_start(
+  uint8_t *state, size_t state_len,    /* written */
+  uint8_t *memory, size_t memory_len   /* written */
+);
+uint8_t ssd1815b_start_upright(
   uint8_t *state, size_t state_len,    /* written */
   uint8_t *memory, size_t memory_len   /* written */
 );
