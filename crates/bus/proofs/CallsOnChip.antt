@@ -19,8 +19,9 @@ use Rattle.bus.specs.StaysLegal.{LegalRegisters, Keeps}
 use Rattle.bus.specs.CallsOnChip.{chipIn, imagedIn, lent, afterCalls, CallsOnChip}
 use Rattle.bus.specs.declared.registers.Registers.{Registers}
 use Rattle.bus.specs.declared.answer.Answer.{Answer}
+use Rattle.bus.specs.declared.start.Hung.{Hung}
 use Rattle.bus.proofs.Legal.{long}
-use Rattle.bus.proofs.Kept.{state-facts, step-keeps, power-on-legal}
+use Rattle.bus.proofs.Kept.{state-facts, step-keeps, start-legal}
 use Rattle.bus.proofs.Untouched.{step-length}
 use Rattle.bus.proofs.Stored.{stored-long, stored-own, stored-again, call-stored}
 
@@ -88,16 +89,16 @@ the-reset-pin : (state memory : List ℕ) → short state memory ≡ false → c
 unfolding call callOn askedBefore concluded stateAfter step resetPin
 the-reset-pin state memory e = rw e (ap (λ later. called (replyOf (resetPin powerOn)) later memory) (stored-long state (long state memory e .0) powerOn))
 
-from-the-start : (events : List Event) (state memory : List ℕ) → All IsByte events → short state memory ≡ false → let chip = chipOf registersAtStart (memoryAtStart ++ drop memorySize memory) in
-    afterCalls events (startOf state memory .state) (startOf state memory .memory) ≡ lent (imagedIn state (afterEvents events chip .registers)) (afterEvents events chip .memory)
+from-the-start : (hung : Hung) (events : List Event) (state memory : List ℕ) → All IsByte events → short state memory ≡ false → let chip = chipOf (registersAtStart hung) (memoryAtStart ++ drop memorySize memory) in
+    afterCalls events (startOf hung state memory .state) (startOf hung state memory .memory) ≡ lent (imagedIn state (afterEvents events chip .registers)) (afterEvents events chip .memory)
 unfolding startOf
-from-the-start events state memory b e =
+from-the-start hung events state memory b e =
     let h = long state memory e .0 in
     let zeros = memoryAtStart ++ drop memorySize memory in
     let size : memorySize ≤ length zeros = rw (length-append memoryAtStart (drop memorySize memory), length-replicate {A = ℕ} memorySize 0) (omega arith) in
     rw e
-    (calls-on-chip state h events powerOn zeros b power-on-legal size ∙
-    ap (λ later. lent later (afterEvents events (chipOf registersAtStart zeros) .memory)) (stored-long state h (afterEvents events (chipOf registersAtStart zeros) .registers)))
+    (calls-on-chip state h events (registersAtStart hung) zeros b (start-legal hung) size ∙
+    ap (λ later. lent later (afterEvents events (chipOf (registersAtStart hung) zeros) .memory)) (stored-long state h (afterEvents events (chipOf (registersAtStart hung) zeros) .registers)))
 
 pub callsOnChip : CallsOnChip
 unfolding replyOf numberOf byteOf dummyOf resetPin

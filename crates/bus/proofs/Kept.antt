@@ -24,10 +24,12 @@ use Rattle.bus.specs.Events.{commandTaken, enter, leave, softwareReset, 
 use Rattle.bus.specs.Chip.{Event, commandByte, dataWritten, dataRead, resetPulse, step}
 use Rattle.bus.specs.Image.{within, awaitedCodes, legal, asked}
 use Rattle.bus.specs.Bytes.{IsByte}
+use Rattle.bus.specs.Start.{registersAtStart}
 use Rattle.bus.specs.StaysLegal.{LegalRegisters, Keeps}
 use Rattle.bus.proofs.Legal.{long}
 use Rattle.bus.specs.declared.registers.Registers.{Registers}
 use Rattle.bus.specs.declared.answer.Answer.{Answer}
+use Rattle.bus.specs.declared.start.Hung.{Hung}
 use Rattle.bus.proofs.Access.{opened}
 use Rattle.bus.proofs.Asking.{found-legal}
 use Rattle.bus.proofs.ThereAndBack.{image-registers, image-with}
@@ -227,6 +229,11 @@ read-keeps r memory l =
 pub power-on-legal : LegalRegisters powerOn
 unfolding powerOn largestValues within awaitedCodes
 power-on-legal = record { inRanges = refl; code = refl; savedZero = λ e. refl }
+
+pub start-legal : (hung : Hung) → LegalRegisters (registersAtStart hung)
+unfolding powerOn largestValues within awaitedCodes
+start-legal Hung.UpsideDown = record { inRanges = refl; code = refl; savedZero = λ e. refl }
+start-legal Hung.Upright = power-on-legal
 
 pub step-keeps : (event : Event) (r : Registers) (memory : List ℕ) → IsByte event → LegalRegisters r → Keeps (step event r memory .answer)
 unfolding step resetPin

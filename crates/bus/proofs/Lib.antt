@@ -37,7 +37,7 @@ pub mod Given
 pub mod StaysLegal
 -- a call on lent images is the event on the chip
 pub mod CallsOnChip
--- what the start gives and leaves
+-- what the starts give and leave, and what the resets make of it
 pub mod TheStart
 -- 4. Stretches.
 -- what was recorded, replayed on the chip

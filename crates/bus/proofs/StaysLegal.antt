@@ -11,15 +11,16 @@ use Rattle.bus.specs.Registers.{registersOf, powerOn}
 use Rattle.bus.specs.Events.{resetPin}
 use Rattle.bus.specs.Chip.{Event, resetPulse, step}
 use Rattle.bus.specs.Image.{short, stored, Accepted}
-use Rattle.bus.specs.Start.{memoryAtStart, startOf}
+use Rattle.bus.specs.Start.{registersAtStart, memoryAtStart, startOf}
 use Rattle.bus.specs.Calls.{stateAfter, concluded, askedBefore, callOn, call}
 use Rattle.bus.specs.Bytes.{IsByte}
 use Rattle.bus.specs.StaysLegal.{LegalRegisters, Keeps, StaysLegal}
 use Rattle.bus.specs.declared.registers.Registers.{Registers}
 use Rattle.bus.specs.declared.answer.Answer.{Answer}
+use Rattle.bus.specs.declared.start.Hung.{Hung}
 use Rattle.bus.proofs.Legal.{long}
 use Rattle.bus.proofs.Asking.{found-legal}
-use Rattle.bus.proofs.Kept.{legal-facts, facts-legal, state-facts, power-on-legal, step-keeps}
+use Rattle.bus.proofs.Kept.{legal-facts, facts-legal, state-facts, power-on-legal, start-legal, step-keeps}
 use Rattle.bus.proofs.Untouched.{step-length}
 use Rattle.bus.proofs.Stored.{stored-own, asked-stored, call-stored}
 
@@ -52,16 +53,17 @@ pin-accepted : (state memory : List ℕ) → short state memory ≡ false → Ac
 unfolding call callOn askedBefore concluded stateAfter step resetPin
 pin-accepted state memory e = let sizes = long state memory e in rw e (stored-accepted state memory (sizes .0) (sizes .1) powerOn power-on-legal)
 
-start-accepted : (state memory : List ℕ) → short state memory ≡ false → Accepted (startOf state memory .state) (startOf state memory .memory)
+start-accepted : (hung : Hung) (state memory : List ℕ) → short state memory ≡ false → Accepted (startOf hung state memory .state) (startOf hung state memory .memory)
 unfolding startOf
-start-accepted state memory e =
+start-accepted hung state memory e =
     let sizes = long state memory e in
-    rw e (stored-accepted state (memoryAtStart ++ drop memorySize memory) (sizes .0) (rw (length-append memoryAtStart (drop memorySize memory), length-replicate {A = ℕ} memorySize 0) (omega arith)) powerOn power-on-legal)
+    rw e (stored-accepted state (memoryAtStart ++ drop memorySize memory) (sizes .0) (rw (length-append memoryAtStart (drop memorySize memory), length-replicate {A = ℕ} memorySize 0) (omega arith)) (registersAtStart hung) (start-legal hung))
 
 pub staysLegal : StaysLegal
 staysLegal = record {
   theImage = λ r. (facts-legal r, legal-facts r);
   atPowerOn = power-on-legal;
+  atStart = start-legal;
   anEvent = step-keeps;
   aCall = call-accepted;
   theResetPin = pin-accepted;

@@ -15,6 +15,7 @@ use Rattle.bus.specs.Calls.{called, replyOf, call}
 use Rattle.bus.specs.Bytes.{All, IsByte}
 use Rattle.bus.specs.Image.{Accepted}
 use Rattle.bus.specs.declared.registers.Registers.{Registers}
+use Rattle.bus.specs.declared.start.Hung.{Hung}
 
 -- The chip that a lent state and memory hold.
 abbrev pub chipIn : List ℕ → List ℕ → Chip
@@ -50,6 +51,6 @@ pub record CallsOnChip : Type 0 where
   pub theNext : (events : List Event) (event : Event) (state memory : List ℕ) → All IsByte events → Accepted state memory
       → call event (afterCalls events state memory .state) (afterCalls events state memory .memory) .reply
       ≡ replyOf (step event (afterEvents events (chipIn state memory) .registers) (afterEvents events (chipIn state memory) .memory) .answer)
-  -- From the start they are those of the chip at power-on with zero memory, of which the samples speak, the bytes past 1,188 as they were lent.
-  pub fromTheStart : (events : List Event) (state memory : List ℕ) → All IsByte events → short state memory ≡ false → let chip = chipOf registersAtStart (memoryAtStart ++ drop memorySize memory) in
-      afterCalls events (startOf state memory .state) (startOf state memory .memory) ≡ lent (imagedIn state (afterEvents events chip .registers)) (afterEvents events chip .memory)
+  -- From either start they are those of the chip with its registers and zero memory (upright, the chip at power-on, of which the samples speak), the bytes past 1,188 as they were lent.
+  pub fromTheStart : (hung : Hung) (events : List Event) (state memory : List ℕ) → All IsByte events → short state memory ≡ false → let chip = chipOf (registersAtStart hung) (memoryAtStart ++ drop memorySize memory) in
+      afterCalls events (startOf hung state memory .state) (startOf hung state memory .memory) ≡ lent (imagedIn state (afterEvents events chip .registers)) (afterEvents events chip .memory)

@@ -11,7 +11,7 @@ pub mod Events
 pub mod Chip
 -- when a lent image is legal; refusals 1 and 2
 pub mod Image
--- the starting state and memory
+-- the two starts: registers and memory
 pub mod Start
 -- the whole outcome of a call
 pub mod Calls
@@ -42,7 +42,7 @@ pub mod Given
 pub mod Untouched
 -- a call on lent images is the event on the chip
 pub mod CallsOnChip
--- what the start gives and leaves
+-- what the starts give and leave, and what the resets make of it
 pub mod TheStart
 -- a stretch event by event
 pub mod StretchLaws

@@ -22,6 +22,7 @@ use Rattle.bus.specs.declared.answer.Answer.{Answer}
 use Rattle.bus.specs.declared.image.Asked.{Asked}
 use Rattle.bus.specs.declared.calls.Reply.{Reply}
 use Rattle.bus.specs.declared.stretch.Stretch.{Stretch}
+use Rattle.bus.specs.declared.start.Hung.{Hung}
 
 pub record Settled : Type 0 where
   pub «calls::command» : (byte : ℕ) (state memory : List ℕ) → Settles (λ (o : Reply × List ℕ). called (o .0) (o .1) memory ≡ call (commandByte byte) state memory)
@@ -45,7 +46,7 @@ pub record Settled : Type 0 where
   pub «image::ask_state» : (state : List ℕ) → Settles (λ (r : Asked). r ≡ askedState state)
   pub «image::short» : (state memory : List ℕ) → Settles (λ (r : Bool). r ≡ short state memory)
   pub «image::legal» : (image : List ℕ) → Settles (λ (r : Bool). r ≡ legal image)
-  pub «start::start» : (state memory : List ℕ) → Settles (λ (o : ℕ × List ℕ × List ℕ). started (o .0) (o .1) (o .2) ≡ startOf state memory)
+  pub «start::start» : (hung : Hung) (state memory : List ℕ) → Settles (λ (o : ℕ × List ℕ × List ℕ). started (o .0) (o .1) (o .2) ≡ startOf hung state memory)
   pub «stretch::commands» : (registers : Registers) (bytes : List ℕ) → Settles (λ (r : Stretch). (memory : List ℕ) → stretchOf r memory ≡ stretch replay (map recorded.recordedCommand bytes) (chipOf registers memory))
   pub «stretch::writes» : (registers : Registers) (memory bytes : List ℕ) → Settles (λ (o : Stretch × List ℕ). stretchOf (o .0) (o .1) ≡ stretch replay (map recorded.recordedWrite bytes) (chipOf registers memory))
   pub «stretch::reads» : (registers : Registers) (memory bytes : List ℕ) → Settles (λ (r : Stretch). stretchOf r memory ≡ stretch replay (map recorded.readAs bytes) (chipOf registers memory))

@@ -20,8 +20,8 @@ returns : tie.Need-returns
 unfolding startOf
 returns c = rw (← (c .before .short .ensures), c .if1 .taken)
 
-power-on-requires : tie.Need-power-on-requires
-power-on-requires c κs = search needs
+registers-at-start-requires : tie.Need-registers-at-start-requires
+registers-at-start-requires c κs = search needs
 
 store-requires : tie.Need-store-requires
 store-requires c κs = search needs
@@ -37,7 +37,7 @@ same-length-4 c = search needs
 
 returns-2 : tie.Need-returns-2
 unfolding startOf
-returns-2 c = rw (← (c .before .before .before .before .before .before .before .before .before .before .short .ensures), c .before .before .before .before .before .before .before .before .before .if1 .left, c .before .before .clear .ensures, c .before .before .before .before .before .before .store .ensures, c .before .before .before .before .before .before .before .before .power-on .ensures)
+returns-2 c = rw (← (c .before .before .before .before .before .before .before .before .before .before .short .ensures), c .before .before .before .before .before .before .before .before .before .if1 .left, c .before .before .clear .ensures, c .before .before .before .before .before .before .store .ensures, c .before .before .before .before .before .before .before .before .registers-at-start .ensures)
 
 pub start-spec : {M : Type 1} → statement M
 start-spec =
@@ -47,7 +47,7 @@ start-spec =
     same-length
     same-length-2
     returns
-    power-on-requires
+    registers-at-start-requires
     store-requires
     clear-requires
     same-length-3
