@@ -6,12 +6,15 @@ use Rattle.constants.specs.Settles.{Settles}
 use Rattle.bus.specs.Chip.{commandByte, dataWritten, dataRead, resetPulse}
 use Rattle.bus.specs.Calls.{call}
 use Rattle.bus.specs.Start.{started, startOf}
+use Rattle.bus.specs.declared.start.Hung.{Hung}
 use Rattle.hostbus.specs.Events.{stateReply, writeReply, readReply, ofState, ofBoth, ofRead}
 use Rattle.hostbus.specs.PowerState.{powerReply, powerStateOf}
 
 pub record Settled : Type 0 where
   -- number, state, memory
-  pub «ssd1815b_start» : (state memory : List ℕ) → Settles (λ (o : ℕ × List ℕ × List ℕ). started (o .0) (o .1) (o .2) ≡ startOf state memory)
+  pub «ssd1815b_start» : (state memory : List ℕ) → Settles (λ (o : ℕ × List ℕ × List ℕ). started (o .0) (o .1) (o .2) ≡ startOf Hung.UpsideDown state memory)
+  -- number, state, memory
+  pub «ssd1815b_start_upright» : (state memory : List ℕ) → Settles (λ (o : ℕ × List ℕ × List ℕ). started (o .0) (o .1) (o .2) ≡ startOf Hung.Upright state memory)
   -- number, state
   pub «ssd1815b_command» : (state memory : List ℕ) (byte : ℕ) → Settles (λ (o : ℕ × List ℕ). stateReply (o .0) (o .1) ≡ ofState (call (commandByte byte) state memory))
   -- number, state, memory

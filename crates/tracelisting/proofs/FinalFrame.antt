@@ -10,6 +10,7 @@ use Rattle.bus.specs.Chip.{Chip}
 use Rattle.bus.specs.Image.{within, awaitedCodes, legal, short, asked}
 use Rattle.bus.specs.Start.{registersAtStart, memoryAtStart}
 use Rattle.bus.specs.declared.image.Asked.{Asked}
+use Rattle.bus.specs.declared.start.Hung.{Hung}
 use Rattle.bus.proofs.Asking.{found-legal}
 use Rattle.trace.specs.Records.{split}
 use Rattle.trace.specs.Play.{play}
@@ -22,32 +23,33 @@ use Rattle.picture.specs.Draw.{drawOn, draw}
 use Rattle.tracelisting.specs.TraceListing.{ranFromStart, frameAfter}
 use Rattle.tracelisting.specs.FinalFrame.{FinalFrames}
 
-found : asked (imageOf registersAtStart) memoryAtStart ≡ Asked.Found registersAtStart
+found : (hung : Hung) → asked (imageOf (registersAtStart hung)) memoryAtStart ≡ Asked.Found (registersAtStart hung)
 unfolding powerOn largestValues within awaitedCodes legal short asked
-found = refl
+found Hung.UpsideDown = refl
+found Hung.Upright = refl
 
-abbrev played : List ℕ → Chip
-played trace = play theChip (split trace) (chipOf registersAtStart memoryAtStart) .state
+abbrev played : Hung → List ℕ → Chip
+played hung trace = play theChip (split trace) (chipOf (registersAtStart hung) memoryAtStart) .state
 
-module _ (trace : List ℕ) (bytes : Bytes trace) where
+module _ (hung : Hung) (trace : List ℕ) (bytes : Bytes trace) where
   -- the state that is left is found legal
-  left : asked (ranFromStart trace .state) (ranFromStart trace .memory) ≡ Asked.Found (played trace .registers)
+  left : asked (ranFromStart hung trace .state) (ranFromStart hung trace .memory) ≡ Asked.Found (played hung trace .registers)
   unfolding ranFromStart
-  left = run-legal (imageOf registersAtStart) memoryAtStart registersAtStart found trace bytes
+  left = run-legal (imageOf (registersAtStart hung)) memoryAtStart (registersAtStart hung) (found hung) trace bytes
 
-  registers-left : registersOf (ranFromStart trace .state) ≡ played trace .registers
-  registers-left = found-legal (ranFromStart trace .state) (ranFromStart trace .memory) left .2
+  registers-left : registersOf (ranFromStart hung trace .state) ≡ played hung trace .registers
+  registers-left = found-legal (ranFromStart hung trace .state) (ranFromStart hung trace .memory) left .2
 
-  memory-left : ranFromStart trace .memory ≡ played trace .memory
+  memory-left : ranFromStart hung trace .memory ≡ played hung trace .memory
   unfolding ranFromStart run runOn ranOf
-  memory-left = rw found
+  memory-left = rw (found hung)
 
 pub final-frames : FinalFrames
 unfolding frameAfter draw drawOn
-final-frames trace bytes =
-    let ran = ranFromStart trace in
+final-frames hung trace bytes =
+    let ran = ranFromStart hung trace in
     record {
-      drawn = ap (λ asking. drawOn asking (ran .memory) (replicate frameSize 0) .number) (left trace bytes);
-      listed = ap (λ asking. drawOn asking (ran .memory) (replicate frameSize 0) .frame) (left trace bytes) ∙ append-nil _ ∙ ap (λ registers. frame registers (ran .memory)) (sym (registers-left trace bytes));
-      played = rw (registers-left trace bytes, memory-left trace bytes);
+      drawn = ap (λ asking. drawOn asking (ran .memory) (replicate frameSize 0) .number) (left hung trace bytes);
+      listed = ap (λ asking. drawOn asking (ran .memory) (replicate frameSize 0) .frame) (left hung trace bytes) ∙ append-nil _ ∙ ap (λ registers. frame registers (ran .memory)) (sym (registers-left hung trace bytes));
+      played = rw (registers-left hung trace bytes, memory-left hung trace bytes);
     }

@@ -10,4 +10,4 @@ use Rattle.tracelisting.specs.InputLength.{InputLength, OfInputLength}
 
 pub input-length : OfInputLength
 unfolding textFor
-input-length input = record { listed = λ l. rw (le-ltb longestTrace (length input) l); tooLong = λ l. rw (lt-ltb longestTrace (length input) l) }
+input-length hung input = record { listed = λ l. rw (le-ltb longestTrace (length input) l); tooLong = λ l. rw (lt-ltb longestTrace (length input) l) }

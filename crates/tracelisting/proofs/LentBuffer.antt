@@ -32,9 +32,9 @@ within-text whole text text′ size e = by (ltb (length text) longestListing) e
 
 pub of-lent-buffer : OfLentBuffer
 unfolding printedOf
-of-lent-buffer input text = record {
+of-lent-buffer hung input text = record {
   short = λ h. rw (lt-ltb (length text) longestListing h);
   long = λ h. rw (le-ltb (length text) longestListing h);
-  within = within-text (textFor input) text _ _ refl;
-  past = past (textFor input) text;
+  within = within-text (textFor hung input) text _ _ refl;
+  past = past (textFor hung input) text;
 }

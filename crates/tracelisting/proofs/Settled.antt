@@ -5,4 +5,4 @@ use Rattle.tracelisting.specs.TraceListing.{Printed}
 use Rattle.tracelisting.specs.Settled.{Settled}
 
 pub settled : Settled
-settled = record { «list_input» = λ input text a b p q. ap (λ (o : Printed). (o .size, o .text)) (p ∙ sym q) }
+settled = record { «list_input» = λ hung input text a b p q. ap (λ (o : Printed). (o .size, o .text)) (p ∙ sym q) }

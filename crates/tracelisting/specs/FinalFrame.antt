@@ -8,6 +8,7 @@ use Rattle.constants.specs.Sizes.{frameSize}
 use Rattle.bus.specs.Registers.{registersOf}
 use Rattle.bus.specs.Chip.{Chip}
 use Rattle.bus.specs.Start.{registersAtStart, memoryAtStart}
+use Rattle.bus.specs.declared.start.Hung.{Hung}
 use Rattle.trace.specs.Records.{split}
 use Rattle.trace.specs.Play.{play}
 use Rattle.trace.specs.Kinds.{chipOf, theChip}
@@ -21,14 +22,14 @@ use Rattle.tracelisting.specs.TraceListing.{ranFromStart, frameAfter}
 abbrev pub chipAfter : Ran → Chip
 chipAfter ran = chipOf (registersOf (ran .state)) (ran .memory)
 
-pub record FinalFrame (trace : List ℕ) : Type 0 where
+pub record FinalFrame (hung : Hung) (trace : List ℕ) : Type 0 where
   -- the drawing is never refused
-  pub drawn : draw (ranFromStart trace .state) (ranFromStart trace .memory) (replicate frameSize 0) .number ≡ taken
+  pub drawn : draw (ranFromStart hung trace .state) (ranFromStart hung trace .memory) (replicate frameSize 0) .number ≡ taken
   -- the frame that is listed is that of the registers and memory that the run leaves
-  pub listed : frameAfter (ranFromStart trace) ≡ frame (chipAfter (ranFromStart trace) .registers) (chipAfter (ranFromStart trace) .memory)
+  pub listed : frameAfter (ranFromStart hung trace) ≡ frame (chipAfter (ranFromStart hung trace) .registers) (chipAfter (ranFromStart hung trace) .memory)
   -- and these are what the trace's records leave of the chip as it starts
-  pub played : chipAfter (ranFromStart trace) ≡ play theChip (split trace) (chipOf registersAtStart memoryAtStart) .state
+  pub played : chipAfter (ranFromStart hung trace) ≡ play theChip (split trace) (chipOf (registersAtStart hung) memoryAtStart) .state
 
--- For each trace of bytes.
+-- For each start, and each trace of bytes.
 abbrev pub FinalFrames : Type 0
-FinalFrames = (trace : List ℕ) → Bytes trace → FinalFrame trace
+FinalFrames = (hung : Hung) (trace : List ℕ) → Bytes trace → FinalFrame hung trace

@@ -3,7 +3,8 @@ use Prim.Native.Nat.{ℕ}
 use mathlib.Core.Path.{_≡_}
 use mathlib.Core.List.{List}
 use Rattle.constants.specs.Settles.{Settles}
+use Rattle.bus.specs.declared.start.Hung.{Hung}
 use Rattle.tracelisting.specs.TraceListing.{textFor, printed, printedOf}
 
 pub record Settled : Type 0 where
-  pub «list_input» : (input text : List ℕ) → Settles (λ (o : ℕ × List ℕ). printed (o .0) (o .1) ≡ printedOf (textFor input) text)
+  pub «list_input» : (hung : Hung) (input text : List ℕ) → Settles (λ (o : ℕ × List ℕ). printed (o .0) (o .1) ≡ printedOf (textFor hung input) text)

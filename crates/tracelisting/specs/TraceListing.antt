@@ -7,26 +7,27 @@ use lib.ListN.{length, drop, replicate}
 use Rattle.constants.specs.Sizes.{frameSize, longestTrace, longestListing}
 use Rattle.bus.specs.Registers.{imageOf}
 use Rattle.bus.specs.Start.{registersAtStart, memoryAtStart}
+use Rattle.bus.specs.declared.start.Hung.{Hung}
 use Rattle.trace.specs.Run.{Ran, run}
 use Rattle.picture.specs.Draw.{draw}
 use Rattle.framelisting.specs.Ascii.{ascii}
 use Rattle.framelisting.specs.Text.{listingOf}
 
--- The trace run from the start.
-unfoldable pub ranFromStart : List ℕ → Ran
-ranFromStart trace = run (imageOf registersAtStart) memoryAtStart trace
+-- The trace run from the start, as the module hangs.
+unfoldable pub ranFromStart : Hung → List ℕ → Ran
+ranFromStart hung trace = run (imageOf (registersAtStart hung)) memoryAtStart trace
 
 -- The frame after a run, drawn over a dark one.
 unfoldable pub frameAfter : Ran → List ℕ
 frameAfter ran = draw (ran .state) (ran .memory) (replicate frameSize 0) .frame
 
 -- The listing of a trace: the frame that its run leaves, after the number and the offset of a run that stopped.
-unfoldable pub listingOfTrace : List ℕ → List ℕ
-listingOfTrace trace = let ran = ranFromStart trace in listingOf (ran .stop .number) (ran .stop .offset) (frameAfter ran)
+unfoldable pub listingOfTrace : Hung → List ℕ → List ℕ
+listingOfTrace hung trace = let ran = ranFromStart hung trace in listingOf (ran .stop .number) (ran .stop .offset) (frameAfter ran)
 
 -- What is printed for an input: its listing; for a longer input than 65,536 bytes only one line.
-unfoldable pub textFor : List ℕ → List ℕ
-textFor input = cond (ltb longestTrace (length input)) (ascii "input too long\n") (listingOfTrace input)
+unfoldable pub textFor : Hung → List ℕ → List ℕ
+textFor hung input = cond (ltb longestTrace (length input)) (ascii "input too long\n") (listingOfTrace hung input)
 
 -- The text's length that the call answers, and the buffer that it leaves.
 pub record Printed : Type 0 where

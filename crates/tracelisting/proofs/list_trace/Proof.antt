@@ -9,6 +9,7 @@ use Prim.Native.Nat.{ℕ}
 use native.Mathlib.Omega.{arith}
 use borrow.Author.Tests.{lt-ltb}
 use denote.Ref.{now}
+use Rattle.bus.specs.declared.start.Hung.{Hung}
 use Rattle.framelisting.specs.Listing.{outcome, written}
 use Rattle.tracelisting.specs.TraceListing.{listingOfTrace, printedOf}
 use Rattle.tracelisting.proofs.ListedByCalls.{whole, finished, never-refused}
@@ -72,6 +73,9 @@ starting d = running d .before .before .before .before .before
 abbrev tested : tie.After-list → tie.Else1
 tested d = starting d .before .before .before
 
+abbrev hungOf : tie.After-list → Hung
+hungOf d = tested d .before .before .before .args .hung
+
 abbrev traceOf : tie.After-list → List ℕ
 traceOf d = now (tested d .before .before .before .args .trace)
 
@@ -79,12 +83,12 @@ abbrev textOf : tie.After-list → List ℕ
 textOf d = now (tested d .before .before .before .args .text)
 
 -- what the listing leaves
-left : (d : tie.After-list) → outcome (d .list .result) (d .list .last .1 .1 .1 .0) ≡ written (listingOfTrace (traceOf d)) (textOf d)
+left : (d : tie.After-list) → outcome (d .list .result) (d .list .last .1 .1 .1 .0) ≡ written (listingOfTrace (hungOf d) (traceOf d)) (textOf d)
 left d =
     let drawn = drawing d in
     let ran = running d in
     let begun = starting d in
-    whole (traceOf d) (textOf d) (begun .start .last .0) (begun .start .last .1 .0) (begun .start .result) (ran .run .result) (ran .run .last .0) (ran .run .last .1 .0) (drawn .draw .last .1 .1 .0) (d .list .last .1 .1 .1 .0) (drawn .draw .result) (d .list .result) (begun .start .ensures) (ran .run .ensures) (drawn .draw .ensures) (d .list .ensures) (omega (arith, ran)) (omega (arith, ran)) (omega (arith, drawn)) (tested d .if1 .left)
+    whole (hungOf d) (traceOf d) (textOf d) (begun .start .last .1 .0) (begun .start .last .1 .1 .0) (begun .start .result) (ran .run .result) (ran .run .last .0) (ran .run .last .1 .0) (drawn .draw .last .1 .1 .0) (d .list .last .1 .1 .1 .0) (drawn .draw .result) (d .list .result) (begun .start .ensures) (ran .run .ensures) (drawn .draw .ensures) (d .list .ensures) (omega (arith, ran)) (omega (arith, ran)) (omega (arith, drawn)) (tested d .if1 .left)
 
 same-length : tie.Need-same-length
 same-length c = search needs
@@ -92,7 +96,7 @@ same-length c = search needs
 returns-2 : tie.Need-returns-2
 returns-2 c =
     let d = c .before .before .before .before .before in
-    finished (traceOf d) (textOf d) _ _ _ (tested d .if1 .left) (left d) (c .before .length .given .1)
+    finished (hungOf d) (traceOf d) (textOf d) _ _ _ (tested d .if1 .left) (left d) (c .before .length .given .1)
 
 same-length-2 : tie.Need-same-length-2
 same-length-2 c = search needs
