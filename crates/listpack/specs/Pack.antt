@@ -4,6 +4,9 @@ use mathlib.Core.Bool.{cond, _&&_}
 use mathlib.Core.List.{List}
 use lib.Dec.{eqb, leb}
 use lib.ListN.{length, getD}
+use Rattle.bus.specs.declared.start.Hung.{Hung}
+use Rattle.framelisting.specs.Ascii.{ascii}
+use Rattle.tracelisting.specs.Beginning.{begins}
 use Rattle.listpack.specs.declared.pack.Entry.{Entry}
 
 -- A number of four bytes, little-endian.
@@ -31,3 +34,7 @@ entryOf bytes =
     (cond (leb headerSize (length bytes) && leb (headerSize + nameLength bytes + traceLength bytes) (length bytes))
     (Entry.Whole (record { name = nameLength bytes; trace = traceLength bytes }))
     Entry.Cut)
+
+-- The start that an entry is listed from: that of an old cabinet where its name begins with the word `upright` and a space, else that of a new one.
+unfoldable pub hungBy : List ℕ → Hung
+hungBy name = cond (begins (ascii "upright ") name) Hung.Upright Hung.UpsideDown

@@ -7,6 +7,7 @@ use libc::STDOUT_FILENO;
 use pack::Entry;
 use pack::HEADER_SIZE;
 use pack::entry_at;
+use pack::hung_by;
 use standardinput::Input;
 use standardinput::read_input;
 
@@ -60,10 +61,10 @@ fn list_entries(pack: &[u8]) -> bool {
     }
 }
 
-// Prints an entry's name, and what the listing program prints for its trace.
+// Prints an entry's name, and what the listing program prints for its trace from the start that the name asks for.
 fn list_entry(name: &[u8], trace: &[u8]) -> bool {
     let mut text = [0u8; LONGEST_LISTING];
-    let length = tracelisting::list_input(trace, &mut text);
+    let length = tracelisting::list_input(hung_by(name), trace, &mut text);
     io::write_all(STDOUT_FILENO, b"trace ")
         && io::write_all(STDOUT_FILENO, name)
         && io::write_all(STDOUT_FILENO, b"\n")

@@ -2,7 +2,9 @@
 ghost use mathlib.Core.Path.{_≡_};
 ghost use Prim.Native.Nat.{_+_, _<_};
 ghost use lib.ListN.{length, drop};
-ghost use Rattle.listpack.specs.Pack.{number, entryOf};
+ghost use Rattle.listpack.specs.Pack.{number, entryOf, hungBy};
+use bus::start::Hung;
+use tracelisting::word::begins_with;
 
 // Bytes of a length in a header, and of an entry's header, which has two.
 const LENGTH_SIZE: usize = 4;
@@ -40,6 +42,16 @@ pub fn entry_at(pack: &[u8], at: usize) -> Entry
         return Entry::Whole(Sizes { name, trace });
     }
     Entry::Cut
+}
+
+// The start that an entry's name asks for: that of an old cabinet where it begins with the word `upright` and a space.
+pub fn hung_by(name: &[u8]) -> Hung
+    ensures { λ r. ⌜ r ≡ hungBy (now (name .entry)) ⌝ }
+{
+    if begins_with(name, b"upright ") {
+        return Hung::Upright;
+    }
+    Hung::UpsideDown
 }
 
 // The number of four bytes at an offset, little-endian.

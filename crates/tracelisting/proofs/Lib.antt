@@ -4,11 +4,13 @@ pub mod ListedByCalls
 pub mod FinalFrame
 -- Which inputs are listed.
 pub mod InputLength
--- Document 01's own trace prints what it says.
+-- Document 01's own trace prints what it says, from each start.
 pub mod Sample
 -- What a listing leaves in a lent buffer.
 pub mod LentBuffer
--- What the call states has one result.
+-- Whether a text begins with a word.
+pub mod Beginning
+-- What each call states has one result.
 pub mod Settled
 -- A column of a frame by what each of its places shows, for the table that follows.
 pub mod FrameColumns

@@ -8,5 +8,7 @@ pub mod FinalFrame
 pub mod Sample
 -- what a buffer has then, by its length
 pub mod LentBuffer
--- one result for the call's statement
+-- the plain word by which the old start is asked for
+pub mod Beginning
+-- one result for each call's statement
 pub mod Settled

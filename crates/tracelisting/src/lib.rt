@@ -1,4 +1,6 @@
 // From a trace's bytes to the text that the listing program prints for it.
+pub mod word;
+
 ghost use mathlib.Core.Path.{_≡_};
 ghost use Prim.Native.Nat.{_≤_};
 ghost use lib.ListN.{length};

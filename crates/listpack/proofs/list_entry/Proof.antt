@@ -7,6 +7,9 @@ use Rattle.tracelisting.proofs.LentBuffer.{within-text}
 use Rattle.listpack.proofs.list_entry.Statement.{statement}
 use Rattle.listpack.proofs.list_entry.Tie as tie
 
+hung-by-requires : tie.Need-hung-by-requires
+hung-by-requires c κs = search needs
+
 slice-aggregate-list-input : tie.Need-slice-aggregate-list-input
 slice-aggregate-list-input c = search needs
 
@@ -47,6 +50,7 @@ pub list-entry-spec : {M : Type 1} → statement M
 list-entry-spec =
     tie.close
     (tie.spec
+    hung-by-requires
     slice-aggregate-list-input
     list-input-requires
     slice-aggregate-write-all

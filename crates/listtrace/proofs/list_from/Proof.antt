@@ -1,12 +1,12 @@
--- `listtrace::main` is safe and ends: what was read and what it prints are within their buffers.
+-- `listtrace::list_from` is safe and ends: what was read and what it prints are within their buffers.
 -- Assumes nothing.
 use mathlib.Core.Path.{sym}
 use lib.Seq.{length-take-le}
 use Rattle.standardinput.proofs.Reading.{read-counts}
 use Rattle.tracelisting.proofs.LentBuffer.{within-text}
 use borrow.Author.Needs.{needs}
-use Rattle.listtrace.proofs.main.Statement.{statement}
-use Rattle.listtrace.proofs.main.Tie as tie
+use Rattle.listtrace.proofs.list_from.Statement.{statement}
+use Rattle.listtrace.proofs.list_from.Tie as tie
 
 slice-aggregate-read-input : tie.Need-slice-aggregate-read-input
 slice-aggregate-read-input c = search needs
@@ -62,8 +62,8 @@ write-all-requires-3 c κs = search needs
 returns-3 : tie.Need-returns-3
 returns-3 c = search needs
 
-pub main-spec : {M : Type 1} → statement M
-main-spec =
+pub list-from-spec : {M : Type 1} → statement M
+list-from-spec =
     tie.close
     (tie.spec
     slice-aggregate-read-input
