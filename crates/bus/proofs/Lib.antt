@@ -37,6 +37,8 @@ pub mod Given
 pub mod StaysLegal
 -- a call on lent images is the event on the chip
 pub mod CallsOnChip
+-- the directions are for drawing alone
+pub mod Directions
 -- what the starts give and leave, and what the resets make of it
 pub mod TheStart
 -- 4. Stretches.

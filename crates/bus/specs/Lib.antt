@@ -44,6 +44,8 @@ pub mod Untouched
 pub mod CallsOnChip
 -- what the starts give and leave, and what the resets make of it
 pub mod TheStart
+-- the directions are for drawing alone
+pub mod Directions
 -- a stretch event by event
 pub mod StretchLaws
 -- one result for each statement

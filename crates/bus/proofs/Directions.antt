@@ -1,0 +1,179 @@
+-- The two directions are for drawing alone: each event is looked at on registers with any two pairs of directions.
+-- Assumes nothing.
+use mathlib.Core.Path.{_≡_, refl, sym, _∙_, ap, subst}
+use mathlib.Core.Bool.{Bool, true, false, cond, _||_}
+use mathlib.Core.List.{List}
+use Prim.Native.Nat.{ℕ}
+use lib.Dec.{eqb}
+use lib.ListN.{length}
+use Rattle.codes.specs.Table.{meaningOf}
+use Rattle.codes.specs.declared.Command.{Command}
+use Rattle.constants.specs.Numbers.{taken, readDiffers}
+use Rattle.bus.specs.Places.{columnDirection, rowDirection, column, awaited, modify, saved, fresh}
+use Rattle.bus.specs.Registers.{_with_≔_}
+use Rattle.bus.specs.Events.{commandTaken, enter, leave, obeyed, command, access, moved, silently, write, written, dummyRead, byteRead, read, resetPin}
+use Rattle.bus.specs.Chip.{Chip, Event, commandByte, dataWritten, dataRead, resetPulse, step}
+use Rattle.bus.specs.Recorded.{Recorded, event, readAs, chipOf, happened, compared, replay}
+use Rattle.bus.specs.Result.{refuses, gives, Matches}
+use Rattle.bus.specs.Directions.{undirected, SameButDirections, Alike, SameChips, Directions}
+use Rattle.bus.specs.declared.registers.Registers.{Registers}
+use Rattle.bus.specs.declared.answer.Answer.{Answer}
+
+-- registers with these directions
+abbrev directed : ℕ → ℕ → Registers → Registers
+directed a b u = u with columnDirection ≔ a with rowDirection ≔ b
+
+-- every registers are so
+own : (r : Registers) → r ≡ directed (r .«column_direction») (r .«row_direction») (undirected r)
+own r = refl
+
+module _ (a b c d : ℕ) where
+  -- the same but for the directions, each of which is the same where it was
+  abbrev So : Registers → Registers → Type 0
+  So one other = SameButDirections one other × (a ≡ c → one .«column_direction» ≡ other .«column_direction») × (b ≡ d → one .«row_direction» ≡ other .«row_direction»)
+
+  module _ (u : Registers) where
+    abbrev r : Registers
+    r = directed a b u
+
+    abbrev s : Registers
+    s = directed c d u
+
+    entered : (t : Bool) → Alike So (commandTaken (cond t r (r with modify ≔ 1 with saved ≔ u .column))) (commandTaken (cond t s (s with modify ≔ 1 with saved ≔ u .column)))
+    entered true = (refl, refl, (refl, λ e. e, λ e. e))
+    entered false = (refl, refl, (refl, λ e. e, λ e. e))
+
+    left : (t : Bool) → Alike So (commandTaken (cond t (r with modify ≔ 0 with column ≔ u .saved with saved ≔ 0) r)) (commandTaken (cond t (s with modify ≔ 0 with column ≔ u .saved with saved ≔ 0) s))
+    left true = (refl, refl, (refl, λ e. e, λ e. e))
+    left false = (refl, refl, (refl, λ e. e, λ e. e))
+
+    obeyed-alike : (named : Command) → Alike So (obeyed named r) (obeyed named s)
+    unfolding obeyed
+    obeyed-alike (Command.ColumnLow low) = (refl, refl, (refl, λ e. e, λ e. e))
+    obeyed-alike (Command.ColumnHigh high) = (refl, refl, (refl, λ e. e, λ e. e))
+    obeyed-alike (Command.ResistorRatio value) = (refl, refl, (refl, λ e. e, λ e. e))
+    obeyed-alike (Command.PowerControl value) = (refl, refl, (refl, λ e. e, λ e. e))
+    obeyed-alike (Command.StartLine value) = (refl, refl, (refl, λ e. e, λ e. e))
+    obeyed-alike (Command.Contrast value) = (refl, refl, (refl, λ e. e, λ e. e))
+    obeyed-alike (Command.ColumnDirection value) = (refl, refl, (refl, λ e. refl, λ e. e))
+    obeyed-alike (Command.Bias value) = (refl, refl, (refl, λ e. e, λ e. e))
+    obeyed-alike (Command.EntireOn value) = (refl, refl, (refl, λ e. e, λ e. e))
+    obeyed-alike (Command.Reverse value) = (refl, refl, (refl, λ e. e, λ e. e))
+    obeyed-alike (Command.Multiplex value) = (refl, refl, (refl, λ e. e, λ e. e))
+    obeyed-alike (Command.HeldByte value) = (refl, refl, (refl, λ e. e, λ e. e))
+    obeyed-alike (Command.QuarterBias value) = (refl, refl, (refl, λ e. e, λ e. e))
+    obeyed-alike Command.IndicatorOff = (refl, refl, (refl, λ e. e, λ e. e))
+    obeyed-alike (Command.IndicatorMode value) = (refl, refl, (refl, λ e. e, λ e. e))
+    obeyed-alike (Command.DisplayOn value) = (refl, refl, (refl, λ e. e, λ e. e))
+    obeyed-alike (Command.Page value) = (refl, refl, (refl, λ e. e, λ e. e))
+    obeyed-alike Command.NoPage = refl
+    obeyed-alike (Command.RowDirection value) = (refl, refl, (refl, λ e. e, λ e. refl))
+    obeyed-alike (Command.Offset value) = (refl, refl, (refl, λ e. e, λ e. e))
+    obeyed-alike (Command.FramePhases value) = (refl, refl, (refl, λ e. e, λ e. e))
+    obeyed-alike Command.EnterReadModifyWrite = entered (eqb (u .modify) 1)
+    obeyed-alike Command.SoftwareReset = (refl, refl, (refl, λ e. e, λ e. refl))
+    obeyed-alike Command.Nothing = (refl, refl, (refl, λ e. e, λ e. e))
+    obeyed-alike Command.LeaveReadModifyWrite = left (eqb (u .modify) 1)
+    obeyed-alike (Command.Await code) = (refl, refl, (refl, λ e. e, λ e. e))
+    obeyed-alike Command.NotAllowed = refl
+    obeyed-alike Command.NotAwaited = refl
+    obeyed-alike Command.Outside = refl
+
+    -- a data event that is refused with a number, or taken
+    accessed : (t : Bool) (number : ℕ) (one other : Answer) → Alike So one other → Alike So (cond t one (Answer.Refused number)) (cond t other (Answer.Refused number))
+    accessed true number one other alike = alike
+    accessed false number one other alike = refl
+
+    any-read : (byte : ℕ) (f m : Bool) → Alike So
+        (cond f (dummyRead r) (Answer.Taken (record { registers = cond m r (moved r); byte = byte; dummy = false })))
+        (cond f (dummyRead s) (Answer.Taken (record { registers = cond m s (moved s); byte = byte; dummy = false })))
+    any-read byte true m = (refl, refl, (refl, λ e. e, λ e. e))
+    any-read byte false true = (refl, refl, (refl, λ e. e, λ e. e))
+    any-read byte false false = (refl, refl, (refl, λ e. e, λ e. e))
+
+  command-alike : (byte : ℕ) (u : Registers) → Alike So (command byte (directed a b u)) (command byte (directed c d u))
+  unfolding command
+  command-alike byte u = obeyed-alike (u with awaited ≔ 0) (meaningOf (u .awaited) byte)
+
+  step-alike : (what : Event) (u : Registers) (memory : List ℕ) → Alike So (step what (directed a b u) memory .answer) (step what (directed c d u) memory .answer)
+  unfolding step write read access resetPin
+  step-alike (commandByte byte) u memory = command-alike byte u
+  step-alike (dataWritten byte) u memory = accessed u (eqb (access u (length memory)) taken) (access u (length memory)) _ _ (refl, refl, (refl, λ e. e, λ e. e))
+  step-alike dataRead u memory = accessed u (eqb (access u (length memory)) taken) (access u (length memory)) _ _ (any-read u _ (eqb (u .fresh) 1) (eqb (u .modify) 1))
+  step-alike resetPulse u memory = (refl, refl, (refl, λ e. refl, λ e. refl))
+
+  step-stores : (what : Event) (u : Registers) (memory : List ℕ) → step what (directed a b u) memory .memory ≡ step what (directed c d u) memory .memory
+  unfolding step written access
+  step-stores (commandByte byte) u memory = refl
+  step-stores (dataWritten byte) u memory = refl
+  step-stores dataRead u memory = refl
+  step-stores resetPulse u memory = refl
+
+-- answers that are alike in one way are so in any that follows from it
+weaker : (R T : Registers → Registers → Type 0) → ((one other : Registers) → R one other → T one other) → (x y : Answer) → Alike R x y → Alike T x y
+weaker R T f (Answer.Taken one) (Answer.Taken other) l = (l .0, l .1, f (one .registers) (other .registers) (l .2))
+weaker R T f (Answer.Refused one) (Answer.Refused other) l = l
+weaker R T f (Answer.Taken one) (Answer.Refused other) l = l
+weaker R T f (Answer.Refused one) (Answer.Taken other) l = l
+
+-- what happened to chips that answer alike, and what a compared read made of them
+happened-matches : (x y : Answer) (m n : List ℕ) → m ≡ n → Alike SameButDirections x y → Matches SameChips (happened x m) (happened y n)
+unfolding happened
+happened-matches (Answer.Taken one) (Answer.Taken other) m n e l = (e, l .2)
+happened-matches (Answer.Refused one) (Answer.Refused other) m n e l = l
+happened-matches (Answer.Taken one) (Answer.Refused other) m n e l = absurd l
+happened-matches (Answer.Refused one) (Answer.Taken other) m n e l = absurd l
+
+compared-matches : (byte : ℕ) (x y : Answer) (m n : List ℕ) → m ≡ n → Alike SameButDirections x y → Matches SameChips (compared byte x m) (compared byte y n)
+unfolding compared
+compared-matches byte (Answer.Taken one) (Answer.Taken other) m n e l = rw (l .0, l .1) (by (other .dummy || eqb (other .byte) byte))
+  where
+    by : (t : Bool) → Matches SameChips (cond t (gives (chipOf (one .registers) m)) (refuses readDiffers)) (cond t (gives (chipOf (other .registers) n)) (refuses readDiffers))
+    by true = (e, l .2)
+    by false = refl
+compared-matches byte (Answer.Refused one) (Answer.Refused other) m n e l = l
+compared-matches byte (Answer.Taken one) (Answer.Refused other) m n e l = absurd l
+compared-matches byte (Answer.Refused one) (Answer.Taken other) m n e l = absurd l
+
+-- so for registers that are the same but for the directions
+module _ (r s : Registers) (same : SameButDirections r s) where
+  abbrev Kept : Registers → Registers → Type 0
+  Kept = So (r .«column_direction») (r .«row_direction») (s .«column_direction») (s .«row_direction»)
+
+  alike : (what : Event) (memory : List ℕ) → Alike Kept (step what r memory .answer) (step what s memory .answer)
+  alike what memory =
+      subst (λ u. Alike Kept (step what r memory .answer) (step what (directed (s .«column_direction») (s .«row_direction») u) memory .answer)) same
+      (step-alike (r .«column_direction») (r .«row_direction») (s .«column_direction») (s .«row_direction») what (undirected r) memory)
+
+  stores : (what : Event) (memory : List ℕ) → step what r memory .memory ≡ step what s memory .memory
+  stores what memory =
+      subst (λ u. step what r memory .memory ≡ step what (directed (s .«column_direction») (s .«row_direction») u) memory .memory) same
+      (step-stores (r .«column_direction») (r .«row_direction») (s .«column_direction») (s .«row_direction») what (undirected r) memory)
+
+  answers : (what : Event) (memory : List ℕ) → Alike SameButDirections (step what r memory .answer) (step what s memory .answer)
+  answers what memory = weaker Kept SameButDirections (λ one other so. so .0) (step what r memory .answer) (step what s memory .answer) (alike what memory)
+
+  the-same : r .«column_direction» ≡ s .«column_direction» → r .«row_direction» ≡ s .«row_direction» → r ≡ s
+  the-same c d = ap (λ u. directed (r .«column_direction») (r .«row_direction») u) same ∙ ap (λ a. directed a (r .«row_direction») (undirected s)) c ∙ ap (λ b. directed (s .«column_direction») b (undirected s)) d
+
+recorded : (what : Recorded) (c d : Chip) → SameChips c d → Matches SameChips (replay what c) (replay what d)
+unfolding replay
+recorded (event e) c d same =
+    subst (λ m. Matches SameChips (replay (event e) c) (replay (event e) (chipOf (d .registers) m))) (same .0)
+    (happened-matches _ _ _ _ (stores (c .registers) (d .registers) (same .1) e (c .memory)) (answers (c .registers) (d .registers) (same .1) e (c .memory)))
+recorded (readAs byte) c d same =
+    subst (λ m. Matches SameChips (replay (readAs byte) c) (replay (readAs byte) (chipOf (d .registers) m))) (same .0)
+    (compared-matches byte _ _ _ _ (stores (c .registers) (d .registers) (same .1) dataRead (c .memory)) (answers (c .registers) (d .registers) (same .1) dataRead (c .memory)))
+
+pub directions : Directions
+unfolding command obeyed
+directions = record {
+  answers = λ what r s memory same. answers r s same what memory;
+  stores = λ what r s memory same. stores r s same what memory;
+  recorded = recorded;
+  columnsStay = λ what r s memory same e. weaker (Kept r s same) (λ one other. one .«column_direction» ≡ other .«column_direction») (λ one other so. so .1 e) (step what r memory .answer) (step what s memory .answer) (alike r s same what memory);
+  rowsStay = λ what r s memory same e. weaker (Kept r s same) (λ one other. one .«row_direction» ≡ other .«row_direction») (λ one other so. so .2 e) (step what r memory .answer) (step what s memory .answer) (alike r s same what memory);
+  columnsSet = λ r b value e. rw e refl;
+  rowsSet = λ r b value e. rw e refl;
+  theSame = the-same;
+}
