@@ -19,6 +19,7 @@ use Rattle.trace.proofs.PlayedFurther.{plays-nothing, plays-cut, plays-
 use Rattle.trace.proofs.PlayedJoined.{taken-offset, taken-count, joined}
 use Rattle.trace.proofs.PlayedStops.{First, all, cutAt, stopAt, first, from-there}
 use Rattle.trace.proofs.PlayedKeeps.{split-carries, play-keeps}
+use Rattle.trace.proofs.PlayedAlike.{played-alike}
 
 take-all : (l : List ℕ) → take (length l) l ≡ l
 take-all l = sym (append-nil (take (length l) l)) ∙ ap (λ more. take (length l) l ++ more) (sym (drop-of-length-le l {i = length l} (omega arith))) ∙ take-append-drop (length l) l
@@ -110,4 +111,5 @@ module _ {S E : Type 0} (machine : Machine S E) where
         whole = λ sound trace s h. (taken-offset machine sound trace [] s h, taken-count machine sound trace [] s h);
         joined = λ sound a b s h. joined machine sound a b s h;
         kept = λ R P Q brings keeps trace s all h. play-keeps machine R P Q brings keeps (split trace) 0 s (split-carries R 0 0 trace all) h;
+        alike = λ R meets trace s t r. played-alike machine R meets (split trace) 0 s t r;
       }

@@ -16,6 +16,8 @@ pub mod PlayedJoined
 pub mod PlayedStops
 -- what each event keeps is kept
 pub mod PlayedKeeps
+-- from related states that meet each event alike
+pub mod PlayedAlike
 -- the bytes of a payload, one after the other
 pub mod PayloadBytes
 -- proves specs/AnyMachine
@@ -31,6 +33,8 @@ pub mod ChipKeeps
 pub mod ChipNotOneOrTwo
 -- a record's events are a stretch on the bus: proves specs/Stretched
 pub mod RecordsAreStretches
+-- the start is seen in the directions alone: proves specs/EitherStart
+pub mod EitherStart
 -- 4. The run on a lent state and memory.
 -- refused first, or played from the image's registers; what it leaves
 pub mod RunOnLent

@@ -8,6 +8,7 @@ use lib.ListN.{length, take, drop}
 use Rattle.constants.specs.Numbers.{taken, headerCut}
 use Rattle.constants.specs.Sizes.{headerSize}
 use Rattle.bus.specs.Bytes.{All}
+use Rattle.bus.specs.Result.{Matches}
 use Rattle.bus.specs.StretchLaws.{NeverZero}
 use Rattle.trace.specs.Records.{kindOf, payloadOf, whole, CutShort, split, recordsIn}
 use Rattle.trace.specs.Play.{Result, refuses, gives, Machine, done, Played, played, playEvents, play}
@@ -42,6 +43,13 @@ abbrev pub Gives : {A : Type 0} → (A → Type 0) → Result A → Type 0
 Gives P (refuses number) = Unit {0}
 Gives P (gives a) = P a
 
+-- One number, offset and count, and states that are related.
+pub record SamePlay {S : Type 0} (R : S → S → Type 0) (p q : Played S) : Type 0 where
+  pub number : p .number ≡ q .number
+  pub offset : p .offset ≡ q .offset
+  pub count : p .count ≡ q .count
+  pub state : R (p .state) (q .state)
+
 pub record AnyMachine {S E : Type 0} (machine : Machine S E) : Type 1 where
   -- A played trace is what its events give one by one, each from the state that the one before it left, up to the first refused one.
   pub byEvents : (trace : List ℕ) (s : S) → play machine (split trace) s ≡ oneByOne machine (scriptFrom machine (split trace) 0) s
@@ -59,3 +67,6 @@ pub record AnyMachine {S E : Type 0} (machine : Machine S E) : Type 1 where
   pub kept : (R : ℕ → Type 0) (P : S → Type 0) (Q : E → Type 0) → ((kind : ℕ) (payload : List ℕ) → All R payload → Gives (All Q) (machine .events kind payload))
       → ((event : E) (s : S) → Q event → P s → Gives P (machine .step event s))
       → (trace : List ℕ) (s : S) → All R trace → P s → P (play machine (split trace) s .state)
+  -- Where related states meet each event alike, refused with one number or led to related states, a trace is played alike from them.
+  pub alike : (R : S → S → Type 0) → ((event : E) (s t : S) → R s t → Matches R (machine .step event s) (machine .step event t))
+      → (trace : List ℕ) (s t : S) → R s t → SamePlay R (play machine (split trace) s) (play machine (split trace) t)

@@ -30,6 +30,8 @@ pub mod Given
 pub mod RunLaws
 -- a run of one record, by its kind
 pub mod OneRecord
+-- the start is seen in the two directions alone
+pub mod EitherStart
 -- runs from power-on, computed
 pub mod Samples
 -- one result for each public call

@@ -11,8 +11,8 @@ use Rattle.trace.specs.Run.{Ran, ran, stopOf, run}
 abbrev pub zeros : List ℕ
 zeros = replicate memorySize 0
 
-abbrev pub fromStart : List ℕ → Ran
-fromStart trace = run (imageOf powerOn) zeros trace
+abbrev pub fromPowerOn : List ℕ → Ran
+fromPowerOn trace = run (imageOf powerOn) zeros trace
 
 -- document 01's own trace: display on, then data 03 and 01
 abbrev pub own : List ℕ
@@ -79,9 +79,9 @@ samples =
 
 pub record RunSamples : Type 0 where
   -- Number, offset and count of each sample.
-  pub answers : map (λ s. fromStart (s .trace) .stop) samples ≡ map (λ s. stopOf (s .number) (s .offset) (s .count)) samples
+  pub answers : map (λ s. fromPowerOn (s .trace) .stop) samples ≡ map (λ s. stopOf (s .number) (s .offset) (s .count)) samples
   -- The whole outcome of four: earlier effects stand, a read that differs has not happened, and the reset pin gives power-on and leaves the memory.
-  pub outcomes : map fromStart (own ∷ middle ∷ differs ∷ resets ∷ []) ≡
+  pub outcomes : map fromPowerOn (own ∷ middle ∷ differs ∷ resets ∷ []) ≡
       ran (stopOf 0 11 2) (imageOf (powerOn with on ≔ 1 with column ≔ 2)) (set (set zeros 0 0x03) 1 0x01) ∷
       ran (stopOf 4 5 0) (imageOf (powerOn with on ≔ 1)) zeros ∷
       ran (stopOf 10 5 0) (imageOf (powerOn with fresh ≔ 0)) zeros ∷

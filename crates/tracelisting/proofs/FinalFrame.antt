@@ -20,7 +20,8 @@ use Rattle.bus.specs.Bytes.{Bytes}
 use Rattle.trace.proofs.RunOnLent.{run-legal}
 use Rattle.picture.specs.Frame.{frame}
 use Rattle.picture.specs.Draw.{drawOn, draw}
-use Rattle.tracelisting.specs.TraceListing.{ranFromStart, frameAfter}
+use Rattle.trace.specs.EitherStart.{ranFromStart}
+use Rattle.tracelisting.specs.TraceListing.{frameAfter}
 use Rattle.tracelisting.specs.FinalFrame.{FinalFrames}
 
 found : (hung : Hung) → asked (imageOf (registersAtStart hung)) memoryAtStart ≡ Asked.Found (registersAtStart hung)

@@ -19,7 +19,8 @@ use Rattle.framelisting.specs.Text.{listingOf}
 use Rattle.framelisting.specs.Listing.{outcome, written, listed}
 use Rattle.framelisting.specs.declared.Listed.{Listed}
 use Rattle.framelisting.proofs.LentBuffers.{always-enough}
-use Rattle.tracelisting.specs.TraceListing.{ranFromStart, frameAfter, listingOfTrace, printed, printedOf}
+use Rattle.trace.specs.EitherStart.{ranFromStart}
+use Rattle.tracelisting.specs.TraceListing.{frameAfter, listingOfTrace, printed, printedOf}
 
 -- the start in arrays of the listing's own
 start-there : (hung : Hung) → startOf hung (replicate imageSize 0) (replicate memorySize 0) ≡ started taken (imageOf (registersAtStart hung)) memoryAtStart

@@ -25,7 +25,8 @@ use Rattle.framelisting.specs.Ascii.{ascii}
 use Rattle.framelisting.specs.Decimal.{digits, decimal}
 use Rattle.framelisting.specs.Runs.{lit, anyLit, leading, runsFrom, runs}
 use Rattle.framelisting.specs.Text.{runText, runsText, line, rowOf, lines, frameText, refusedText, listingOf}
-use Rattle.tracelisting.specs.TraceListing.{ranFromStart, frameAfter, listingOfTrace, textFor}
+use Rattle.trace.specs.EitherStart.{ranFromStart}
+use Rattle.tracelisting.specs.TraceListing.{frameAfter, listingOfTrace, textFor}
 use Rattle.tracelisting.specs.Sample.{ownText, ownTextUpsideDown, OwnSample}
 use Rattle.trace.specs.Samples.{own}
 

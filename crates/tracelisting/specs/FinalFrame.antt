@@ -16,7 +16,8 @@ use Rattle.trace.specs.Run.{Ran}
 use Rattle.bus.specs.Bytes.{Bytes}
 use Rattle.picture.specs.Frame.{frame}
 use Rattle.picture.specs.Draw.{draw}
-use Rattle.tracelisting.specs.TraceListing.{ranFromStart, frameAfter}
+use Rattle.trace.specs.EitherStart.{ranFromStart}
+use Rattle.tracelisting.specs.TraceListing.{frameAfter}
 
 -- The chip that a run leaves: the registers of its state, and its memory.
 abbrev pub chipAfter : Ran → Chip

@@ -5,17 +5,12 @@ use mathlib.Core.List.{List, _++_}
 use lib.Dec.{ltb}
 use lib.ListN.{length, drop, replicate}
 use Rattle.constants.specs.Sizes.{frameSize, longestTrace, longestListing}
-use Rattle.bus.specs.Registers.{imageOf}
-use Rattle.bus.specs.Start.{registersAtStart, memoryAtStart}
 use Rattle.bus.specs.declared.start.Hung.{Hung}
-use Rattle.trace.specs.Run.{Ran, run}
+use Rattle.trace.specs.Run.{Ran}
+use Rattle.trace.specs.EitherStart.{ranFromStart}
 use Rattle.picture.specs.Draw.{draw}
 use Rattle.framelisting.specs.Ascii.{ascii}
 use Rattle.framelisting.specs.Text.{listingOf}
-
--- The trace run from the start, as the module hangs.
-unfoldable pub ranFromStart : Hung → List ℕ → Ran
-ranFromStart hung trace = run (imageOf (registersAtStart hung)) memoryAtStart trace
 
 -- The frame after a run, drawn over a dark one.
 unfoldable pub frameAfter : Ran → List ℕ
