@@ -206,6 +206,31 @@ fn cases_are_shown() {
     );
 }
 
+/// Of sixteen random listings and start calls some have each of the starts.
+#[test]
+fn starts_are_shown_in_words() {
+    for (kind, counted) in [("listing", "--listings"), ("start call", "--starts")] {
+        let mut arguments = vec!["cases", "--seed", "4", "--no-sweep"];
+        for count in [
+            "--singles",
+            "--events",
+            "--runs",
+            "--draws",
+            "--listings",
+            "--compared-frames",
+            "--compared-memories",
+            "--starts",
+        ] {
+            arguments.extend([count, if count == counted { "16" } else { "0" }]);
+        }
+        let stream = oracle(&arguments, b"");
+        let text = text_of(&["show", "--count", "16"], &stream.stdout);
+        let shown = |start: &str| text.matches(&format!(": {kind}\nstart {start}\n")).count();
+        assert!(shown("upside down") > 0 && shown("upright") > 0);
+        assert_eq!(shown("upside down") + shown("upright"), 16);
+    }
+}
+
 /// A file of a trace, taken away with the value.
 struct TraceFile(PathBuf);
 
