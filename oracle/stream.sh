@@ -15,4 +15,5 @@ exec "$oracle" cases --seed "$seed" \
   --singles $((200000 * times)) --events $((1000000 * times)) \
   --runs $((5000 * times)) --draws $((27000 * times)) \
   --listings $((500 * times)) \
-  --compared-frames $((280 * times)) --compared-memories $((1300 * times))
+  --compared-frames $((280 * times)) --compared-memories $((1300 * times)) \
+  --starts $((400 * times))

@@ -7,6 +7,7 @@ use crate::listing;
 use crate::memory::Memory;
 use crate::refusal::TAKEN;
 use crate::registers::Image;
+use crate::start::{self, Start};
 use crate::trace::{self, RunAnswer};
 
 /// One event on lent buffers of any length.
@@ -160,19 +161,51 @@ pub fn pattern(frame_length: usize, fill: u8) -> Vec<u8> {
         .collect()
 }
 
-/// A trace, and what the listing program prints for it.
+/// A trace, and what the listing program prints for it from a start.
 #[derive(Clone, PartialEq, Eq, Debug)]
 pub struct Listing {
+    pub start: Start,
     pub trace: Vec<u8>,
     pub text: String,
 }
 
 impl Listing {
-    /// The case of this trace.
+    /// The case of this start and trace.
     #[must_use]
-    pub fn new(trace: Vec<u8>) -> Listing {
-        let text = listing::listing(&trace);
-        Listing { trace, text }
+    pub fn new(start: Start, trace: Vec<u8>) -> Listing {
+        let text = listing::listing(start, &trace);
+        Listing { start, trace, text }
+    }
+}
+
+/// A start call on lent buffers of any length.
+#[derive(Clone, PartialEq, Eq, Debug)]
+pub struct StartCall {
+    pub start: Start,
+    pub state: Vec<u8>,
+    pub memory: Vec<u8>,
+    pub number: u8,
+    /// All the lent state, afterwards.
+    pub state_after: Vec<u8>,
+    /// All the lent memory, afterwards.
+    pub memory_after: Vec<u8>,
+}
+
+impl StartCall {
+    /// The case of these inputs.
+    #[must_use]
+    pub fn new(start: Start, state: Vec<u8>, memory: Vec<u8>) -> StartCall {
+        let mut state_after = state.clone();
+        let mut memory_after = memory.clone();
+        let number = start::call(start, &mut state_after, &mut memory_after);
+        StartCall {
+            start,
+            state,
+            memory,
+            number,
+            state_after,
+            memory_after,
+        }
     }
 }
 
@@ -249,6 +282,7 @@ pub enum Case {
     Listing(Listing),
     ComparedFrames(Comparison<FRAME_ENTRY>),
     ComparedMemories(Comparison<MEMORY_ENTRY>),
+    StartCall(StartCall),
 }
 
 impl Case {
@@ -262,7 +296,8 @@ impl Case {
             | Case::Draw(_)
             | Case::Listing(_)
             | Case::ComparedFrames(_)
-            | Case::ComparedMemories(_) => 0,
+            | Case::ComparedMemories(_)
+            | Case::StartCall(_) => 0,
         }
     }
 }

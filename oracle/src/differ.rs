@@ -5,35 +5,36 @@ use std::fmt::Write;
 use crate::compare::{self, FRAME_ENTRY, MEMORY_ENTRY};
 use crate::frame::{self, FRAME_LENGTH, Frame};
 use crate::memory::MEMORY_LENGTH;
-use crate::trace::run_from_power_on;
+use crate::start::Start;
+use crate::trace::run_from;
 
-/// The runs in which the frames of two traces differ, each run from power-on
-/// with zero memory.
+/// The runs in which the frames of two traces differ, each run from the same
+/// start.
 #[must_use]
-pub fn differing_frames(first_trace: &[u8], second_trace: &[u8]) -> String {
+pub fn differing_frames(start: Start, first_trace: &[u8], second_trace: &[u8]) -> String {
     // No frame has more runs than places.
     let mut list = vec![0; FRAME_ENTRY * FRAME_LENGTH];
-    let first = frame_left_by(first_trace);
-    let second = frame_left_by(second_trace);
+    let first = frame_left_by(start, first_trace);
+    let second = frame_left_by(start, second_trace);
     let answer = compare::frames(&first, &second, &mut list);
     runs_text(&list.as_chunks().0[..answer.count])
 }
 
-/// The bytes in which the memories of two traces differ, each run from
-/// power-on with zero memory.
+/// The bytes in which the memories of two traces differ, each run from the
+/// same start.
 #[must_use]
-pub fn differing_memories(first_trace: &[u8], second_trace: &[u8]) -> String {
+pub fn differing_memories(start: Start, first_trace: &[u8], second_trace: &[u8]) -> String {
     // No memory has more bytes that differ than bytes.
     let mut list = vec![0; MEMORY_ENTRY * MEMORY_LENGTH];
-    let (_, first, _) = run_from_power_on(first_trace);
-    let (_, second, _) = run_from_power_on(second_trace);
+    let (_, first, _) = run_from(start, first_trace);
+    let (_, second, _) = run_from(start, second_trace);
     let answer = compare::memories(&first, &second, &mut list);
     bytes_text(&list.as_chunks().0[..answer.count])
 }
 
 /// The frame a trace leaves, where it ended or stopped.
-fn frame_left_by(trace: &[u8]) -> Frame {
-    let (registers, memory, _) = run_from_power_on(trace);
+fn frame_left_by(start: Start, trace: &[u8]) -> Frame {
+    let (registers, memory, _) = run_from(start, trace);
     let mut frame = [0; FRAME_LENGTH];
     frame::draw(registers, &memory, &mut frame);
     frame

@@ -2,19 +2,20 @@
 
 use std::io::{self, Read, Write};
 
-use crate::cases::{Case, Comparison, Draw, Listing, Run, Sequence, Single, Step};
+use crate::cases::{Case, Comparison, Draw, Listing, Run, Sequence, Single, StartCall, Step};
 use crate::event::{Answer, Event, Stored};
 use crate::frame::FRAME_LENGTH;
 use crate::memory::MEMORY_LENGTH;
 use crate::refusal::TAKEN;
 use crate::registers::{IMAGE_LENGTH, Image};
+use crate::start::Start;
 use crate::trace::RunAnswer;
 
 /// The first eight bytes of a stream.
 pub const MAGIC: [u8; 8] = *b"1815CASE";
 
 /// The version of this format.
-pub const VERSION: u32 = 2;
+pub const VERSION: u32 = 3;
 
 /// No body is longer.
 pub const LONGEST_BODY: usize = 300_000;
@@ -27,6 +28,7 @@ const TAG_DRAW: u8 = 4;
 const TAG_LISTING: u8 = 5;
 const TAG_COMPARED_FRAMES: u8 = 6;
 const TAG_COMPARED_MEMORIES: u8 = 7;
+const TAG_START_CALL: u8 = 8;
 
 /// Writes a stream: the header, the cases, the end.
 pub struct Writer<W: Write> {
@@ -99,55 +101,23 @@ fn u32_of(number: usize) -> [u8; 4] {
 fn put_case(body: &mut Vec<u8>, case: &Case) -> u8 {
     match case {
         Case::Single(single) => {
-            put_event(body, single.event);
-            put_lent(body, &single.state);
-            put_lent(body, &single.memory);
-            put_answer(body, single.answer);
-            body.extend(&single.state_after);
-            put_stored(body, single.answer.stored);
+            put_single(body, single);
             TAG_SINGLE
         }
         Case::Sequence(sequence) => {
-            put_lent(body, &sequence.image);
-            put_lent(body, &sequence.memory);
-            body.extend(u32_of(sequence.steps.len()));
-            for step in &sequence.steps {
-                put_event(body, step.event);
-                put_answer(body, step.answer);
-                body.extend(step.image_after);
-                put_stored(body, step.answer.stored);
-            }
-            body.extend(sequence.memory_after);
+            put_sequence(body, sequence);
             TAG_SEQUENCE
         }
         Case::Run(run) => {
-            put_lent(body, &run.state);
-            put_lent(body, &run.memory);
-            body.extend(u32_of(run.trace.len()));
-            body.extend(&run.trace);
-            body.push(run.answer.number);
-            body.extend(u32_of(run.answer.offset));
-            body.extend(u32_of(run.answer.count));
-            body.extend(&run.state_after);
-            body.extend(&run.memory_after);
+            put_run(body, run);
             TAG_RUN
         }
         Case::Draw(draw) => {
-            put_lent(body, &draw.state);
-            put_lent(body, &draw.memory);
-            body.extend(u16_of(draw.frame_length));
-            body.push(draw.fill);
-            body.push(draw.number);
-            if let Some(frame) = &draw.frame {
-                body.extend(frame);
-            }
+            put_draw(body, draw);
             TAG_DRAW
         }
         Case::Listing(listing) => {
-            body.extend(u32_of(listing.trace.len()));
-            body.extend(&listing.trace);
-            body.extend(u32_of(listing.text.len()));
-            body.extend(listing.text.as_bytes());
+            put_listing(body, listing);
             TAG_LISTING
         }
         Case::ComparedFrames(comparison) => {
@@ -158,7 +128,84 @@ fn put_case(body: &mut Vec<u8>, case: &Case) -> u8 {
             put_comparison(body, comparison);
             TAG_COMPARED_MEMORIES
         }
+        Case::StartCall(start_call) => {
+            put_start_call(body, start_call);
+            TAG_START_CALL
+        }
     }
+}
+
+fn put_single(body: &mut Vec<u8>, single: &Single) {
+    put_event(body, single.event);
+    put_lent(body, &single.state);
+    put_lent(body, &single.memory);
+    put_answer(body, single.answer);
+    body.extend(&single.state_after);
+    put_stored(body, single.answer.stored);
+}
+
+fn put_sequence(body: &mut Vec<u8>, sequence: &Sequence) {
+    put_lent(body, &sequence.image);
+    put_lent(body, &sequence.memory);
+    body.extend(u32_of(sequence.steps.len()));
+    for step in &sequence.steps {
+        put_event(body, step.event);
+        put_answer(body, step.answer);
+        body.extend(step.image_after);
+        put_stored(body, step.answer.stored);
+    }
+    body.extend(sequence.memory_after);
+}
+
+fn put_run(body: &mut Vec<u8>, run: &Run) {
+    put_lent(body, &run.state);
+    put_lent(body, &run.memory);
+    put_long(body, &run.trace);
+    body.push(run.answer.number);
+    body.extend(u32_of(run.answer.offset));
+    body.extend(u32_of(run.answer.count));
+    body.extend(&run.state_after);
+    body.extend(&run.memory_after);
+}
+
+fn put_draw(body: &mut Vec<u8>, draw: &Draw) {
+    put_lent(body, &draw.state);
+    put_lent(body, &draw.memory);
+    body.extend(u16_of(draw.frame_length));
+    body.push(draw.fill);
+    body.push(draw.number);
+    if let Some(frame) = &draw.frame {
+        body.extend(frame);
+    }
+}
+
+fn put_listing(body: &mut Vec<u8>, listing: &Listing) {
+    body.push(start_number(listing.start));
+    put_long(body, &listing.trace);
+    put_long(body, listing.text.as_bytes());
+}
+
+fn put_start_call(body: &mut Vec<u8>, start_call: &StartCall) {
+    body.push(start_number(start_call.start));
+    put_lent(body, &start_call.state);
+    put_lent(body, &start_call.memory);
+    body.push(start_call.number);
+    body.extend(&start_call.state_after);
+    body.extend(&start_call.memory_after);
+}
+
+/// The byte a start has in the stream.
+fn start_number(start: Start) -> u8 {
+    match start {
+        Start::UpsideDown => 0,
+        Start::Upright => 1,
+    }
+}
+
+/// Bytes after their number in four bytes.
+fn put_long(body: &mut Vec<u8>, bytes: &[u8]) {
+    body.extend(u32_of(bytes.len()));
+    body.extend(bytes);
 }
 
 fn put_event(body: &mut Vec<u8>, event: Event) {
@@ -365,89 +412,129 @@ impl Body<'_> {
         })
     }
 
+    /// Bytes after their number in four bytes.
+    fn long(&mut self) -> io::Result<Vec<u8>> {
+        let length = self.u32()?;
+        self.bytes(length)
+    }
+
+    fn start(&mut self) -> io::Result<Start> {
+        let number = self.u8()?;
+        Start::ALL
+            .into_iter()
+            .find(|start| start_number(*start) == number)
+            .ok_or_else(|| wrong("no such start"))
+    }
+
     fn case(&mut self, tag: u8) -> io::Result<Case> {
         match tag {
-            TAG_SINGLE => {
-                let event = self.event()?;
-                let state = self.lent()?;
-                let memory = self.lent()?;
-                let answer = self.answer()?;
-                let state_after = self.bytes(state.len())?;
-                let stored = self.stored()?;
-                Ok(Case::Single(Single {
-                    state,
-                    memory,
-                    event,
-                    answer: Answer { stored, ..answer },
-                    state_after,
-                }))
-            }
-            TAG_SEQUENCE => {
-                let image = self.exact::<IMAGE_LENGTH>()?;
-                let memory = self.exact::<MEMORY_LENGTH>()?;
-                let steps = (0..self.u32()?)
-                    .map(|_| self.step())
-                    .collect::<io::Result<_>>()?;
-                let memory_after = self.array()?;
-                Ok(Case::Sequence(Box::new(Sequence {
-                    image,
-                    memory,
-                    steps,
-                    memory_after,
-                })))
-            }
-            TAG_RUN => {
-                let state = self.lent()?;
-                let memory = self.lent()?;
-                let trace_length = self.u32()?;
-                let trace = self.bytes(trace_length)?;
-                let answer = RunAnswer {
-                    number: self.u8()?,
-                    offset: self.u32()?,
-                    count: self.u32()?,
-                };
-                let state_after = self.bytes(state.len())?;
-                let memory_after = self.bytes(memory.len())?;
-                Ok(Case::Run(Run {
-                    state,
-                    memory,
-                    trace,
-                    answer,
-                    state_after,
-                    memory_after,
-                }))
-            }
-            TAG_DRAW => {
-                let state = self.lent()?;
-                let memory = self.lent()?;
-                let frame_length = self.u16()?;
-                let fill = self.u8()?;
-                let number = self.u8()?;
-                let frame = match number {
-                    TAKEN => Some(self.bytes(FRAME_LENGTH)?),
-                    _ => None,
-                };
-                Ok(Case::Draw(Draw {
-                    state,
-                    memory,
-                    frame_length,
-                    fill,
-                    number,
-                    frame,
-                }))
-            }
-            TAG_LISTING => {
-                let trace_length = self.u32()?;
-                let trace = self.bytes(trace_length)?;
-                let text_length = self.u32()?;
-                let text = String::from_utf8(self.bytes(text_length)?)
-                    .map_err(|_| wrong("a listing that is no text"))?;
-                Ok(Case::Listing(Listing { trace, text }))
-            }
+            TAG_SINGLE => Ok(Case::Single(self.single()?)),
+            TAG_SEQUENCE => Ok(Case::Sequence(Box::new(self.sequence()?))),
+            TAG_RUN => Ok(Case::Run(self.run()?)),
+            TAG_DRAW => Ok(Case::Draw(self.draw()?)),
+            TAG_LISTING => Ok(Case::Listing(self.listing()?)),
             TAG_COMPARED_FRAMES => Ok(Case::ComparedFrames(self.comparison()?)),
             TAG_COMPARED_MEMORIES => Ok(Case::ComparedMemories(self.comparison()?)),
+            TAG_START_CALL => Ok(Case::StartCall(self.start_call()?)),
             _ => Err(wrong("no such tag")),
         }
+    }
+
+    fn single(&mut self) -> io::Result<Single> {
+        let event = self.event()?;
+        let state = self.lent()?;
+        let memory = self.lent()?;
+        let answer = self.answer()?;
+        let state_after = self.bytes(state.len())?;
+        let stored = self.stored()?;
+        Ok(Single {
+            state,
+            memory,
+            event,
+            answer: Answer { stored, ..answer },
+            state_after,
+        })
+    }
+
+    fn sequence(&mut self) -> io::Result<Sequence> {
+        let image = self.exact::<IMAGE_LENGTH>()?;
+        let memory = self.exact::<MEMORY_LENGTH>()?;
+        let steps = (0..self.u32()?)
+            .map(|_| self.step())
+            .collect::<io::Result<_>>()?;
+        let memory_after = self.array()?;
+        Ok(Sequence {
+            image,
+            memory,
+            steps,
+            memory_after,
+        })
+    }
+
+    fn run(&mut self) -> io::Result<Run> {
+        let state = self.lent()?;
+        let memory = self.lent()?;
+        let trace = self.long()?;
+        let answer = RunAnswer {
+            number: self.u8()?,
+            offset: self.u32()?,
+            count: self.u32()?,
+        };
+        let state_after = self.bytes(state.len())?;
+        let memory_after = self.bytes(memory.len())?;
+        Ok(Run {
+            state,
+            memory,
+            trace,
+            answer,
+            state_after,
+            memory_after,
+        })
+    }
+
+    fn draw(&mut self) -> io::Result<Draw> {
+        let state = self.lent()?;
+        let memory = self.lent()?;
+        let frame_length = self.u16()?;
+        let fill = self.u8()?;
+        let number = self.u8()?;
+        let frame = match number {
+            TAKEN => Some(self.bytes(FRAME_LENGTH)?),
+            _ => None,
+        };
+        Ok(Draw {
+            state,
+            memory,
+            frame_length,
+            fill,
+            number,
+            frame,
+        })
+    }
+
+    fn listing(&mut self) -> io::Result<Listing> {
+        let start = self.start()?;
+        let trace = self.long()?;
+        let text =
+            String::from_utf8(self.long()?).map_err(|_| wrong("a listing that is no text"))?;
+        Ok(Listing { start, trace, text })
+    }
+
+    fn start_call(&mut self) -> io::Result<StartCall> {
+        let start = self.start()?;
+        let state = self.lent()?;
+        let memory = self.lent()?;
+        let number = self.u8()?;
+        let state_after = self.bytes(state.len())?;
+        let memory_after = self.bytes(memory.len())?;
+        Ok(StartCall {
+            start,
+            state,
+            memory,
+            number,
+            state_after,
+            memory_after,
+        })
     }
 
     fn comparison<const ENTRY: usize>(&mut self) -> io::Result<Comparison<ENTRY>> {

@@ -5,18 +5,19 @@ use std::fmt::Write;
 use crate::frame::{self, FRAME_LENGTH, FRAME_ROWS, Frame};
 use crate::memory::COLUMNS;
 use crate::refusal::TAKEN;
+use crate::start::Start;
 use crate::trace;
 
 /// The longest trace that is read.
 pub const LONGEST_TRACE: usize = 65_536;
 
-/// What the listing program prints for a trace.
+/// What the listing program prints for a trace, begun with this start.
 #[must_use]
-pub fn listing(trace: &[u8]) -> String {
+pub fn listing(start: Start, trace: &[u8]) -> String {
     if trace.len() > LONGEST_TRACE {
         return "input too long\n".to_string();
     }
-    let (registers, memory, answer) = trace::run_from_power_on(trace);
+    let (registers, memory, answer) = trace::run_from(start, trace);
     let mut frame = [0; FRAME_LENGTH];
     frame::draw(registers, &memory, &mut frame);
     let mut text = String::new();

@@ -9,33 +9,32 @@ use oracle::differ::{differing_frames, differing_memories};
 use oracle::format::{Reader, Writer};
 use oracle::frame::{self, FRAME_LENGTH};
 use oracle::listing::{LONGEST_TRACE, frame_text, listing};
-use oracle::memory::MEMORY_LENGTH;
 use oracle::play::{play, script};
 use oracle::refusal::TAKEN;
-use oracle::registers::Registers;
 use oracle::show::{image_text, memory_text, run_answer_text, show};
+use oracle::start::{Start, ZERO_MEMORY};
 use oracle::stream::{Plan, each_case};
 use oracle::text::from_hex;
 use oracle::trace;
 
 const HELP: &str = "\
-oracle: the SSD1815B as document 01 states it, with Orders 1 and 2 of document
+oracle: the SSD1815B as document 01 states it, with Orders 1 to 3 of document
 02, to compare another model with
 
 usage:
-  oracle list < trace
+  oracle list [--upright] < trace
       the listing of a trace
-  oracle play [--state HEX] [--memory FILE] < script
+  oracle play [--state HEX | --upright] [--memory FILE] < script
       plays events, one to a line: `command AF`, `write 03`, `read`, `reset`;
       answers `number byte dummy` for each, then the state and the memory
-  oracle run [--state HEX] [--memory FILE] < trace
+  oracle run [--state HEX | --upright] [--memory FILE] < trace
       runs a trace; answers `number offset count`, then state and memory
-  oracle frame [--state HEX] [--memory FILE]
+  oracle frame [--state HEX | --upright] [--memory FILE]
       draws; the frame in the form of the listing, or `refused R`
-  oracle differ [--memory] FIRST SECOND
-      runs two files of traces from power-on with zero memory; a line for each
-      run in which the frames differ: row, first column, last column, lit in
-      the first, lit in the second; with --memory for each byte in which the
+  oracle differ [--upright] [--memory] FIRST SECOND
+      runs two files of traces from the same start; a line for each run in
+      which the frames differ: row, first column, last column, lit in the
+      first, lit in the second; with --memory for each byte in which the
       memories differ: place, content in the first, content in the second
   oracle cases --seed S [counts] [--no-sweep] [--summary] > stream
       writes test cases and their outcomes in binary (see README.md);
@@ -52,9 +51,12 @@ counts: --singles N   cases of one event
         --listings N  listings
         --compared-frames N    pairs of frames compared
         --compared-memories N  pairs of memories compared
---state is the 23 bytes of an image in hexadecimal (another length is refused
-by the model, not here), power-on unless given. --memory is a file of 1,188
-bytes, zero unless given.
+        --starts N    start calls
+list, play, run, frame and differ begin as Order 3 has it: at power-on, but
+with column direction 1 and row direction 1, and with zero memory. --upright
+asks for the old start: power-on with zero memory. --state is the 23 bytes of
+an image in hexadecimal (another length is refused by the model, not here), and
+leaves nothing to --upright. --memory is a file of 1,188 bytes.
 ";
 
 /// Why the program cannot go on.
@@ -101,19 +103,25 @@ fn obey(arguments: &[String]) -> Result<(), Failure> {
         return print(HELP.as_bytes());
     }
     match command.as_str() {
-        "list" => list(Options::read(rest, &[])?),
-        "play" => play_script(&Options::read(rest, &["--state", "--memory"])?),
-        "run" => run_trace(&Options::read(rest, &["--state", "--memory"])?),
-        "frame" => draw_frame(&Options::read(rest, &["--state", "--memory"])?),
+        "list" => list(&Options::read(rest, &[], &[UPRIGHT])?),
+        "play" => play_script(&Options::read(rest, &LENT_OPTIONS, &[UPRIGHT])?),
+        "run" => run_trace(&Options::read(rest, &LENT_OPTIONS, &[UPRIGHT])?),
+        "frame" => draw_frame(&Options::read(rest, &LENT_OPTIONS, &[UPRIGHT])?),
         "differ" => tell_differences(rest),
-        "cases" => write_cases(&Options::read(rest, &PLAN_OPTIONS)?),
-        "coverage" => tell_coverage(&Options::read(rest, &PLAN_OPTIONS)?),
-        "show" => show_cases(&Options::read(rest, &["--from", "--count"])?),
+        "cases" => write_cases(&Options::read(rest, &PLAN_OPTIONS, &PLAN_FLAGS)?),
+        "coverage" => tell_coverage(&Options::read(rest, &PLAN_OPTIONS, &PLAN_FLAGS)?),
+        "show" => show_cases(&Options::read(rest, &["--from", "--count"], &[])?),
         _ => Err(Failure::Usage(format!("no such command as `{command}`"))),
     }
 }
 
-const PLAN_OPTIONS: [&str; 10] = [
+/// The flag that names the old start.
+const UPRIGHT: &str = "--upright";
+
+/// What can be lent to the model.
+const LENT_OPTIONS: [&str; 2] = ["--state", "--memory"];
+
+const PLAN_OPTIONS: [&str; 9] = [
     "--seed",
     "--singles",
     "--events",
@@ -122,12 +130,10 @@ const PLAN_OPTIONS: [&str; 10] = [
     "--listings",
     "--compared-frames",
     "--compared-memories",
-    "--no-sweep",
-    "--summary",
+    "--starts",
 ];
 
-/// Options that have no value after them.
-const FLAG_OPTIONS: [&str; 2] = ["--no-sweep", "--summary"];
+const PLAN_FLAGS: [&str; 2] = ["--no-sweep", "--summary"];
 
 /// The options given, each once, with its value.
 struct Options {
@@ -135,17 +141,20 @@ struct Options {
 }
 
 impl Options {
-    fn read(arguments: &[String], known: &[&str]) -> Result<Options, Failure> {
+    /// The options among the arguments, of which these are known: the valued
+    /// have a value after them, the flags have none.
+    fn read(arguments: &[String], valued: &[&str], flags: &[&str]) -> Result<Options, Failure> {
         let mut given: Vec<(String, String)> = Vec::new();
         let mut arguments = arguments.iter();
         while let Some(name) = arguments.next() {
-            if !known.contains(&name.as_str()) {
+            let is_flag = flags.contains(&name.as_str());
+            if !is_flag && !valued.contains(&name.as_str()) {
                 return Err(Failure::Usage(format!("no such option here as `{name}`")));
             }
             if given.iter().any(|(earlier, _)| earlier == name) {
                 return Err(Failure::Usage(format!("`{name}` is given twice")));
             }
-            let value = if FLAG_OPTIONS.contains(&name.as_str()) {
+            let value = if is_flag {
                 String::new()
             } else {
                 let value = arguments.next().cloned();
@@ -161,6 +170,11 @@ impl Options {
             .iter()
             .find(|(given, _)| given == name)
             .map(|(_, value)| value.as_str())
+    }
+
+    /// Whether a flag is given.
+    fn flag(&self, name: &str) -> bool {
+        self.value(name).is_some()
     }
 
     fn number(&self, name: &str) -> Result<Option<u64>, Failure> {
@@ -181,10 +195,22 @@ impl Options {
         }
     }
 
-    /// The state lent: power-on unless given.
+    /// The start asked for: Order 3's unless the old one is named.
+    fn start(&self) -> Start {
+        if self.flag(UPRIGHT) {
+            Start::Upright
+        } else {
+            Start::UpsideDown
+        }
+    }
+
+    /// The state lent: that of the start unless given.
     fn state(&self) -> Result<Vec<u8>, Failure> {
         match self.value("--state") {
-            None => Ok(Registers::POWER_ON.image().to_vec()),
+            None => Ok(self.start().registers().image().to_vec()),
+            Some(_) if self.flag(UPRIGHT) => Err(Failure::Usage(format!(
+                "`--state` leaves nothing to `{UPRIGHT}`"
+            ))),
             Some(digits) => {
                 from_hex(digits).map_err(|why| Failure::Usage(format!("--state: {why}")))
             }
@@ -194,7 +220,7 @@ impl Options {
     /// The memory lent: zero unless given.
     fn memory(&self) -> Result<Vec<u8>, Failure> {
         match self.value("--memory") {
-            None => Ok(vec![0; MEMORY_LENGTH]),
+            None => Ok(ZERO_MEMORY.to_vec()),
             Some(file) => read_file(file),
         }
     }
@@ -206,7 +232,7 @@ impl Options {
         let usual = Plan::usual(seed);
         Ok(Plan {
             seed,
-            sweep: self.value("--no-sweep").is_none(),
+            sweep: !self.flag("--no-sweep"),
             singles: self.count("--singles", usual.singles)?,
             events: self.count("--events", usual.events)?,
             runs: self.count("--runs", usual.runs)?,
@@ -214,6 +240,7 @@ impl Options {
             listings: self.count("--listings", usual.listings)?,
             compared_frames: self.count("--compared-frames", usual.compared_frames)?,
             compared_memories: self.count("--compared-memories", usual.compared_memories)?,
+            starts: self.count("--starts", usual.starts)?,
         })
     }
 }
@@ -235,14 +262,14 @@ fn read_file(file: &str) -> Result<Vec<u8>, Failure> {
     fs::read(file).map_err(|error| Failure::Io(format!("{file}: {error}")))
 }
 
-fn list(_: Options) -> Result<(), Failure> {
+fn list(options: &Options) -> Result<(), Failure> {
     let mut trace = Vec::new();
     let one_too_many = LONGEST_TRACE as u64 + 1;
     io::stdin()
         .lock()
         .take(one_too_many)
         .read_to_end(&mut trace)?;
-    print(listing(&trace).as_bytes())
+    print(listing(options.start(), &trace).as_bytes())
 }
 
 fn play_script(options: &Options) -> Result<(), Failure> {
@@ -278,24 +305,26 @@ fn draw_frame(options: &Options) -> Result<(), Failure> {
 }
 
 fn tell_differences(arguments: &[String]) -> Result<(), Failure> {
-    let (options, files): (Vec<&str>, Vec<&str>) = arguments
+    let (flags, files): (Vec<String>, Vec<String>) = arguments
         .iter()
-        .map(String::as_str)
+        .cloned()
         .partition(|argument| argument.starts_with("--"));
-    let differing = match options[..] {
-        [] => differing_frames,
-        ["--memory"] => differing_memories,
-        _ => return Err(Failure::Usage("`differ` takes only `--memory`".to_string())),
-    };
-    let [first, second] = files[..] else {
+    let options = Options::read(&flags, &[], &["--memory", UPRIGHT])?;
+    let [first, second] = &files[..] else {
         return Err(Failure::Usage("`differ` takes two files".to_string()));
     };
-    print(differing(&read_file(first)?, &read_file(second)?).as_bytes())
+    let differing = if options.flag("--memory") {
+        differing_memories
+    } else {
+        differing_frames
+    };
+    let text = differing(options.start(), &read_file(first)?, &read_file(second)?);
+    print(text.as_bytes())
 }
 
 fn write_cases(options: &Options) -> Result<(), Failure> {
     let plan = options.plan()?;
-    let summary = options.value("--summary").is_some();
+    let summary = options.flag("--summary");
     let mut coverage = Coverage::new();
     let output = BufWriter::with_capacity(1 << 20, io::stdout().lock());
     let mut writer = Writer::begin(output, plan.seed)?;

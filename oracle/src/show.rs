@@ -2,10 +2,11 @@
 
 use std::fmt::Write;
 
-use crate::cases::{Case, Comparison, Draw, Listing, Run, Sequence, Single};
+use crate::cases::{Case, Comparison, Draw, Listing, Run, Sequence, Single, StartCall};
 use crate::differ::{bytes_text, runs_text};
 use crate::event::{Answer, Event};
 use crate::listing::frame_text;
+use crate::start::Start;
 use crate::text::{fnv1a, hex};
 use crate::trace::RunAnswer;
 
@@ -20,6 +21,7 @@ pub fn show(case: &Case) -> String {
         Case::Listing(listing) => show_listing(listing),
         Case::ComparedFrames(frames) => show_comparison("frame", frames, runs_text),
         Case::ComparedMemories(memories) => show_comparison("memory", memories, bytes_text),
+        Case::StartCall(start_call) => show_start_call(start_call),
     }
 }
 
@@ -132,9 +134,27 @@ fn show_draw(draw: &Draw) -> String {
 
 fn show_listing(listing: &Listing) -> String {
     format!(
-        "listing\n{}{}",
+        "listing\n{}{}{}",
+        start_text(listing.start),
         image_text("trace", &listing.trace),
         listing.text,
+    )
+}
+
+/// A start in words.
+fn start_text(start: Start) -> String {
+    format!("start {}\n", start.name())
+}
+
+fn show_start_call(start_call: &StartCall) -> String {
+    format!(
+        "start call\n{}{}{}answer {}\n{}{}",
+        start_text(start_call.start),
+        image_text("state", &start_call.state),
+        memory_text("memory", &start_call.memory),
+        start_call.number,
+        image_text("state after", &start_call.state_after),
+        memory_text("memory after", &start_call.memory_after),
     )
 }
 

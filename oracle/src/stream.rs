@@ -1,13 +1,15 @@
 //! The whole stream of cases: the sweep of the base, then random cases of each
 //! of its kinds; then the same for the comparisons of Order 1; then the sweep
-//! of the bands of Order 2, whose random cases are the base's.
+//! of the bands of Order 2, whose random cases are the base's; then Order 3's
+//! sweep of listings, whose random cases are the base's too, and last of all
+//! the start calls, swept and random.
 
 use std::io;
 
 use crate::cases::Case;
 use crate::generate;
 use crate::random::Random;
-use crate::sweep::{Sink, sweep, sweep_of_bands, sweep_of_comparisons};
+use crate::sweep::{Sink, sweep, sweep_of_bands, sweep_of_comparisons, sweep_of_starts};
 
 /// How many cases of each kind to make, and from what seed.
 #[derive(Clone, Copy, PartialEq, Eq, Debug)]
@@ -26,6 +28,8 @@ pub struct Plan {
     pub compared_frames: usize,
     /// Pairs of memories.
     pub compared_memories: usize,
+    /// Start calls.
+    pub starts: usize,
 }
 
 impl Plan {
@@ -42,6 +46,7 @@ impl Plan {
             listings: 1_000,
             compared_frames: 280,
             compared_memories: 1_300,
+            starts: 400,
         }
     }
 }
@@ -81,6 +86,19 @@ pub fn each_case(plan: &Plan, sink: &mut Sink) -> io::Result<()> {
     each_comparison(plan, sink)?;
     if plan.sweep {
         sweep_of_bands(sink)?;
+    }
+    each_start(plan, sink)
+}
+
+/// The cases of Order 3. They come after all others, which so keep their
+/// places in the stream.
+fn each_start(plan: &Plan, sink: &mut Sink) -> io::Result<()> {
+    if plan.sweep {
+        sweep_of_starts(sink)?;
+    }
+    let mut random = Random::new(plan.seed, 10);
+    for _ in 0..plan.starts {
+        sink(Case::StartCall(generate::start_call(&mut random)))?;
     }
     Ok(())
 }

@@ -1,9 +1,10 @@
 //! The trace: its records, and the run that obeys them.
 
 use crate::event::{Event, Taken, asked, lent, meaning};
-use crate::memory::{MEMORY_LENGTH, Memory};
+use crate::memory::Memory;
 use crate::refusal::{Refusal, TAKEN};
 use crate::registers::Registers;
+use crate::start::{Start, ZERO_MEMORY};
 
 /// Bytes of a record's header: payload length, then kind.
 pub const HEADER_LENGTH: usize = 4;
@@ -17,6 +18,18 @@ pub enum Payload {
     Written,
     /// Kind 3: bytes the firmware read, one read event each.
     Read,
+}
+
+impl Payload {
+    /// The event of one byte; of a read the byte is only compared.
+    #[must_use]
+    pub fn event(self, byte: u8) -> Event {
+        match self {
+            Payload::Commands => Event::Command(byte),
+            Payload::Written => Event::Write(byte),
+            Payload::Read => Event::Read,
+        }
+    }
 }
 
 /// A record whose header was found right.
@@ -74,18 +87,11 @@ pub fn obey(
     payload: Payload,
     byte: u8,
 ) -> Result<Taken, Refusal> {
-    match payload {
-        Payload::Commands => meaning(registers, memory, Event::Command(byte)),
-        Payload::Written => meaning(registers, memory, Event::Write(byte)),
-        Payload::Read => {
-            let taken = meaning(registers, memory, Event::Read)?;
-            if taken.dummy || taken.byte == byte {
-                Ok(taken)
-            } else {
-                Err(Refusal::ReadDiffers)
-            }
-        }
+    let taken = meaning(registers, memory, payload.event(byte))?;
+    if payload == Payload::Read && !taken.dummy && taken.byte != byte {
+        return Err(Refusal::ReadDiffers);
     }
+    Ok(taken)
 }
 
 /// The call of a run on lent state and memory. It stops at the first refused
@@ -104,23 +110,67 @@ pub fn call(state: &mut [u8], memory: &mut [u8], trace: &[u8]) -> RunAnswer {
         Ok(registers) => registers,
         Err(refusal) => return refused_at_once(refusal),
     };
-    let answer = run(&mut registers, memory, trace);
+    let answer = run(&mut registers, memory, trace, &mut |_, _| ());
     *image = registers.image();
     answer
 }
 
-/// The run from power-on with zero memory: the registers and the memory it
-/// leaves, and its answer.
+/// The run from a start: the registers and the memory it leaves, and its
+/// answer.
 #[must_use]
-pub fn run_from_power_on(trace: &[u8]) -> (Registers, Memory, RunAnswer) {
-    let mut registers = Registers::POWER_ON;
-    let mut memory = [0; MEMORY_LENGTH];
-    let answer = run(&mut registers, &mut memory, trace);
+pub fn run_from(start: Start, trace: &[u8]) -> (Registers, Memory, RunAnswer) {
+    run_watched(start, trace, &mut |_, _| ())
+}
+
+/// The same, and each event that is taken is told, with the registers that it
+/// meets.
+pub fn run_watched(
+    start: Start,
+    trace: &[u8],
+    watch: &mut dyn FnMut(Registers, Event),
+) -> (Registers, Memory, RunAnswer) {
+    let mut registers = start.registers();
+    let mut memory = ZERO_MEMORY;
+    let answer = run(&mut registers, &mut memory, trace, watch);
     (registers, memory, answer)
 }
 
-/// The run over legal registers and memory.
-pub fn run(registers: &mut Registers, memory: &mut Memory, trace: &[u8]) -> RunAnswer {
+/// Obeys a record: how many bytes of its payload are taken, and what refuses
+/// the next, if any does.
+fn obey_record(
+    registers: &mut Registers,
+    memory: &mut Memory,
+    record: Record,
+    watch: &mut dyn FnMut(Registers, Event),
+) -> (usize, Option<Refusal>) {
+    let (payload, bytes) = match record {
+        Record::Bytes(payload, bytes) => (payload, bytes),
+        Record::ResetPin => {
+            watch(*registers, Event::Reset);
+            *registers = Registers::POWER_ON;
+            return (0, None);
+        }
+    };
+    for (place, &byte) in bytes.iter().enumerate() {
+        match obey(*registers, memory, payload, byte) {
+            Ok(taken) => {
+                watch(*registers, payload.event(byte));
+                taken.leave_in(registers, memory);
+            }
+            Err(refusal) => return (place, Some(refusal)),
+        }
+    }
+    (bytes.len(), None)
+}
+
+/// The run over legal registers and memory; each event that is taken is told,
+/// with the registers that it meets.
+pub fn run(
+    registers: &mut Registers,
+    memory: &mut Memory,
+    trace: &[u8],
+    watch: &mut dyn FnMut(Registers, Event),
+) -> RunAnswer {
     let mut offset = 0;
     let mut count = 0;
     while offset < trace.len() {
@@ -134,17 +184,10 @@ pub fn run(registers: &mut Registers, memory: &mut Memory, trace: &[u8]) -> RunA
             Err(refusal) => return stopped(refusal, offset),
         };
         offset += HEADER_LENGTH;
-        match record {
-            Record::ResetPin => *registers = Registers::POWER_ON,
-            Record::Bytes(payload, bytes) => {
-                for &byte in bytes {
-                    match obey(*registers, memory, payload, byte) {
-                        Ok(taken) => taken.leave_in(registers, memory),
-                        Err(refusal) => return stopped(refusal, offset),
-                    }
-                    offset += 1;
-                }
-            }
+        let (bytes_taken, refusal) = obey_record(registers, memory, record, watch);
+        offset += bytes_taken;
+        if let Some(refusal) = refusal {
+            return stopped(refusal, offset);
         }
         count += 1;
     }

@@ -1,6 +1,6 @@
 //! Counts of where the band of the rows in use was drawn and listed.
 
-use super::Group;
+use super::{Group, mixture, mixtures};
 use crate::frame::{DOT_ROWS, PanelRow, shown_on};
 use crate::registers::Registers;
 
@@ -109,11 +109,11 @@ impl BandCoverage {
             met: [[false; DOT_ROWS]; DOT_ROWS],
             lights: Group::new(
                 "bands drawn, lights",
-                mixtures([&PARTS, &EVEN_OR_ODD, &LIGHTS]),
+                mixtures(&[&PARTS, &EVEN_OR_ODD, &LIGHTS]),
             ),
             ram_rows: Group::new(
                 "bands drawn, RAM rows",
-                mixtures([&PARTS, &DIRECTIONS, &RAM_ROWS]),
+                mixtures(&[&PARTS, &DIRECTIONS, &RAM_ROWS]),
             ),
             listed_normal: Group::new("bands listed, rows normal, M", 1..=64),
             listed_reversed: Group::new("bands listed, rows reversed, M", 1..=64),
@@ -183,12 +183,12 @@ impl BandCoverage {
         let even_or_odd = EVEN_OR_ODD[usize::from(rows_in_use % 2)];
         let light = 2 * usize::from(registers.entire_on) + usize::from(registers.reverse);
         self.lights
-            .hit_label(&mixture([parts, even_or_odd, LIGHTS[light]]));
+            .hit_label(&mixture(&[parts, even_or_odd, LIGHTS[light]]));
         if !registers.entire_on {
             let direction = DIRECTIONS[usize::from(registers.rows_reversed)];
             let ram_rows = RAM_ROWS[usize::from(registers.start_line + rows_in_use > 64)];
             self.ram_rows
-                .hit_label(&mixture([parts, direction, ram_rows]));
+                .hit_label(&mixture(&[parts, direction, ram_rows]));
         }
     }
 
@@ -201,22 +201,4 @@ impl BandCoverage {
         }
         self.listed_places.hit_label(Band::of(registers).place());
     }
-}
-
-/// A label of one word from each of three lists.
-fn mixture(words: [&str; 3]) -> String {
-    words.join(", ")
-}
-
-/// Every label of three lists.
-fn mixtures(lists: [&[&str]; 3]) -> Vec<String> {
-    let mut labels = Vec::new();
-    for first in lists[0] {
-        for second in lists[1] {
-            for third in lists[2] {
-                labels.push(mixture([first, second, third]));
-            }
-        }
-    }
-    labels
 }

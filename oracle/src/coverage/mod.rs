@@ -2,6 +2,8 @@
 
 mod bands;
 mod compared;
+mod start_calls;
+mod starts;
 
 use std::fmt;
 
@@ -12,9 +14,10 @@ use crate::listing::LONGEST_TRACE;
 use crate::memory::{COLUMNS, ICON_PAGE, LAST_COLUMN, MEMORY_LENGTH, place};
 use crate::refusal::TAKEN;
 use crate::registers::{Awaited, FIELDS, IMAGE_LENGTH, Image, Registers};
-use crate::trace::{HEADER_LENGTH, Payload, Record, first_record, run_from_power_on};
+use crate::trace::{HEADER_LENGTH, Payload, Record, first_record};
 use bands::BandCoverage;
 use compared::ComparedCoverage;
+use starts::StartCoverage;
 
 /// Counts of things of one sort.
 #[derive(Clone, PartialEq, Eq, Debug)]
@@ -116,6 +119,36 @@ impl fmt::Display for Group {
         }
         Ok(())
     }
+}
+
+/// A label of one word from each of some lists.
+fn mixture(words: &[&str]) -> String {
+    words.join(", ")
+}
+
+/// Every label of these lists.
+fn mixtures(lists: &[&[&str]]) -> Vec<String> {
+    let Some((first, others)) = lists.split_first() else {
+        return Vec::new();
+    };
+    let words = first.iter().map(ToString::to_string).collect();
+    others.iter().fold(words, |labels: Vec<String>, list| {
+        let longer = |label: &String| list.iter().map(|word| mixture(&[label, word])).collect();
+        labels.iter().flat_map::<Vec<String>, _>(longer).collect()
+    })
+}
+
+/// The column and row directions together.
+const DIRECTIONS: [&str; 4] = [
+    "columns normal, rows normal",
+    "columns normal, rows reversed",
+    "columns reversed, rows normal",
+    "columns reversed, rows reversed",
+];
+
+/// Which of the directions these registers have.
+fn direction(registers: Registers) -> usize {
+    2 * usize::from(registers.columns_reversed) + usize::from(registers.rows_reversed)
 }
 
 /// What a single event can meet.
@@ -220,6 +253,7 @@ pub struct Coverage {
     listing_situations: Group,
     compared: ComparedCoverage,
     bands: BandCoverage,
+    starts: StartCoverage,
 }
 
 impl Default for Coverage {
@@ -249,6 +283,7 @@ impl Coverage {
                     "listing",
                     "compared frames",
                     "compared memories",
+                    "start call",
                 ],
             ),
             command_numbers: Group::numbers("numbers of commands", &[0, 1, 2, 3, 4, 5]),
@@ -283,15 +318,7 @@ impl Coverage {
             rows_in_use_reversed: Group::new("M drawn, rows reversed", 1..=64),
             offsets: Group::new("offsets drawn", 0..=63),
             start_lines: Group::new("start lines drawn", 0..=63),
-            directions: Group::new(
-                "directions drawn",
-                [
-                    "columns normal, rows normal",
-                    "columns normal, rows reversed",
-                    "columns reversed, rows normal",
-                    "columns reversed, rows reversed",
-                ],
-            ),
+            directions: Group::new("directions drawn", DIRECTIONS),
             lights: Group::new(
                 "lights drawn",
                 [
@@ -309,6 +336,7 @@ impl Coverage {
             listing_situations: Group::new("situations of listings", LISTING_SITUATIONS),
             compared: ComparedCoverage::new(),
             bands: BandCoverage::new(),
+            starts: StartCoverage::new(),
         }
     }
 
@@ -350,6 +378,7 @@ impl Coverage {
         ];
         groups.extend(self.compared.groups());
         groups.extend(self.bands.groups());
+        groups.extend(self.starts.groups());
         groups
     }
 
@@ -374,6 +403,10 @@ impl Coverage {
             Case::ComparedMemories(memories) => {
                 self.cases.hit_label("compared memories");
                 self.compared.see_memories(memories);
+            }
+            Case::StartCall(start_call) => {
+                self.cases.hit_label("start call");
+                self.starts.see_call(start_call);
             }
         }
     }
@@ -632,9 +665,7 @@ impl Coverage {
         if !registers.display_on {
             return;
         }
-        let direction =
-            2 * usize::from(registers.columns_reversed) + usize::from(registers.rows_reversed);
-        self.directions.hit(direction);
+        self.directions.hit(direction(registers));
         if registers.rows_reversed {
             self.rows_in_use_reversed.hit(registers.multiplex);
         } else {
@@ -647,6 +678,7 @@ impl Coverage {
 
     fn see_listing(&mut self, listing: &Listing) {
         self.cases.hit_label("listing");
+        self.starts.see_pair(listing);
         if listing.trace.len() > LONGEST_TRACE {
             self.listing_situations.hit_label("input too long");
             return;
@@ -667,7 +699,7 @@ impl Coverage {
                 (false, None) => "lit places",
                 (false, Some(_)) => "refused, lit places",
             });
-        let (registers, _, _) = run_from_power_on(&listing.trace);
+        let registers = self.starts.see_run(listing);
         if registers.display_on {
             self.bands.see_listing(registers);
         }

@@ -4,16 +4,18 @@ pub mod events;
 pub mod frame_pairs;
 pub mod memories;
 pub mod memory_pairs;
+pub mod starts;
 pub mod states;
 pub mod traces;
 
-use crate::cases::{Comparison, Draw, Listing, Run, Sequence, Single};
+use crate::cases::{Comparison, Draw, Listing, Run, Sequence, Single, StartCall};
 use crate::compare::{self, FRAME_ENTRY, MEMORY_ENTRY};
 use crate::frame::FRAME_LENGTH;
 use crate::listing::LONGEST_TRACE;
 use crate::memory::MEMORY_LENGTH;
 use crate::random::Random;
 use crate::registers::{IMAGE_LENGTH, Image, Registers};
+use crate::start::Start;
 
 /// State lengths lent, around the 23 needed.
 pub const STATE_LENGTHS: [usize; 6] = [0, 1, 22, 23, 24, 40];
@@ -29,6 +31,14 @@ pub const COMPARED_FRAME_LENGTHS: [usize; 6] = [0, 1, 8579, 8580, 8581, 10_000];
 
 /// Lengths of memories lent to be compared, around the 1,188 needed.
 pub const COMPARED_MEMORY_LENGTHS: [usize; 6] = [0, 1, 1187, 1188, 1189, 3000];
+
+/// State lengths lent to start calls: around the 23 needed, what a memory
+/// needs, and far more.
+pub const START_STATE_LENGTHS: [usize; 8] = [0, 1, 22, 23, 24, 40, 1188, 3000];
+
+/// Memory lengths lent to start calls: what a state needs, around the 1,188
+/// needed, and far more.
+pub const START_MEMORY_LENGTHS: [usize; 8] = [0, 1, 23, 1187, 1188, 1189, 1300, 10_000];
 
 /// The longest list lent.
 pub const LONGEST_LIST: usize = 65_535;
@@ -132,7 +142,7 @@ pub fn draw(random: &mut Random) -> Draw {
     )
 }
 
-/// A listing.
+/// A listing from either start.
 #[must_use]
 pub fn listing(random: &mut Random) -> Listing {
     let mut trace = traces::drawing_trace(random);
@@ -141,7 +151,7 @@ pub fn listing(random: &mut Random) -> Listing {
         1 => traces::lengthen(&mut trace, LONGEST_TRACE),
         _ => {}
     }
-    Listing::new(trace)
+    Listing::new(random.pick(&Start::ALL), trace)
 }
 
 /// Lengths of lists around what so many entries need.
@@ -209,4 +219,23 @@ pub fn compared_memories(random: &mut Random) -> Comparison<MEMORY_ENTRY> {
     let count = compare::memory_entries(&first, &second).map_or(1, |entries| entries.len());
     let list_length = list_length(random, MEMORY_ENTRY, count);
     Comparison::of_memories(first, second, list_length, random.byte())
+}
+
+/// A start call: half of the time on buffers of just the needed length.
+#[must_use]
+pub fn start_call(random: &mut Random) -> StartCall {
+    let start = random.pick(&Start::ALL);
+    let image = starts::image_before(random);
+    let memory = starts::memory_before(random);
+    let (state_length, memory_length) = if random.flag() {
+        (IMAGE_LENGTH, MEMORY_LENGTH)
+    } else {
+        (
+            random.pick(&START_STATE_LENGTHS),
+            random.pick(&START_MEMORY_LENGTHS),
+        )
+    };
+    let state = lent(random, &image, state_length);
+    let memory = lent(random, &memory, memory_length);
+    StartCall::new(start, state, memory)
 }

@@ -2,9 +2,10 @@
 
 use crate::event::{Event, meaning};
 use crate::generate::{events, states};
-use crate::memory::{MEMORY_LENGTH, Memory};
+use crate::memory::Memory;
 use crate::random::Random;
 use crate::registers::Registers;
+use crate::start::ZERO_MEMORY;
 use crate::trace::{HEADER_LENGTH, Payload, obey};
 
 /// A trace for these registers and this memory.
@@ -26,10 +27,12 @@ pub fn trace(random: &mut Random, registers: Registers, memory: &Memory) -> Vec<
     maker.trace
 }
 
-/// A trace that draws something from power-on with zero memory.
+/// A trace that draws something from a start. No byte of it is chosen by the
+/// directions, in which alone the starts differ.
 #[must_use]
 pub fn drawing_trace(random: &mut Random) -> Vec<u8> {
-    let mut maker = Maker::new(Registers::POWER_ON, &[0; MEMORY_LENGTH]);
+    let mut maker = Maker::new(Registers::POWER_ON, &ZERO_MEMORY);
+    maker.push_now_and_then_a_reset(random);
     if !random.one_in(10) {
         maker.push_commands(&picture_commands(random));
     }
@@ -39,6 +42,7 @@ pub fn drawing_trace(random: &mut Random) -> Vec<u8> {
     if !random.one_in(4) {
         maker.push_commands(&[0xAF]);
     }
+    maker.push_now_and_then_a_reset(random);
     if random.one_in(4) {
         maker.damage(random);
     }
@@ -63,10 +67,14 @@ fn picture_commands(random: &mut Random) -> Vec<u8> {
     let mut commands = vec![
         0xAE | u8::from(wanted.display_on),
         0x40 | wanted.start_line,
-        0xA0 | u8::from(wanted.columns_reversed),
         0xA6 | u8::from(wanted.reverse),
-        if wanted.rows_reversed { 0xC8 } else { 0xC0 },
     ];
+    if random.flag() {
+        commands.push(0xA0 | u8::from(wanted.columns_reversed));
+    }
+    if random.flag() {
+        commands.push(if wanted.rows_reversed { 0xC8 } else { 0xC0 });
+    }
     if random.flag() {
         commands.extend([0xA8, wanted.multiplex]);
     }
@@ -125,6 +133,15 @@ impl Maker {
     fn push_reset(&mut self) {
         self.push_header(0, 4);
         self.registers = Registers::POWER_ON;
+    }
+
+    /// Adds, one time in eight, a record of the reset pin or of E2.
+    fn push_now_and_then_a_reset(&mut self, random: &mut Random) {
+        match random.below(16) {
+            0 => self.push_reset(),
+            1 => self.push_commands(&[0xE2]),
+            _ => {}
+        }
     }
 
     /// Adds a record of just these commands.

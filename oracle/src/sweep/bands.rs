@@ -8,6 +8,8 @@ use crate::frame::{DOT_ROWS, FRAME_LENGTH, rows_above_band};
 use crate::memory::{ICON_PAGE, MEMORY_LENGTH};
 use crate::random::Random;
 use crate::registers::Registers;
+use crate::start::Start;
+use crate::sweep::records::{numbered_rows, push_record};
 use crate::sweep::{FLAGS, Sink, UNLIKE_POWER_ON};
 
 /// How many places a band is drawn at.
@@ -79,7 +81,10 @@ pub fn listings(sink: &mut Sink) -> io::Result<()> {
                 rows_reversed,
                 ..showing(&mut random, multiplex, usize::from(multiplex) % PLACES)
             };
-            sink(Case::Listing(Listing::new(trace_to(registers))))?;
+            sink(Case::Listing(Listing::new(
+                Start::Upright,
+                trace_to(registers),
+            )))?;
         }
     }
     Ok(())
@@ -88,11 +93,7 @@ pub fn listings(sink: &mut Sink) -> io::Result<()> {
 /// A trace that writes the number of each RAM row into it and then brings
 /// about these settings.
 fn trace_to(registers: Registers) -> Vec<u8> {
-    let mut trace = Vec::new();
-    for page in 0..=ICON_PAGE {
-        push_record(&mut trace, 1, &[0xB0 | page, 0x00, 0x10]);
-        push_record(&mut trace, 2, &row_numbers(page));
-    }
+    let mut trace = numbered_rows(0..=ICON_PAGE);
     let settings = [
         0xAE | u8::from(registers.display_on),
         0x40 | registers.start_line,
@@ -107,20 +108,4 @@ fn trace_to(registers: Registers) -> Vec<u8> {
     ];
     push_record(&mut trace, 1, &settings);
     trace
-}
-
-/// Bytes that show in each row of the page its number in binary, the least
-/// digit first, and after the seven digits a lit place.
-fn row_numbers(page: u8) -> [u8; 8] {
-    let digit = |row: u8, column: usize| (row | 0x80) >> column & 1;
-    std::array::from_fn(|column| {
-        (0..8).fold(0, |byte, bit| byte | digit(8 * page + bit, column) << bit)
-    })
-}
-
-/// Adds a short record to a trace.
-fn push_record(trace: &mut Vec<u8>, kind: u8, payload: &[u8]) {
-    let length = u8::try_from(payload.len()).expect("payloads are short");
-    trace.extend([length, 0, kind, 0]);
-    trace.extend(payload);
 }

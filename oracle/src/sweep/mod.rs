@@ -4,6 +4,9 @@
 mod bands;
 mod compared_frames;
 mod compared_memories;
+mod listings;
+mod records;
+mod start_calls;
 
 use std::io;
 
@@ -14,6 +17,7 @@ use crate::generate::{FRAME_LENGTHS, MEMORY_LENGTHS, STATE_LENGTHS};
 use crate::listing::LONGEST_TRACE;
 use crate::memory::{MEMORY_LENGTH, Memory};
 use crate::registers::{Awaited, IMAGE_LENGTH, Image, Registers};
+use crate::start::Start;
 
 /// Takes the cases one by one.
 pub type Sink<'a> = dyn FnMut(Case) -> io::Result<()> + 'a;
@@ -48,6 +52,16 @@ pub fn sweep_of_comparisons(sink: &mut Sink) -> io::Result<()> {
 pub fn sweep_of_bands(sink: &mut Sink) -> io::Result<()> {
     bands::drawings(sink)?;
     bands::listings(sink)
+}
+
+/// Gives every listing of Order 3's sweep, each trace from both starts, to the
+/// sink, and after them every start call.
+///
+/// # Errors
+/// Those of the sink.
+pub fn sweep_of_starts(sink: &mut Sink) -> io::Result<()> {
+    listings::listings(sink)?;
+    start_calls::start_calls(sink)
 }
 
 /// Registers of which each differs from power-on.
@@ -332,7 +346,7 @@ fn pictures(sink: &mut Sink) -> io::Result<()> {
 }
 
 /// The trace whose listing document 01 prints whole.
-const DOCUMENT_TRACE: [u8; 11] = [
+pub const DOCUMENT_TRACE: [u8; 11] = [
     0x01, 0x00, 0x01, 0x00, 0xAF, 0x02, 0x00, 0x02, 0x00, 0x03, 0x01,
 ];
 
@@ -352,7 +366,8 @@ const ALL_KINDS: [u8; 56] = [
     0x00, 0x00, 0x03, 0x00, // nothing read
 ];
 
-/// Traces cut at each byte, and each kind and payload length by itself.
+/// Traces cut at each byte, and each kind and payload length by itself; listed
+/// from the old start, as they were before there was another.
 fn traces(sink: &mut Sink) -> io::Result<()> {
     let legal = Registers {
         read_modify_write: None,
@@ -366,7 +381,7 @@ fn traces(sink: &mut Sink) -> io::Result<()> {
             memory.to_vec(),
             trace.to_vec(),
         )))?;
-        sink(Case::Listing(Listing::new(trace.to_vec())))
+        sink(Case::Listing(Listing::new(Start::Upright, trace.to_vec())))
     };
     for trace in [&DOCUMENT_TRACE[..], &ALL_KINDS[..]] {
         for cut in 0..=trace.len() {
@@ -381,6 +396,23 @@ fn traces(sink: &mut Sink) -> io::Result<()> {
             }
         }
     }
+    kinds_and_lengths(&mut run_and_list)?;
+    // More records than two bytes can count.
+    let resets = [0x00, 0x00, 0x04, 0x00].repeat(65_537);
+    sink(Case::Run(Run::new(legal.to_vec(), memory.to_vec(), resets)))?;
+    let mut list = |trace: &[u8]| sink(Case::Listing(Listing::new(Start::Upright, trace.to_vec())));
+    let mut longest = DOCUMENT_TRACE.to_vec();
+    lengthen(&mut longest, LONGEST_TRACE);
+    list(&longest)?;
+    longest.push(0);
+    list(&longest)
+}
+
+/// Takes the traces one by one.
+type Give<'a> = dyn FnMut(&[u8]) -> io::Result<()> + 'a;
+
+/// Display on, then each kind and payload length with payloads of each length.
+fn kinds_and_lengths(give: &mut Give) -> io::Result<()> {
     for kind in (0..=8_u16).chain([0x100, 0x101, 0x102, 0x103, 0x104, 0x401, 0xFFFF]) {
         for length in [0_u16, 1, 2, 3, 0x100, 0x101, 0xFFFF] {
             for there in [0, 1, 2, 3, 0x100, 0x101] {
@@ -388,16 +420,9 @@ fn traces(sink: &mut Sink) -> io::Result<()> {
                 trace.extend(length.to_le_bytes());
                 trace.extend(kind.to_le_bytes());
                 trace.resize(trace.len() + there, 0x00);
-                run_and_list(&trace)?;
+                give(&trace)?;
             }
         }
     }
-    // More records than two bytes can count.
-    let resets = [0x00, 0x00, 0x04, 0x00].repeat(65_537);
-    sink(Case::Run(Run::new(legal.to_vec(), memory.to_vec(), resets)))?;
-    let mut longest = DOCUMENT_TRACE.to_vec();
-    lengthen(&mut longest, LONGEST_TRACE);
-    sink(Case::Listing(Listing::new(longest.clone())))?;
-    longest.push(0);
-    sink(Case::Listing(Listing::new(longest)))
+    Ok(())
 }

@@ -8,10 +8,11 @@ use oracle::compare::{self, Compared};
 use oracle::coverage::Coverage;
 use oracle::event::{self, Answer, Event};
 use oracle::format::{LONGEST_BODY, Reader, Writer};
+use oracle::start::{self, Start};
 use oracle::stream::{Plan, each_case};
 use oracle::{cases, frame, listing, trace};
 
-use crate::rig::POWER_ON;
+use crate::rig::{POWER_ON, UPSIDE_DOWN};
 
 fn small(seed: u64) -> Plan {
     Plan {
@@ -24,6 +25,7 @@ fn small(seed: u64) -> Plan {
         listings: 60,
         compared_frames: 60,
         compared_memories: 120,
+        starts: 80,
     }
 }
 
@@ -39,6 +41,7 @@ fn only_the_sweep() -> Plan {
         listings: 0,
         compared_frames: 0,
         compared_memories: 0,
+        starts: 0,
     }
 }
 
@@ -80,16 +83,33 @@ fn the_same_seed_gives_the_same_stream_and_another_seed_another() {
 
 #[test]
 fn the_count_of_one_kind_does_not_change_the_cases_of_another() {
-    let more = Plan {
+    let is_single = |case: &Case| matches!(case, Case::Single(_));
+    let is_listing = |case: &Case| matches!(case, Case::Listing(_));
+    let is_start_call = |case: &Case| matches!(case, Case::StartCall(_));
+    let more_singles = Plan {
         singles: 900,
         ..small(5)
     };
-    let is_single = |case: &Case| matches!(case, Case::Single(_));
-    let mut cases = cases_of(&small(5));
-    let mut others = cases_of(&more);
-    cases.retain(|case| !is_single(case));
-    others.retain(|case| !is_single(case));
-    assert!(cases == others);
+    let more_listings = Plan {
+        listings: 90,
+        ..small(5)
+    };
+    let no_starts = Plan {
+        starts: 0,
+        ..small(5)
+    };
+    for (plan, is_counted) in [
+        (more_singles, is_single as fn(&Case) -> bool),
+        (more_listings, is_listing),
+        (no_starts, is_start_call),
+    ] {
+        let mut cases = cases_of(&small(5));
+        let mut others = cases_of(&plan);
+        assert!(cases.len() != others.len());
+        cases.retain(|case| !is_counted(case));
+        others.retain(|case| !is_counted(case));
+        assert!(cases == others);
+    }
 }
 
 #[test]
@@ -142,7 +162,7 @@ fn the_bytes_of_a_single_event() {
     let length = u32::try_from(body.len()).unwrap();
     let expected = [
         &b"1815CASE"[..],
-        &[2, 0, 0, 0],
+        &[3, 0, 0, 0],
         &[2, 1, 0, 0, 0, 0, 0, 0],
         &[1],
         &length.to_le_bytes(),
@@ -247,10 +267,75 @@ fn the_bytes_of_the_other_kinds() {
     assert_eq!(body[1215..1219], [0x98, 0x21, 77, 0]);
     assert!(body[1219..].iter().all(|&dot| dot == 0));
 
-    let listing = cases::Listing::new(vec![9]);
-    let text = b"refused 8 at 0\nframe 132 65\nend\n";
-    let expected = [&[1, 0, 0, 0, 9][..], &[32, 0, 0, 0], text].concat();
-    assert_eq!(body_of(&Case::Listing(listing)), (5, expected));
+    for (start, number) in [(Start::UpsideDown, 0), (Start::Upright, 1)] {
+        let listing = cases::Listing::new(start, vec![9]);
+        let text = b"refused 8 at 0\nframe 132 65\nend\n";
+        let expected = [&[number, 1, 0, 0, 0, 9][..], &[32, 0, 0, 0], text].concat();
+        assert_eq!(body_of(&Case::Listing(listing)), (5, expected));
+    }
+}
+
+/// The bytes of start calls, taken and refused.
+#[test]
+fn the_bytes_of_start_calls() {
+    for (start, number, image) in [
+        (Start::UpsideDown, 0, UPSIDE_DOWN),
+        (Start::Upright, 1, POWER_ON),
+    ] {
+        // 24 and 1,190 bytes, of which 1 and 2 stay; 1,190 is 0x04A6.
+        let call = cases::StartCall::new(start, vec![0xEE; 24], vec![0xDD; 1190]);
+        let expected = [
+            &[number][..],
+            &[24, 0],
+            &[0xEE; 24],
+            &[0xA6, 0x04],
+            &[0xDD; 1190],
+            &[0],
+            &image,
+            &[0xEE],
+            &[0; 1188],
+            &[0xDD; 2],
+        ]
+        .concat();
+        assert!(body_of(&Case::StartCall(call)) == (8, expected));
+
+        let call = cases::StartCall::new(start, vec![7; 22], vec![8; 2]);
+        let expected = [
+            &[number][..],
+            &[22, 0],
+            &[7; 22],
+            &[2, 0, 8, 8],
+            &[1],
+            &[7; 22],
+            &[8, 8],
+        ]
+        .concat();
+        assert_eq!(body_of(&Case::StartCall(call)), (8, expected));
+    }
+}
+
+/// There is no third start.
+#[test]
+fn a_start_that_is_none_is_noticed() {
+    for case in [
+        Case::Listing(cases::Listing::new(Start::Upright, Vec::new())),
+        Case::StartCall(cases::StartCall::new(
+            Start::Upright,
+            Vec::new(),
+            Vec::new(),
+        )),
+    ] {
+        let mut stream = Vec::new();
+        let mut writer = Writer::begin(&mut stream, 0).unwrap();
+        writer.write(&case).unwrap();
+        writer.end().unwrap();
+        // After the header of 20, tag and length.
+        assert_eq!(stream[25], 1);
+        let first = |stream: &[u8]| Reader::begin(stream).unwrap().next_case();
+        assert!(first(&stream).unwrap() == Some(case));
+        stream[25] = 2;
+        assert!(first(&stream).is_err());
+    }
 }
 
 /// The bytes of two frames and of two memories compared, taken and refused.
@@ -310,6 +395,7 @@ fn comparisons_come_after_all_cases_of_the_base() {
     let base = Plan {
         compared_frames: 0,
         compared_memories: 0,
+        starts: 0,
         ..small(4)
     };
     let cases = cases_of(&base);
@@ -380,9 +466,18 @@ fn the_outcomes_are_those_of_the_calls() {
                 }
                 assert!(drawn == expected);
             }
-            Case::Listing(case) => assert_eq!(listing::listing(&case.trace), case.text),
+            Case::Listing(case) => {
+                assert_eq!(listing::listing(case.start, &case.trace), case.text);
+            }
             Case::ComparedFrames(case) => is_as_called(compare::frames, &case),
             Case::ComparedMemories(case) => is_as_called(compare::memories, &case),
+            Case::StartCall(case) => {
+                let (mut state, mut memory) = (case.state.clone(), case.memory.clone());
+                let number = start::call(case.start, &mut state, &mut memory);
+                assert_eq!(number, case.number);
+                assert!(number == 0 || (&state, &memory) == (&case.state, &case.memory));
+                assert!((state, memory) == (case.state_after, case.memory_after));
+            }
         }
     }
 }
@@ -406,9 +501,9 @@ fn is_as_called<const ENTRY: usize>(
 }
 
 /// The random cases alone reach everything that is counted but the bands of
-/// single Ms.
+/// single Ms, document 01's own trace, and a trace from both starts.
 #[test]
-fn all_but_bands_of_single_ms_is_reached_without_the_sweep() {
+fn nearly_all_is_reached_without_the_sweep() {
     let plan = Plan {
         seed: 1815,
         sweep: false,
@@ -419,18 +514,32 @@ fn all_but_bands_of_single_ms_is_reached_without_the_sweep() {
         listings: 2_000,
         compared_frames: 3_000,
         compared_memories: 6_000,
+        starts: 6_000,
     };
     let mut faults = faults_of(&plan);
-    faults.retain(|fault| !(fault.starts_with("bands ") && fault.contains(", M: ")));
+    faults.retain(|fault| {
+        !(fault.starts_with("bands ") && fault.contains(", M: ")
+            || fault.contains("document 01's trace")
+            || fault.starts_with("listings of one trace from both starts: "))
+    });
     assert_eq!(faults, Vec::<String>::new());
 }
 
-/// The sweep alone reaches every class of comparisons and every place of the
-/// band, whatever the seed.
+/// The sweep alone reaches every class of comparisons, every place of the band,
+/// all that is counted of start calls and all of listings, whatever the seed.
 #[test]
-fn every_comparison_and_every_band_is_reached_by_the_sweep() {
+fn the_sweep_reaches_all_that_the_orders_brought() {
     let mut faults = faults_of(&only_the_sweep());
-    faults.retain(|fault| fault.starts_with("compared ") || fault.starts_with("bands "));
+    let brought = [
+        "compared ",
+        "bands ",
+        "start calls",
+        "numbers of start calls",
+        "listings ",
+        "situations of listings",
+        "numbers of listings",
+    ];
+    faults.retain(|fault| brought.iter().any(|name| fault.starts_with(name)));
     assert_eq!(faults, Vec::<String>::new());
 }
 
@@ -445,14 +554,19 @@ fn faults_of(plan: &Plan) -> Vec<String> {
     coverage.faults()
 }
 
-/// The bands come last, so that all other cases stand where they stood: six
-/// places of each M drawn, each M listed in both row directions.
+/// The sweep parted after the last case that satisfies this.
+fn parted_after(cases: &[Case], is_last: fn(&Case) -> bool) -> (&[Case], &[Case]) {
+    cases.split_at(cases.iter().rposition(is_last).unwrap() + 1)
+}
+
+/// The bands come after what there was before them, which stands where it
+/// stood: six places of each M drawn, each M listed in both row directions, from
+/// the old start.
 #[test]
-fn bands_come_after_all_other_cases() {
+fn bands_come_after_the_comparisons() {
     let cases = cases_of(&only_the_sweep());
-    let (others, bands) = cases.split_at(cases.len() - 6 * 64 - 2 * 64);
-    assert!(matches!(others.last(), Some(Case::ComparedMemories(_))));
-    let (drawn, listed) = bands.split_at(6 * 64);
+    let (_, bands) = parted_after(&cases, |case| matches!(case, Case::ComparedMemories(_)));
+    let (drawn, listed) = bands[..6 * 64 + 2 * 64].split_at(6 * 64);
     for case in drawn {
         let Case::Draw(draw) = case else {
             panic!("a drawing is due");
@@ -464,10 +578,65 @@ fn bands_come_after_all_other_cases() {
         let Case::Listing(listing) = case else {
             panic!("a listing is due");
         };
+        assert_eq!(listing.start, Start::Upright);
         assert!(listing.text.starts_with("frame 132 65\n"));
-        let (_, memory, _) = trace::run_from_power_on(&listing.trace);
+        let (_, memory, _) = trace::run_from(Start::Upright, &listing.trace);
         assert_eq!(ram_rows_of(&memory).len(), 65);
     }
+}
+
+/// After the bands come Order 3's listings, each trace from the new start and
+/// then from the old, and after them the start calls. What came before lists
+/// from the old start.
+#[test]
+fn listings_from_both_starts_and_start_calls_come_last() {
+    let cases = cases_of(&only_the_sweep());
+    let (before, since) = parted_after(&cases, |case| matches!(case, Case::Draw(_)));
+    let (listed_bands, rest) = since.split_at(2 * 64);
+    for case in before.iter().chain(listed_bands) {
+        if let Case::Listing(listing) = case {
+            assert_eq!(listing.start, Start::Upright);
+        }
+        assert!(!matches!(case, Case::StartCall(_)));
+    }
+    let (listings, calls) = parted_after(rest, |case| matches!(case, Case::Listing(_)));
+    let (pairs, rest) = listings.as_chunks();
+    assert!(pairs.len() > 500 && rest.is_empty());
+    for pair in pairs {
+        let [Case::Listing(first), Case::Listing(second)] = pair else {
+            panic!("two listings are due");
+        };
+        assert_eq!(
+            (first.start, second.start),
+            (Start::UpsideDown, Start::Upright)
+        );
+        assert!(first.trace == second.trace);
+    }
+    assert!(calls.len() > 500);
+    for case in calls {
+        assert!(matches!(case, Case::StartCall(_)));
+    }
+}
+
+/// The random cases of Order 3 come last, and nothing else moves for them.
+#[test]
+fn random_start_calls_come_after_all_other_cases() {
+    let no_starts = Plan {
+        starts: 0,
+        ..small(6)
+    };
+    let others = cases_of(&no_starts);
+    let cases = cases_of(&small(6));
+    assert!(cases[..others.len()] == others);
+    assert_eq!(cases.len(), others.len() + 80);
+    let of_start = |start: Start| {
+        let calls = cases[others.len()..].iter();
+        calls
+            .filter(|case| matches!(case, Case::StartCall(call) if call.start == start))
+            .count()
+    };
+    assert!(of_start(Start::UpsideDown) > 20 && of_start(Start::Upright) > 20);
+    assert_eq!(of_start(Start::UpsideDown) + of_start(Start::Upright), 80);
 }
 
 /// The different contents of RAM rows 0 to 64.
@@ -494,6 +663,7 @@ fn what_is_not_reached_is_told() {
     assert!(faults.contains(&"numbers of draws: 5 impossible".to_string()));
     assert!(faults.contains(&"compared memories, numbers: 11 not reached".to_string()));
     assert!(faults.contains(&"bands drawn at the top, M: 17 not reached".to_string()));
+    assert!(faults.contains(&"numbers of start calls: 1 not reached".to_string()));
     assert!(faults.contains(&"numbers of draws: 0 not reached".to_string()));
     assert!(!faults.contains(&"numbers of draws: 5 not reached".to_string()));
 }

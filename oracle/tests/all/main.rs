@@ -13,4 +13,5 @@ mod program;
 mod refusals;
 mod rig;
 mod samples;
+mod start;
 mod trace;

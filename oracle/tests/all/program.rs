@@ -4,6 +4,8 @@ use std::io::Write;
 use std::path::PathBuf;
 use std::process::{Command, Output, Stdio};
 
+use crate::rig::DOCUMENT_TRACE;
+
 fn oracle(arguments: &[&str], input: &[u8]) -> Output {
     let mut child = Command::new(env!("CARGO_BIN_EXE_oracle"))
         .args(arguments)
@@ -27,17 +29,21 @@ fn text_of(arguments: &[&str], input: &[u8]) -> String {
     String::from_utf8(output.stdout).unwrap()
 }
 
-const DOCUMENT_TRACE: [u8; 11] = [
-    0x01, 0x00, 0x01, 0x00, 0xAF, 0x02, 0x00, 0x02, 0x00, 0x03, 0x01,
-];
-
 #[test]
 fn list_prints_the_listing() {
     assert_eq!(
         text_of(&["list"], &DOCUMENT_TRACE),
+        "frame 132 65\n62 131-131\n63 130-131\nend\n"
+    );
+    assert_eq!(
+        text_of(&["list", "--upright"], &DOCUMENT_TRACE),
         "frame 132 65\n0 0-1\n1 0-0\nend\n"
     );
     assert_eq!(text_of(&["list"], &vec![0; 65_537]), "input too long\n");
+    assert_eq!(
+        text_of(&["list", "--upright"], &vec![0; 65_537]),
+        "input too long\n"
+    );
     assert_eq!(text_of(&["list"], &vec![0; 1 << 20]), "input too long\n");
     assert_eq!(
         text_of(&["list"], &vec![0; 65_536]),
@@ -48,20 +54,51 @@ fn list_prints_the_listing() {
 #[test]
 fn play_answers_each_event_and_tells_what_is_left() {
     let script = b"command 05 E0 # two events\n\nread\nwrite 3C\nread\nread\ncommand B9\n";
-    let text = text_of(&["play"], script);
-    let lines: Vec<&str> = text.lines().collect();
-    assert_eq!(
-        lines[..7],
-        [
-            "0 00 0", "0 00 0", "0 00 1", "0 00 0", "0 00 1", "0 00 0", "4 00 0"
-        ]
-    );
-    // Column 6, in read-modify-write from 5, not fresh after the last read;
-    // the 13 fields from power control to the awaited code are 0.
-    let zeros = "00".repeat(13);
-    assert_eq!(lines[7], format!("state 000600003F2004{zeros}010500"));
-    assert!(lines[8].starts_with("memory 1188 bytes "));
-    assert_eq!(lines.len(), 9);
+    for (arguments, directions) in [(&["play"][..], "0101"), (&["play", "--upright"], "0000")] {
+        let text = text_of(arguments, script);
+        let lines: Vec<&str> = text.lines().collect();
+        assert_eq!(
+            lines[..7],
+            [
+                "0 00 0", "0 00 0", "0 00 1", "0 00 0", "0 00 1", "0 00 0", "4 00 0"
+            ]
+        );
+        // Column 6, in read-modify-write from 5, not fresh after the last read;
+        // of the 13 fields from power control to the awaited code the sixth and
+        // seventh are the directions, and the others are 0.
+        let (before, after) = ("00".repeat(5), "00".repeat(6));
+        assert_eq!(
+            lines[7],
+            format!("state 000600003F2004{before}{directions}{after}010500")
+        );
+        assert!(lines[8].starts_with("memory 1188 bytes "));
+        assert_eq!(lines.len(), 9);
+    }
+}
+
+/// The fields before the directions at power-on, and those after them.
+const BEFORE_DIRECTIONS: &str = "state 000000003F20040000000000";
+const AFTER_DIRECTIONS: &str = "000000000000000001\n";
+
+#[test]
+fn play_resets_to_the_chips_own_values() {
+    for (script, upside_down, upright) in [
+        (&b""[..], "0101", "0000"),
+        (b"reset\n", "0000", "0000"),
+        (b"command E2\n", "0100", "0000"),
+        (b"command A0\n", "0001", "0000"),
+        (b"command C8\n", "0101", "0001"),
+        (b"command E2 C8\n", "0101", "0001"),
+        (b"reset\ncommand A1\n", "0100", "0100"),
+    ] {
+        for (arguments, directions) in [
+            (&["play"][..], upside_down),
+            (&["play", "--upright"], upright),
+        ] {
+            let expected = format!("{BEFORE_DIRECTIONS}{directions}{AFTER_DIRECTIONS}");
+            assert!(text_of(arguments, script).contains(&expected));
+        }
+    }
 }
 
 #[test]
@@ -74,14 +111,46 @@ fn play_takes_any_image() {
 
 #[test]
 fn run_answers_number_offset_and_count() {
-    let text = text_of(&["run"], &DOCUMENT_TRACE);
-    assert!(text.starts_with("0 11 2\nstate 000200003F2004"));
+    // Column 2; display on is the third field after the directions.
+    for (arguments, directions) in [(&["run"][..], "0101"), (&["run", "--upright"], "0000")] {
+        let state = format!("000200003F20040000000000{directions}000001000000000001");
+        let text = text_of(arguments, &DOCUMENT_TRACE);
+        assert!(text.starts_with(&format!("0 11 2\nstate {state}\n")));
+    }
+    // A reset record first: the chip's own values.
+    let trace = [&[0x00, 0x00, 0x04, 0x00][..], &DOCUMENT_TRACE].concat();
+    let text = text_of(&["run"], &trace);
+    assert!(text.starts_with("0 15 3\nstate 000200003F20040000000000000000000100"));
+    assert_eq!(text_of(&["run", "--upright"], &trace), text);
     assert!(text_of(&["run", "--state", ""], &DOCUMENT_TRACE).starts_with("1 0 0\n"));
 }
 
 #[test]
 fn frame_draws_or_refuses() {
-    assert_eq!(text_of(&["frame"], b""), "frame 132 65\nend\n");
+    // Both starts have the display off.
+    let memory = TraceFile::new("memory", &[0xFF; 1188]);
+    for arguments in [
+        &["frame"][..],
+        &["frame", "--upright"],
+        &["frame", "--memory", memory.name()],
+        &["frame", "--upright", "--memory", memory.name()],
+    ] {
+        assert_eq!(text_of(arguments, b""), "frame 132 65\nend\n");
+    }
+    // Power-on with multiplex 0, both directions 1 and the display on: RAM row
+    // 0 and the icons; byte 0 and byte 1,056 alone are not 0.
+    let mut contents = [0; 1188];
+    contents[0] = 0x01;
+    contents[1056] = 0xFF;
+    let memory = TraceFile::new("two-bytes", &contents);
+    let state = "00000000002004000000000001010000010000000000".to_string() + "01";
+    assert_eq!(
+        text_of(
+            &["frame", "--state", &state, "--memory", memory.name()],
+            b""
+        ),
+        "frame 132 65\n31 131-131\n64 131-131\nend\n"
+    );
     assert_eq!(text_of(&["frame", "--state", "0011"], b""), "refused 1\n");
 }
 
@@ -105,33 +174,61 @@ fn cases_are_shown() {
         "1",
         "--compared-memories",
         "1",
+        "--starts",
+        "1",
     ];
     let arguments = [&["cases"][..], &counts].concat();
     let stream = oracle(&arguments, b"");
     assert!(stream.status.success());
-    let text = text_of(&["show", "--from", "2", "--count", "9"], &stream.stdout);
+    let text = text_of(&["show", "--from", "2", "--count", "10"], &stream.stdout);
     for part in [
         "case 2: single event\n",
         "case 3: sequence of 5 events\n",
         "case 4: run\n",
         "case 5: draw\n",
-        "case 6: listing\n",
+        "case 6: listing\nstart up",
         "case 7: frame compared with frame\n",
         "case 8: memory compared with memory\n",
+        "case 9: start call\nstart up",
     ] {
         assert!(text.contains(part), "{part}");
     }
     assert!(!text.contains("case 1:"));
     let arguments = [&["coverage"][..], &counts].concat();
-    assert!(text_of(&arguments, b"").contains("cases: 7 of 7"));
+    assert!(text_of(&arguments, b"").contains("cases: 8 of 8"));
     let summary = [&["cases", "--summary"][..], &counts].concat();
     let output = oracle(&summary, b"");
     assert_eq!(output.stdout, stream.stdout);
     assert!(
         String::from_utf8(output.stderr)
             .unwrap()
-            .contains("cases: 7 of 7")
+            .contains("cases: 8 of 8")
     );
+}
+
+/// Of sixteen random listings and start calls some have each of the starts.
+#[test]
+fn starts_are_shown_in_words() {
+    for (kind, counted) in [("listing", "--listings"), ("start call", "--starts")] {
+        let mut arguments = vec!["cases", "--seed", "4", "--no-sweep"];
+        for count in [
+            "--singles",
+            "--events",
+            "--runs",
+            "--draws",
+            "--listings",
+            "--compared-frames",
+            "--compared-memories",
+            "--starts",
+        ] {
+            arguments.extend([count, if count == counted { "16" } else { "0" }]);
+        }
+        let stream = oracle(&arguments, b"");
+        let text = text_of(&["show", "--count", "16"], &stream.stdout);
+        let shown = |start: &str| text.matches(&format!(": {kind}\nstart {start}\n")).count();
+        assert!(shown("upside down") > 0 && shown("upright") > 0);
+        assert_eq!(shown("upside down") + shown("upright"), 16);
+    }
 }
 
 /// A file of a trace, taken away with the value.
@@ -168,24 +265,58 @@ fn differ_tells_where_the_frames_differ() {
             0x01, 0x00, 0x01, 0x00, 0xAF, 0x03, 0x00, 0x02, 0x00, 0x01, 0x01, 0x01,
         ],
     );
-    assert_eq!(
-        text_of(&["differ", document.name(), other.name()], b""),
-        "0 2 2 0 1\n1 0 0 1 0\n"
-    );
-    assert_eq!(
-        text_of(&["differ", other.name(), document.name()], b""),
-        "0 2 2 1 0\n1 0 0 0 1\n"
-    );
-    assert_eq!(
-        text_of(&["differ", "--memory", document.name(), other.name()], b""),
-        "0 3 1\n2 0 1\n"
-    );
-    for arguments in [
-        &["differ", document.name(), document.name()][..],
-        &["differ", "--memory", other.name(), other.name()],
+    let (first, second) = (document.name(), other.name());
+    for (arguments, expected) in [
+        (
+            &["differ", "--upright", first, second][..],
+            "0 2 2 0 1\n1 0 0 1 0\n",
+        ),
+        (
+            &["differ", "--upright", second, first],
+            "0 2 2 1 0\n1 0 0 0 1\n",
+        ),
+        // Row 0 is at 63, row 1 at 62; column 0 at 131, column 2 at 129.
+        (
+            &["differ", first, second],
+            "62 131 131 1 0\n63 129 129 0 1\n",
+        ),
+        (
+            &["differ", second, first],
+            "62 131 131 0 1\n63 129 129 1 0\n",
+        ),
+        // Memories know no direction.
+        (&["differ", "--memory", first, second], "0 3 1\n2 0 1\n"),
+        (
+            &["differ", "--memory", "--upright", first, second],
+            "0 3 1\n2 0 1\n",
+        ),
+        (
+            &["differ", "--upright", first, "--memory", second],
+            "0 3 1\n2 0 1\n",
+        ),
+        (&["differ", first, first], ""),
+        (&["differ", "--upright", first, first], ""),
+        (&["differ", "--memory", second, second], ""),
     ] {
-        assert_eq!(text_of(arguments, b""), "");
+        assert_eq!(text_of(arguments, b""), expected, "{arguments:?}");
     }
+}
+
+/// Document 01's trace from each start, and with a reset record, which leaves
+/// nothing of the new start but what is in the memory.
+#[test]
+fn differ_begins_both_with_the_same_start() {
+    let document = TraceFile::new("as-begun", &DOCUMENT_TRACE);
+    let reset = [&[0x00, 0x00, 0x04, 0x00][..], &DOCUMENT_TRACE].concat();
+    let reset = TraceFile::new("reset-first", &reset);
+    assert_eq!(
+        text_of(&["differ", "--upright", document.name(), reset.name()], b""),
+        ""
+    );
+    assert_eq!(
+        text_of(&["differ", document.name(), reset.name()], b""),
+        "0 0 1 0 1\n1 0 0 0 1\n62 131 131 1 0\n63 130 131 1 0\n"
+    );
 }
 
 #[test]
@@ -212,10 +343,12 @@ fn differ_uses_a_refused_trace_where_it_stopped() {
         "lit",
         &[0x05, 0x00, 0x01, 0x00, 0xA8, 0x00, 0xAF, 0xA5, 0x80],
     );
-    assert_eq!(
-        text_of(&["differ", empty.name(), lit.name()], b""),
-        "31 0 131 0 1\n64 0 131 0 1\n"
-    );
+    for arguments in [
+        &["differ", empty.name(), lit.name()][..],
+        &["differ", "--upright", empty.name(), lit.name()],
+    ] {
+        assert_eq!(text_of(arguments, b""), "31 0 131 0 1\n64 0 131 0 1\n");
+    }
 }
 
 #[test]
@@ -253,6 +386,18 @@ fn wrong_usage_is_told_with_status_2() {
         &["differ", "--frames", "one", "two"],
         &["differ", "--memory", "--memory", "one", "two"],
         &["cases", "--seed", "1", "--compared-frames", "x"],
+        &["cases", "--seed", "1", "--starts", "x"],
+        &["cases", "--seed", "1", "--upright"],
+        &["show", "--upright"],
+        &["list", "--upright", "--upright"],
+        &["list", "--state", "00"],
+        &["list", "--upside-down"],
+        &["play", "--state", "00", "--upright"],
+        &["run", "--upright", "--state", "00"],
+        &["frame", "--upright", "--state", ""],
+        &["differ", "--upright", "one"],
+        &["differ", "--upright", "--upright", "one", "two"],
+        &["differ", "--state", "one", "two"],
     ] {
         let output = oracle(arguments, b"");
         assert_eq!(output.status.code(), Some(2), "{arguments:?}");

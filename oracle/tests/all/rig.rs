@@ -34,6 +34,16 @@ pub const POWER_ON: [u8; 23] = [
     0, 0, 0, 0, 63, 32, 4, 0, 0, 0, 0, 0, 0, 0, 0, 0, 0, 0, 0, 0, 0, 0, 1,
 ];
 
+/// Order 3's start: column direction and row direction 1, else power-on.
+pub const UPSIDE_DOWN: [u8; 23] = [
+    0, 0, 0, 0, 63, 32, 4, 0, 0, 0, 0, 0, 1, 1, 0, 0, 0, 0, 0, 0, 0, 0, 1,
+];
+
+/// The trace whose listing document 01 prints whole: AF, then 03 and 01 written.
+pub const DOCUMENT_TRACE: [u8; 11] = [
+    0x01, 0x00, 0x01, 0x00, 0xAF, 0x02, 0x00, 0x02, 0x00, 0x03, 0x01,
+];
+
 /// Legal, and unlike power-on in each field.
 pub const BUSY: [u8; 23] = [
     6, 0x5A, 21, 9, 40, 50, 1, 6, 1, 1, 0xC4, 3, 1, 1, 1, 1, 1, 1, 2, 0, 1, 0x33, 0,
@@ -48,6 +58,10 @@ pub struct Rig {
 impl Rig {
     pub fn power_on() -> Rig {
         Rig::with(POWER_ON)
+    }
+
+    pub fn upside_down() -> Rig {
+        Rig::with(UPSIDE_DOWN)
     }
 
     pub fn with(image: [u8; 23]) -> Rig {
