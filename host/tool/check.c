@@ -16,13 +16,14 @@ static void print_verdict(FILE *out, const char *name,
   }
 }
 
-static enum status check_one(FILE *out, const char *name)
+static enum status check_one(FILE *out, const struct options *options,
+                             const char *name)
 {
   static struct played played;
   struct input input;
   enum status status = FAILED;
   if (input_open(&input, name)) {
-    if (play_input(&played, &input, ALL_RECORDS)) {
+    if (play_input(&played, &input, options)) {
       status = status_of(&played);
       print_verdict(out, name, &played);
     }
@@ -38,7 +39,7 @@ enum status check(FILE *out, const struct options *options)
 {
   enum status worst = ALL_TAKEN;
   for (int i = 0; i < options->trace_count; i++) {
-    enum status status = check_one(out, options->traces[i]);
+    enum status status = check_one(out, options, options->traces[i]);
     if (status > worst) {
       worst = status;
     }

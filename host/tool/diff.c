@@ -54,8 +54,11 @@ static bool fits(const struct options *options, const struct screen *first,
             first->stored ? first->input.name : second->input.name);
     return false;
   }
-  if (options->records != ALL_RECORDS && first->stored && second->stored) {
-    fputs("ssd1815b: --after is for traces, and both are listings\n", stderr);
+  const char *wish = options->records != ALL_RECORDS ? "--after"
+                     : options->hung == HUNG_UPRIGHT ? "--upright" : NULL;
+  if (wish != NULL && first->stored && second->stored) {
+    fprintf(stderr, "ssd1815b: %s is for traces, and both are listings\n",
+            wish);
     return false;
   }
   return true;
@@ -106,8 +109,8 @@ enum status diff(FILE *out, const struct options *options)
   static struct screen first;
   static struct screen second;
   enum status status = FAILED;
-  if (screen_read(&first, options->traces[0], options->records)) {
-    if (screen_read(&second, options->traces[1], options->records)) {
+  if (screen_read(&first, options->traces[0], options)) {
+    if (screen_read(&second, options->traces[1], options)) {
       status = compare(out, options, &first, &second);
       screen_close(&second);
     }

@@ -10,12 +10,15 @@
 static const char all[] =
   "usage: ssd1815b COMMAND [OPTION...] [--] [TRACE]\n"
   "       ssd1815b diff [OPTION...] [--] FIRST SECOND\n"
-  "       ssd1815b check [--] [TRACE...]\n"
+  "       ssd1815b check [OPTION...] [--] [TRACE...]\n"
   "       ssd1815b COMMAND --help | --help | --version\n"
   "\n"
   "Plays a trace of recorded bus traffic on a model of the SSD1815B, from\n"
-  "power-on with zero memory.  TRACE is a file of any length; without one, or\n"
-  "with -, it is standard input.\n"
+  "power-on with zero memory, but with column and row direction 1, as new\n"
+  "cabinets hang the module upside down.  A recording from an old cabinet\n"
+  "wants --upright, or its picture is turned by half a turn; COMMAND --help\n"
+  "says more.  TRACE is a file of any length; without one, or with -, it is\n"
+  "standard input.\n"
   "\n"
   "  list      the lit places of the final frame, a line for each row; takes\n"
   "            at most 65,536 bytes\n"
@@ -26,6 +29,7 @@ static const char all[] =
   "  diff      where two screens differ, each of a trace or a listing\n"
   "  check     a line for each trace: taken, or refused and where\n"
   "\n"
+  "  --upright          the start of old cabinets, column and row direction 0\n"
   "  --after N          stop after N whole records (not for check)\n"
   "  --scale N          picture, diff: each dot N by N, 1 to 64, else 4\n"
   "  --png              picture: PNG, not PBM\n"
@@ -46,14 +50,34 @@ static const char all[] =
   "Status 0: all taken.  1: refused.  2: a wrong command line, or input or\n"
   "output that fails.  diff: 0 the same, 1 different, 2 trouble.\n";
 
-static const char after[] =
+static const char upright[] =
   "\n"
+  "  --upright   start as old cabinets hang the module, column and row\n"
+  "              direction 0; without it as new ones do, upside down, both 1\n";
+
+static const char after[] =
   "  --after N   stop after N whole records; where there are fewer, all is\n"
   "              played, and standard error says so\n";
 
+static const char which_start[] =
+  "\n"
+  "Which start: the cabinet says, not the picture.  A recording from an old\n"
+  "one wants --upright, or it is printed turned by half a turn; what a reader\n"
+  "of a new one sees upright is printed so, as rows and columns are counted\n"
+  "on the module, and nothing turns it back.  Number, offset, memory and\n"
+  "bytes read are the same from either start.  The picture is too once a\n"
+  "reset record came, after which the screen is upright, or the trace has set\n"
+  "both directions, columns by A0 or A1, rows by C0 to CF.  E2 sets the row\n"
+  "direction alone, to 0: played upside down, the picture is mirrored then\n"
+  "until A0 or C8 comes.\n";
+
+static const char either_start[] =
+  "\n"
+  "All that is printed here is the same from either start.\n";
+
 static const char *const usage[COMMANDS] = {
   [LIST] =
-    "usage: ssd1815b list [--after N] [TRACE]\n"
+    "usage: ssd1815b list [--upright] [--after N] [TRACE]\n"
     "\n"
     "Prints what document 01's listing program does: `refused R at O` if the\n"
     "run was stopped, `frame 132 65`, a line for each row with lit places (64\n"
@@ -61,14 +85,14 @@ static const char *const usage[COMMANDS] = {
     "status 2; with --after the bytes of those records count.  Why a run was\n"
     "stopped is said on standard error.\n",
   [SHOW] =
-    "usage: ssd1815b show [--after N] [TRACE]\n"
+    "usage: ssd1815b show [--upright] [--after N] [TRACE]\n"
     "\n"
     "Draws the final frame, two panel rows to a line, the icon line apart, on\n"
     "a UTF-8 terminal 134 wide.  Below it: why all is dark, if it is, and why\n"
     "the run was stopped, if it was.\n",
   [PICTURE] =
-    "usage: ssd1815b picture [--scale N] [--after N] [TRACE] > FILE.pbm\n"
-    "       ssd1815b picture [--scale N] [--after N] -o FILE.png [TRACE]\n"
+    "usage: ssd1815b picture [OPTION...] [TRACE] > FILE.pbm\n"
+    "       ssd1815b picture [OPTION...] -o FILE.png [TRACE]\n"
     "\n"
     "Writes the final frame as a file: lit dots black, the icon line apart, a\n"
     "margin round it.  Nothing is sent to a terminal.\n"
@@ -81,12 +105,13 @@ static const char *const usage[COMMANDS] = {
     "A tool that was built without PNG says so and writes PBM, to\n"
     "FILE.png.pbm where FILE.png is asked for.\n",
   [STATE] =
-    "usage: ssd1815b state [--after N] [TRACE]\n"
+    "usage: ssd1815b state [--upright] [--after N] [TRACE]\n"
     "\n"
     "Prints the registers by name, which panel rows are in use, whether the\n"
-    "registers are power save, the image in hex, and what the run answered.\n",
+    "registers are power save, the image in hex, the start, and what the run\n"
+    "answered.\n",
   [MEMORY] =
-    "usage: ssd1815b memory [--after N] [TRACE]\n"
+    "usage: ssd1815b memory [--upright] [--after N] [TRACE]\n"
     "\n"
     "Prints the display memory in hex, page by page, 16 columns to a line; of\n"
     "page 8 bit 0 is the icon line.  Then a line for each byte that the trace\n"
@@ -123,6 +148,10 @@ static const char *const usage[COMMANDS] = {
     "is a listing that begins with `refused`; standard error names it, the\n"
     "number and the offset, and without --refused the status is 2.\n"
     "\n"
+    "--upright is for both traces and for no listing: where both are listings\n"
+    "it is refused.  Of an old and a new cabinet's trace, the listing of the\n"
+    "one (list --upright) is compared with the trace of the other.\n"
+    "\n"
     "A tool that was built without PNG says so and writes PPM, to\n"
     "FILE.png.ppm where FILE.png is asked for.\n"
     "\n"
@@ -130,7 +159,7 @@ static const char *const usage[COMMANDS] = {
     "a listing that list does not print, a wrong command line, or input or\n"
     "output that fails.\n",
   [CHECK] =
-    "usage: ssd1815b check [TRACE...]\n"
+    "usage: ssd1815b check [--upright] [TRACE...]\n"
     "\n"
     "Plays each trace by itself and prints a line for each:\n"
     "\n"
@@ -147,10 +176,13 @@ void help_print(FILE *out, enum command command)
     fputs(all, out);
     return;
   }
+  bool draws = command != MEMORY && command != CHECK;
   fputs(usage[command], out);
+  fputs(upright, out);
   if (command != CHECK) {
     fputs(after, out);
   }
+  fputs(draws ? which_start : either_start, out);
 }
 
 void version_print(FILE *out)

@@ -17,8 +17,8 @@ enum status list(FILE *out, const struct options *options, struct input *input)
                            &found);
   size_t trace_len = found == options->records ? end : input->length;
   size_t length;
-  enum listing outcome = listing_of(&played, input->bytes, trace_len, text,
-                                    &length);
+  enum listing outcome = listing_of(&played, options->hung, input->bytes,
+                                    trace_len, text, &length);
   fwrite(text, 1, length, out);
   if (outcome == LISTING_TOO_LONG) {
     return FAILED;

@@ -12,7 +12,8 @@ enum listing { LISTING_TAKEN, LISTING_REFUSED, LISTING_TOO_LONG };
 
 /* Plays a trace and writes what the program prints for it; text has
 ** SSD1815B_TEXT_SIZE bytes.  One that is too long is not played. */
-enum listing listing_of(struct played *played, const uint8_t *trace,
-                        size_t trace_len, uint8_t *text, size_t *length);
+enum listing listing_of(struct played *played, enum hung hung,
+                        const uint8_t *trace, size_t trace_len, uint8_t *text,
+                        size_t *length);
 
 #endif

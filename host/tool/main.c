@@ -59,7 +59,7 @@ static enum status on_one_trace(const struct options *options)
   enum status status = FAILED;
   if (options->command == LIST) {
     status = list(stdout, options, &input);
-  } else if (play_input(&played, &input, options->records)) {
+  } else if (play_input(&played, &input, options)) {
     status = on_played(options, &played);
   }
   input_close(&input);

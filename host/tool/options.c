@@ -8,8 +8,6 @@
 #include <string.h>
 #include <strings.h>
 
-#include "played.h"
-
 enum { LARGEST_SCALE = 64, USUAL_SCALE = 4 };
 
 static const char *const command_names[COMMANDS] = {
@@ -53,6 +51,13 @@ static bool take_after(struct options *options, const char *text)
     return false;
   }
   options->records = (size_t)number;
+  return true;
+}
+
+static bool take_upright(struct options *options, const char *text)
+{
+  (void)text;
+  options->hung = HUNG_UPRIGHT;
   return true;
 }
 
@@ -121,18 +126,20 @@ struct option {
   const char *name;
   const char *value;   /* what it needs, or null */
   unsigned commands;   /* that take it, a bit each */
-  const char *whose;   /* what is said to the others */
+  const char *whose;   /* what is said to the others; null if there are none */
   bool (*take)(struct options *options, const char *text);
 };
 
 enum {
   FOR_PICTURE = 1 << PICTURE,
   FOR_DIFF = 1 << DIFF,
-  NOT_FOR_CHECK = (1 << CHECK) - 1
+  NOT_FOR_CHECK = (1 << CHECK) - 1,
+  FOR_ALL = (1 << COMMANDS) - 1
 };
 
 static const struct option table[] = {
   { "--after", "a number", NOT_FOR_CHECK, "is not for check", take_after },
+  { "--upright", NULL, FOR_ALL, NULL, take_upright },
   { "--scale", "a number", FOR_PICTURE | FOR_DIFF,
     "is for picture and diff alone", take_scale },
   { "--png", NULL, FOR_PICTURE, "is for picture alone", take_png },

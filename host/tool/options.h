@@ -7,6 +7,8 @@
 #include <stdbool.h>
 #include <stddef.h>
 
+#include "played.h"
+
 enum command { LIST, SHOW, PICTURE, STATE, MEMORY, DIFF, CHECK, COMMANDS };
 
 struct options {
@@ -14,6 +16,7 @@ struct options {
   char **traces;        /* their names; "-" is standard input */
   int trace_count;      /* one, two for diff, or any number for check */
   size_t records;       /* to be played, or ALL_RECORDS */
+  enum hung hung;       /* how the module hangs, and so the start */
   unsigned scale;       /* each dot of a picture is scale by scale */
   bool png;             /* the picture is to be a PNG */
   const char *output;   /* the picture's file; null is standard output, and

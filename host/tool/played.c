@@ -27,12 +27,21 @@ size_t records_end(const uint8_t *trace, size_t trace_len, size_t records,
   return walk(trace, trace_len, 0, records, found);
 }
 
-void play_begin(struct played *played)
+void start_chip(enum hung hung, uint8_t *state, uint8_t *memory)
 {
-  *played = (struct played){ 0 };
-  /* The sizes are right, so this does not refuse. */
-  ssd1815b_start(played->state, sizeof played->state, played->memory,
-                 sizeof played->memory);
+  /* The sizes are right, so neither refuses. */
+  if (hung == HUNG_UPRIGHT) {
+    ssd1815b_start_upright(state, SSD1815B_STATE_SIZE, memory,
+                           SSD1815B_MEMORY_SIZE);
+  } else {
+    ssd1815b_start(state, SSD1815B_STATE_SIZE, memory, SSD1815B_MEMORY_SIZE);
+  }
+}
+
+void play_begin(struct played *played, enum hung hung)
+{
+  *played = (struct played){ .hung = hung };
+  start_chip(hung, played->state, played->memory);
 }
 
 /* Only whole records are run until the trace has ended: a run of whole records
@@ -64,9 +73,10 @@ void play_end(struct played *played)
                 sizeof played->memory, played->frame, sizeof played->frame);
 }
 
-void play(struct played *played, const uint8_t *trace, size_t trace_len)
+void play(struct played *played, enum hung hung, const uint8_t *trace,
+          size_t trace_len)
 {
-  play_begin(played);
+  play_begin(played, hung);
   play_on(played, trace, trace_len, true, ALL_RECORDS);
   play_end(played);
 }

@@ -1,5 +1,5 @@
 /*
-** A trace played from power-on with zero memory, and what it left.
+** A trace played from a start with zero memory, and what it left.
 */
 #ifndef PLAYED_H
 #define PLAYED_H
@@ -8,7 +8,11 @@
 
 #include "ssd1815b.h"
 
+/* How the module hangs in its cabinet; each has its start. */
+enum hung { HUNG_UPSIDE_DOWN, HUNG_UPRIGHT };
+
 struct played {
+  enum hung hung;
   const uint8_t *trace;
   size_t trace_len;  /* what there was of it, or was to be played */
   uint8_t number;    /* what the run answered */
@@ -22,13 +26,17 @@ struct played {
 /* As many records as there are. */
 #define ALL_RECORDS SIZE_MAX
 
-/* Plays a whole trace. */
-void play(struct played *played, const uint8_t *trace, size_t trace_len);
+/* Puts that start's image into state, and zeros into memory. */
+void start_chip(enum hung hung, uint8_t *state, uint8_t *memory);
 
-/* The same for a trace that is read part by part: power-on, then what has been
+/* Plays a whole trace. */
+void play(struct played *played, enum hung hung, const uint8_t *trace,
+          size_t trace_len);
+
+/* The same for a trace that is read part by part: the start, then what has been
 ** read so far, after each part, until the run is refused, so many records are
 ** done or the trace has ended; then the frame. */
-void play_begin(struct played *played);
+void play_begin(struct played *played, enum hung hung);
 void play_on(struct played *played, const uint8_t *trace, size_t trace_len,
              bool ended, size_t records);
 void play_end(struct played *played);

@@ -5,18 +5,20 @@
 
 enum { PART = 1 << 20 };
 
-bool play_input(struct played *played, struct input *input, size_t records)
+bool play_input(struct played *played, struct input *input,
+                const struct options *options)
 {
   bool done;
-  play_begin(played);
+  play_begin(played, options->hung);
   do {
     done = input_more(input, PART);
     if (done) {
-      play_on(played, input->bytes, input->length, input->ended, records);
+      play_on(played, input->bytes, input->length, input->ended,
+              options->records);
       progress("played", played->offset, input->size);
     }
   } while (done && played->number == SSD1815B_TAKEN && !input->ended
-           && played->count < records);
+           && played->count < options->records);
   progress_end();
   play_end(played);
   return done;

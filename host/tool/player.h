@@ -5,11 +5,14 @@
 #define PLAYER_H
 
 #include "input.h"
+#include "options.h"
 #include "played.h"
 
-/* Reads and plays until the run is refused, so many records are done or the
-** input has ended; says how far it is.  Answers whether it could read. */
-bool play_input(struct played *played, struct input *input, size_t records);
+/* Reads and plays from the start that the options name until the run is
+** refused, as many records as they say are done or the input has ended; says how
+** far it is.  Answers whether it could read. */
+bool play_input(struct played *played, struct input *input,
+                const struct options *options);
 
 /* Says on standard error if all of the trace of this name was taken and had
 ** fewer records than asked for. */

@@ -56,8 +56,7 @@ void replay(const struct played *played, visitor *visit, void *context)
 {
   struct chip chip;
   struct event event = { 0 };
-  ssd1815b_start(chip.state, sizeof chip.state, chip.memory,
-                 sizeof chip.memory);
+  start_chip(played->hung, chip.state, chip.memory);
   while (event.first < played->offset) {
     ssd1815b_record(played->trace, played->trace_len, event.first, &event.kind,
                     &event.next);

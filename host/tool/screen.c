@@ -39,22 +39,22 @@ static bool read_stored(struct screen *screen)
   return true;
 }
 
-static bool read_trace(struct screen *screen, size_t records)
+static bool read_trace(struct screen *screen, const struct options *options)
 {
-  if (!play_input(&screen->played, &screen->input, records)) {
+  if (!play_input(&screen->played, &screen->input, options)) {
     return false;
   }
   if (screen->input.length == 0) {
     fprintf(stderr, "ssd1815b: %s is empty: a trace of no record\n",
             screen->input.name);
   }
-  tell_fewer(&screen->played, screen->input.name, records);
+  tell_fewer(&screen->played, screen->input.name, options->records);
   return true;
 }
 
 /* Reads the first bytes, and then as they say.  No trace of which an event is
 ** taken is text, as a header's last byte is 0. */
-static bool read_either(struct screen *screen, size_t records)
+static bool read_either(struct screen *screen, const struct options *options)
 {
   const struct input *input = &screen->input;
   if (!input_more(&screen->input, LOOKED_AT)) {
@@ -63,16 +63,17 @@ static bool read_either(struct screen *screen, size_t records)
   screen->stored = input->length > 0
                    && (stored_begins(input->bytes, input->length)
                        || looks_text(input->bytes, input->length));
-  return screen->stored ? read_stored(screen) : read_trace(screen, records);
+  return screen->stored ? read_stored(screen) : read_trace(screen, options);
 }
 
-bool screen_read(struct screen *screen, const char *name, size_t records)
+bool screen_read(struct screen *screen, const char *name,
+                 const struct options *options)
 {
   *screen = (struct screen){ .stored = false };
   if (!input_open(&screen->input, name)) {
     return false;
   }
-  bool done = read_either(screen, records);
+  bool done = read_either(screen, options);
   if (!done) {
     screen_close(screen);
   }

@@ -6,6 +6,7 @@
 #define SCREEN_H
 
 #include "input.h"
+#include "options.h"
 #include "played.h"
 
 struct screen {
@@ -14,10 +15,11 @@ struct screen {
   struct played played;  /* of a listing its number, offset and frame alone */
 };
 
-/* Reads a listing, or reads and plays so many records of a trace; which it is
+/* Reads a listing, or reads and plays a trace as the options say; which it is
 ** the first bytes tell.  Says on standard error why it cannot, and answers
 ** whether it could; only then is there something to close. */
-bool screen_read(struct screen *screen, const char *name, size_t records);
+bool screen_read(struct screen *screen, const char *name,
+                 const struct options *options);
 
 void screen_close(struct screen *screen);
 

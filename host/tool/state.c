@@ -103,6 +103,15 @@ static void print_rows_in_use(FILE *out, const uint8_t *image)
   fputc('\n', out);
 }
 
+/* The start that the trace was played from. */
+static const char *start(const struct played *played)
+{
+  return played->hung == HUNG_UPRIGHT
+           ? "upright, as an old cabinet hangs the module"
+           : "upside down, as a new cabinet hangs the module (--upright: an old"
+             " one)";
+}
+
 void state(FILE *out, const struct played *played)
 {
   for (int place = 0; place < SSD1815B_STATE_SIZE; place++) {
@@ -114,7 +123,8 @@ void state(FILE *out, const struct played *played)
   for (int place = 0; place < SSD1815B_STATE_SIZE; place++) {
     fprintf(out, "%02X", played->state[place]);
   }
-  fprintf(out, "\n%-18s %s, number %u at %zu, whole records %zu\n", "run",
+  fprintf(out, "\n%-18s %s\n", "start", start(played));
+  fprintf(out, "%-18s %s, number %u at %zu, whole records %zu\n", "run",
           played->number == SSD1815B_TAKEN ? "taken" : "refused",
           played->number, played->offset, played->count);
   stop_print(out, played);

@@ -179,7 +179,7 @@ static bool take_row(struct reader *reader, uint8_t *frame, size_t *least)
                                 : "the end of the line");
 }
 
-/* The line `refused NUMBER at OFFSET`, as a run from power-on can answer. */
+/* The line `refused NUMBER at OFFSET`, as a run from either start answers. */
 static bool take_refusal(struct reader *reader, struct stored *stored)
 {
   size_t number;
