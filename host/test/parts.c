@@ -3,7 +3,8 @@
 ** the whole: number, offset, count, state and memory are the same, wherever
 ** the parts end; and so after so many records.  Event by event
 ** (tool/replay.h) it comes to the same state, by images that follow on one
-** another.
+** another.  All this from either start; and what the starts leave differs in
+** the two directions alone.
 */
 #include <stdbool.h>
 #include <string.h>
@@ -68,11 +69,13 @@ static void make_trace(void)
 }
 
 /* One run of the first so many bytes. */
-static struct played one_run(size_t length)
+static struct played one_run(enum hung hung, size_t length)
 {
-  struct played whole = { .trace = trace, .trace_len = length };
-  ssd1815b_start(whole.state, sizeof whole.state, whole.memory,
-                 sizeof whole.memory);
+  struct played whole = { .hung = hung, .trace = trace, .trace_len = length };
+  ssd1815b_start_upright(whole.state, sizeof whole.state, whole.memory,
+                         sizeof whole.memory);
+  whole.state[SSD1815B_COLUMN_DIRECTION] = hung == HUNG_UPSIDE_DOWN;
+  whole.state[SSD1815B_ROW_DIRECTION] = hung == HUNG_UPSIDE_DOWN;
   whole.number = ssd1815b_run(whole.state, sizeof whole.state, whole.memory,
                               sizeof whole.memory, trace, length,
                               &whole.offset, &whole.count);
@@ -80,11 +83,12 @@ static struct played one_run(size_t length)
 }
 
 /* The trace as it would be read, up to so many bytes at a time. */
-static struct played in_parts(unsigned largest, size_t records)
+static struct played in_parts(enum hung hung, unsigned largest,
+                              size_t records)
 {
   static struct played played;
   size_t length = 0;
-  play_begin(&played);
+  play_begin(&played, hung);
   do {
     length += 1 + below(largest);
     bool ended = length >= trace_len;
@@ -97,6 +101,7 @@ static struct played in_parts(unsigned largest, size_t records)
 
 static void same(struct played whole, struct played parts)
 {
+  CHECK(parts.hung == whole.hung);
   CHECK(parts.number == whole.number);
   CHECK(parts.offset == whole.offset);
   CHECK(parts.count == whole.count);
@@ -105,7 +110,7 @@ static void same(struct played whole, struct played parts)
 }
 
 /* The first so many records are those of a shorter trace. */
-static void same_after(size_t records)
+static void same_after(enum hung hung, size_t records)
 {
   size_t end = 0;
   size_t done = 0;
@@ -114,8 +119,8 @@ static void same_after(size_t records)
     end += 4u + trace[end];
     done++;
   }
-  struct played whole = one_run(done < records ? trace_len : end);
-  same(whole, in_parts(1 + below(30), records));
+  struct played whole = one_run(hung, done < records ? trace_len : end);
+  same(whole, in_parts(hung, 1 + below(30), records));
 }
 
 /* What a replay has shown. */
@@ -150,25 +155,54 @@ static size_t events_taken(const struct played *played)
 static void same_events(struct played whole)
 {
   struct shown shown = { { 0 }, 0, 0 };
-  struct played none = one_run(0);
+  struct played none = one_run(whole.hung, 0);
   memcpy(shown.image, none.state, sizeof shown.image);
   replay(&whole, see, &shown);
   CHECK(memcmp(shown.image, whole.state, sizeof shown.image) == 0);
   CHECK(shown.events == events_taken(&whole));
 }
 
+/* The trace from one start. */
+static struct played try_from(enum hung hung)
+{
+  struct played whole = one_run(hung, trace_len);
+  same(whole, in_parts(hung, 1, ALL_RECORDS));
+  same(whole, in_parts(hung, 1 + below(60), ALL_RECORDS));
+  same(whole, in_parts(hung, LONGEST, ALL_RECORDS));
+  same_after(hung, below(20));
+  same_events(whole);
+  return whole;
+}
+
+/* How often the starts left other directions, and how often the same. */
+static unsigned apart;
+static unsigned together;
+
+/* What the two starts leave, but for the directions, is the same. */
+static void same_but_directions(struct played upside_down,
+                                struct played upright)
+{
+  bool differ = memcmp(upside_down.state, upright.state,
+                       sizeof upright.state) != 0;
+  apart += differ;
+  together += !differ;
+  upside_down.state[SSD1815B_COLUMN_DIRECTION] =
+    upright.state[SSD1815B_COLUMN_DIRECTION];
+  upside_down.state[SSD1815B_ROW_DIRECTION] =
+    upright.state[SSD1815B_ROW_DIRECTION];
+  upside_down.hung = HUNG_UPRIGHT;
+  same(upright, upside_down);
+}
+
 int main(void)
 {
   for (int round = 0; round < 3000; round++) {
     make_trace();
-    struct played whole = one_run(trace_len);
-    answered[whole.number]++;
-    same(whole, in_parts(1, ALL_RECORDS));
-    same(whole, in_parts(1 + below(60), ALL_RECORDS));
-    same(whole, in_parts(LONGEST, ALL_RECORDS));
-    same_after(below(20));
-    same_events(whole);
+    struct played upright = try_from(HUNG_UPRIGHT);
+    answered[upright.number]++;
+    same_but_directions(try_from(HUNG_UPSIDE_DOWN), upright);
   }
+  CHECK(apart > 0 && together > 0);
   for (int number = 3; number <= LARGEST_NUMBER; number++) {
     CHECK(answered[number] > 0);
   }
