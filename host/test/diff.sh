@@ -29,7 +29,8 @@ answers() {
 }
 
 # Bit 0 of a byte is the upper row of its page: 03 01 is row 0 lit at 0 and 1
-# and row 1 at 0; 01 03 is row 0 lit at the same and row 1 at 1.
+# and row 1 at 0; 01 03 is row 0 lit at the same and row 1 at 1.  Where rows and
+# places are told, that is of the upright start, by name; starts.sh has the other.
 bytes 01 00 01 00 AF 02 00 02 00 03 01 > "$here/first.trace"
 bytes 01 00 01 00 AF 02 00 02 00 01 03 > "$here/second.trace"
 bytes 01 00 01 00 AF > "$here/dark.trace"
@@ -46,15 +47,15 @@ cd "$here"
 # Lit-to-dark beside dark-to-lit is two runs.
 answers 1 'row 1, 0: lit, then dark
 row 1, 1: dark, then lit
-2 runs differ, 2 places in 1 row' first.trace second.trace
+2 runs differ, 2 places in 1 row' --upright first.trace second.trace
 answers 1 'row 1, 0: dark, then lit
 row 1, 1: lit, then dark
-2 runs differ, 2 places in 1 row' second.trace first.trace
+2 runs differ, 2 places in 1 row' --upright second.trace first.trace
 answers 1 'row 0, 0 to 1: lit, then dark
 row 1, 0: lit, then dark
-2 runs differ, 3 places in 2 rows' first.trace dark.trace
+2 runs differ, 3 places in 2 rows' --upright first.trace dark.trace
 answers 1 'row 64 (the icon line), 0: dark, then lit
-1 run differs, 1 place in 1 row' dark.trace icon.trace
+1 run differs, 1 place in 1 row' --upright dark.trace icon.trace
 answers 0 'the same, no place differs' first.trace first.trace
 answers 0 'the same, no place differs; all are dark' dark.trace dark.trace
 every=$(for row in {0..63}; do echo "row $row, 0 to 131: dark, then lit"; done)
@@ -66,12 +67,12 @@ row 64 (the icon line), 0 to 131: dark, then lit
 bytes 03 00 01 00 AF 18 03 02 00 02 00 01 02 > edges.trace
 answers 1 'row 0, 131: dark, then lit
 row 1, 0: dark, then lit
-2 runs differ, 2 places in 2 rows' dark.trace edges.trace
+2 runs differ, 2 places in 2 rows' --upright dark.trace edges.trace
 # Same places in the same way, with a gap: 01 00 01.
 bytes 01 00 01 00 AF 03 00 02 00 01 00 01 > gap.trace
 answers 1 'row 0, 0: dark, then lit
 row 0, 2: dark, then lit
-2 runs differ, 2 places in 1 row' dark.trace gap.trace
+2 runs differ, 2 places in 1 row' --upright dark.trace gap.trace
 # Other ways to the same screen: what counts is the frame.
 bytes 03 00 01 00 AF A5 A4 01 00 02 00 03 01 00 02 00 01 > otherwise.trace
 answers 0 'the same, no place differs' first.trace otherwise.trace
@@ -92,19 +93,19 @@ printf 'frame 132 65\n64 0-0\nend\n' > icon.list
 two='row 1, 0: lit, then dark
 row 1, 1: dark, then lit
 2 runs differ, 2 places in 1 row'
-answers 1 "$two" first.list second.trace
-answers 1 "$two" first.trace second.list
+answers 1 "$two" --upright first.list second.trace
+answers 1 "$two" --upright first.trace second.list
 answers 1 "$two" first.list second.list
-answers 0 'the same, no place differs' first.list first.trace
+answers 0 'the same, no place differs' --upright first.list first.trace
 answers 0 'the same, no place differs; all are dark' dark.list dark.trace
-answers 0 'the same, no place differs' icon.trace icon.list
+answers 0 'the same, no place differs' --upright icon.trace icon.list
 answers 1 'row 0, 0 to 3: dark, then lit
 row 0, 128 to 131: dark, then lit
 row 63, 5: dark, then lit
 3 runs differ, 9 places in 2 rows' dark.trace <(printf 'frame 132 65\n0 0-3 128-131\n63 5-5\nend\n')
-input=first.trace answers 1 "$two" - second.list
-input=second.trace answers 1 "$two" first.list -
-input=second.list answers 1 "$two" first.trace -
+input=first.trace answers 1 "$two" --upright - second.list
+input=second.trace answers 1 "$two" --upright first.list -
+input=second.list answers 1 "$two" --upright first.trace -
 input=first.list answers 0 'the same, no place differs' - first.list
 # A trace of any length, part by part: 20 records of 65,535 bytes of 0 and then
 # the two bytes; 20 * 65,535 places from column 0 on, 132 to a page, end at
@@ -114,7 +115,7 @@ input=first.list answers 0 'the same, no place differs' - first.list
 { cat zeros.trace; bytes 02 00 02 00 03 01; } > long.trace
 answers 1 'row 0, 72 to 73: dark, then lit
 row 1, 72: dark, then lit
-2 runs differ, 3 places in 2 rows' dark.list long.trace
+2 runs differ, 3 places in 2 rows' --upright dark.list long.trace
 # A listing longer than what is looked at first, of 2 * 65 * 66 places.
 { echo 'frame 132 65'
   for row in {0..64}; do
@@ -141,9 +142,9 @@ check 'empty: said' err_is 'ssd1815b: empty is empty: a trace of no record'
 bytes 01 00 01 00 AF 02 00 02 00 03 01 00 00 04 00 > reset.trace
 answers 1 'row 0, 0 to 1: lit, then dark
 row 1, 0: lit, then dark
-2 runs differ, 3 places in 2 rows' first.trace reset.trace
+2 runs differ, 3 places in 2 rows' --upright first.trace reset.trace
 answers 0 'the same, no place differs' --after 2 first.trace reset.trace
-answers 0 'the same, no place differs' --after=2 first.list reset.trace
+answers 0 'the same, no place differs' --upright --after=2 first.list reset.trace
 answers 0 'the same, no place differs; all are dark' --after 1 first.trace reset.trace
 run --after 3 first.trace reset.trace
 check 'after: more than there are, compared' status_is 1
@@ -151,6 +152,10 @@ check 'after: more than there are, by name' err_is 'ssd1815b: --after 3: first.t
 run --after 2 first.list second.list
 check 'after: two listings, status 2' status_is 2
 check 'after: two listings, said' err_is 'ssd1815b: --after is for traces, and both are listings'
+run --upright first.list second.list
+check 'upright: two listings, status 2' status_is 2
+check 'upright: two listings, said' err_is 'ssd1815b: --upright is for traces, and both are listings'
+check 'upright: two listings, nothing compared' nothing_on out
 
 # ---- refused runs ----
 
@@ -235,7 +240,7 @@ done
 
 edge=$(printf '─%.0s' {1..132})
 dots=$(printf '.%.0s' {1..130})
-run --show first.trace second.trace
+run --upright --show first.trace second.trace
 check 'show: status 1' status_is 1
 check 'show: 3 edges, 65 rows, the legend, two runs and their sum' [ "$(wc -l < out)" -eq 72 ]
 check 'show: the upper edge' line_is 1 "┌$edge┐"
@@ -249,10 +254,10 @@ check 'show: the lower edge' line_is 68 "└$edge┘"
 check 'show: which letter is what' line_is 69 \
   '. dark in both, # lit in both, - lit in the first alone, + lit in the second alone'
 check 'show: the runs' [ "$(tail -n 3 out)" = "$two" ]
-run --show icon.trace first.trace
+run --upright --show icon.trace first.trace
 check 'show: an icon of the first' line_is 67 "│-.$dots│"
 check 'show: rows of the second' line_is 2 "│++$dots│"
-run --show first.list first.trace
+run --upright --show first.list first.trace
 check 'show: of two that are the same' line_is 3 "│#.$dots│"
 check 'show: of two that are the same, status 0' status_is 0
 
@@ -265,7 +270,7 @@ white() { printf 'ffffff%.0s' $(seq "$1"); }
 
 # A margin of 2 dots, 64 panel rows, a gap of 2, the icon line, the margin; the
 # header is 14 bytes and a line 408.
-run --picture a.ppm --scale 1 first.trace second.trace
+run --upright --picture a.ppm --scale 1 first.trace second.trace
 check 'PPM: status 1' status_is 1
 check 'PPM: the lines too' out_is "$two"
 check 'PPM: nothing on standard error' nothing_on err
@@ -277,10 +282,10 @@ check 'PPM: row 0: the margin, two places lit in both' \
 check 'PPM: row 1: blue in the first alone, orange in the second' \
   [ "$(part a.ppm $((15 + 3 * 408)) 408)" = "$(white 2)0072b2e69f00$(white 132)" ]
 check 'PPM: no other dot' [ "$(part a.ppm $((15 + 4 * 408)) $((67 * 408)))" = "$(white $((67 * 136)))" ]
-run --picture b.ppm --scale 1 dark.trace icon.trace
+run --upright --picture b.ppm --scale 1 dark.trace icon.trace
 check 'PPM: the icon line, and nothing else' \
   [ "$(part b.ppm 15 $((71 * 408)))" = "$(white $((68 * 136 + 2)))e69f00$(white $((2 * 136 + 133)))" ]
-run --picture c.ppm --scale 3 first.trace second.trace
+run --upright --picture c.ppm --scale 3 first.trace second.trace
 check 'PPM: each dot 3 by 3' [ "$(head -n 3 c.ppm)" = $'P6\n408 213\n255' ]
 check 'PPM: 1,224 bytes to each of 213 lines' [ "$(wc -c < c.ppm)" -eq $((15 + 1224 * 213)) ]
 check 'PPM: row 1, its last line: three dots each' \
@@ -290,11 +295,11 @@ check 'PPM: 4 by 4 if nothing is said' [ "$(head -n 3 d.PPM)" = $'P6\n544 284\n2
 run -q --picture e.ppm --scale 1 first.list second.list
 check 'PPM: with one line, and of listings' cmp -s a.ppm e.ppm
 check 'PPM: the line' out_is 'first.list and second.list: 2 runs differ, 2 places in 1 row'
-run --picture f.ppm --scale 1 first.trace first.trace
+run --upright --picture f.ppm --scale 1 first.trace first.trace
 check 'PPM: of two that are the same, status 0' status_is 0
 check 'PPM: of two that are the same' [ "$(part f.ppm $((15 + 3 * 408)) 12)" = "$(white 2)ccccccffffff" ]
 
-run --picture none/a.ppm first.trace second.trace
+run --upright --picture none/a.ppm first.trace second.trace
 check 'picture: no such folder, status 2' status_is 2
 check 'picture: no such folder, said' err_is 'ssd1815b: cannot write none/a.ppm: No such file or directory'
 check 'picture: no such folder, the lines all the same' out_is "$two"
@@ -335,7 +340,7 @@ if "${tool[@]}" --version | grep -q 'and PNG'; then
 else
   echo 'diff: PNG not tested, as libstb-dev is missing'
 fi
-ran "${without[@]}" diff --picture h.png --scale 1 first.trace second.trace
+ran "${without[@]}" diff --upright --picture h.png --scale 1 first.trace second.trace
 check 'without PNG: status 1' status_is 1
 check 'without PNG: said' \
   err_is "ssd1815b: built without PNG (Debian's libstb-dev was missing): a PPM is written to h.png.ppm"
@@ -443,9 +448,10 @@ fault 4 'expected nothing after end; found "\x00"' 'frame 132 65\n5 0-1\nend\n\x
 
 # ---- what the README shows ----
 
-# Of the screen rows 24 to 30, without the edge, as far as place 58.
+# Of the screen rows 24 to 30, without the edge, as far as place 58.  The traces
+# are those of an old cabinet.
 errors=$traces/errors/version-3-recipe
-run --show "$errors-3E5.trace" "$errors-385.trace"
+run --upright --show "$errors-3E5.trace" "$errors-385.trace"
 check 'README: status 1' status_is 1
 { sed -n '26,32s/^│//p' out | cut -c 1-59; sed -n '69,$p' out; } > shown
 sed -n '/^####[.]/,/^```/p' "$readme" | sed '$d' > stands
@@ -457,7 +463,7 @@ check 'README: the memory' cmp -s out stands
 # ---- command line and errors ----
 
 "${tool[@]}" diff --help > help
-for option in --memory --show '--picture FILE' '--scale N' '-q, --brief' --refused '--after N'; do
+for option in --memory --show '--picture FILE' '--scale N' '-q, --brief' --refused --upright '--after N'; do
   check "help: names $option" grep -q -- "^  $option  " help
 done
 wrong() {
@@ -493,7 +499,7 @@ for option in --memory --show --brief -q --refused --picture=i.ppm; do
   check "wrong: $option for show, said" err_is "ssd1815b: ${option%%=*} is for diff alone"
 done
 cp first.trace ./-q
-answers 0 'the same, no place differs' -- -q first.list
+answers 0 'the same, no place differs' --upright -- -q first.list
 answers 1 'first.trace and second.trace: 2 runs differ, 2 places in 1 row' first.trace second.trace -q
 if [ -e /dev/full ]; then
   status=0

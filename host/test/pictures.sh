@@ -22,13 +22,19 @@ bytes 02 00 01 00 A5 AF > "$here/lit.trace"
 # ---- PBM ----
 
 # A margin of 2 dots, 64 panel rows, a gap of 2, the icon line, the margin.
-run --scale 1 "$here/sample.trace"
+run --upright --scale 1 "$here/sample.trace"
 check 'PBM: status 0' status_is 0
 check 'PBM: its form and size' [ "$(head -n 2 "$here/out")" = $'P4\n136 71' ]
 check 'PBM: 17 bytes to each of 71 lines' [ "$(wc -c < "$here/out")" -eq $((10 + 17 * 71)) ]
 check 'PBM: two lines of margin' [ "$(part 11 34)" = "$(printf '%068d' 0)" ]
 check 'PBM: rows 0 and 1 after two dots of margin' [ "$(part 45 34)" = "30$(printf '%032d' 0)20$(printf '%032d' 0)" ]
-run --scale 3 "$here/sample.trace"
+# Upside down: places 131, and 130 and 131, of rows 62 and 63 are the dots 133,
+# and 132 and 133, of lines 64 and 65.
+run --scale 1 "$here/sample.trace"
+check 'PBM: upside down, nothing before row 62' [ "$(part 11 $((64 * 17)))" = "$(printf '%0*d' $((64 * 34)) 0)" ]
+check 'PBM: upside down, rows 62 and 63' \
+  [ "$(part $((11 + 64 * 17)) 34)" = "$(printf '%032d' 0)04$(printf '%032d' 0)0c" ]
+run --upright --scale 3 "$here/sample.trace"
 check 'PBM: each dot 3 by 3' [ "$(head -n 2 "$here/out")" = $'P4\n408 213' ]
 check 'PBM: 51 bytes to each of 213 lines' [ "$(wc -c < "$here/out")" -eq $((11 + 51 * 213)) ]
 check 'PBM: two lit places are six bits after six' [ "$(part $((12 + 6 * 51)) 2)" = 03f0 ]
@@ -38,9 +44,12 @@ run --scale=1 "$here/lit.trace"
 line=3$(printf 'f%.0s' {1..32})c
 check 'PBM: the last panel row, two blank lines, the icons, the margin' \
   [ "$(part $((11 + 65 * 17)) 102)" = "$line$(printf '%068d' 0)$line$(printf '%068d' 0)" ]
-run --scale 1 < <(bytes 02 00 01 00 AF B8 01 00 02 00 01)
+run --upright --scale 1 < <(bytes 02 00 01 00 AF B8 01 00 02 00 01)
 check 'PBM: one icon, and nothing else' \
   [ "$(part 11 $((71 * 17)))" = "$(printf '%0*d' $((68 * 34)) 0)20$(printf '%0*d' $((2 * (71 * 17 - 68 * 17) - 2)) 0)" ]
+run --scale 1 < <(bytes 02 00 01 00 AF B8 01 00 02 00 01)
+check 'PBM: upside down, the icon is at the other end of the same line' \
+  [ "$(part $((11 + 68 * 17)) 17)" = "$(printf '%032d' 0)04" ]
 run < <(bytes 01 00 01 00 B9)
 check 'refused: status 1' status_is 1
 check 'refused: on standard error' err_has 'refused 4 at 4'

@@ -70,7 +70,7 @@ line_shows() { line_is "$1" "$2"$'\r'; }
 # cells COUNT ABOVE BELOW: so many cells, the colours of their halves.
 cells() { printf '\033[38;5;%d;48;5;%dm' "$2" "$3"; printf '▀%.0s' $(seq "$1"); }
 # The colours are 16 for black, 245 gray, 33 blue and 214 orange.
-shown="diff --show $here/sample.trace $here/other.trace"
+shown="diff --upright --show $here/sample.trace $here/other.trace"
 at_terminal "TERM=xterm $tool $shown" < /dev/null
 check 'diff: status 1' status_is 1
 check 'diff: 32 lines of panel rows, 1 of icons, 3 edges, the legend, 2 runs, their sum' [ "$(wc -l < "$here/out")" -eq 40 ]
@@ -80,7 +80,7 @@ legend=$'\033[38;5;16m█\033[0m dark in both, \033[38;5;245m█\033[0m lit in b
 legend+=$'\033[38;5;33m█\033[0m lit in the first alone, \033[38;5;214m█\033[0m lit in the second alone'
 check 'diff: which colour is what' line_shows 37 "$legend"
 check 'diff: the lines are plain' line_shows 38 'row 1, 0: lit, then dark'
-at_terminal "TERM=xterm $tool diff --show $here/sample.trace $here/icon.trace" < /dev/null
+at_terminal "TERM=xterm $tool diff --upright --show $here/sample.trace $here/icon.trace" < /dev/null
 check 'diff: an icon in colours' line_shows 35 "│$(cells 1 214 16)$(cells 131 16 16)"$'\033[0m│'
 at_terminal "TERM=xterm NO_COLOR= $tool $shown" < /dev/null
 check 'diff: NO_COLOR that is empty declines nothing' [ "$(grep -c $'\033' "$here/out")" -gt 0 ]

@@ -1,6 +1,6 @@
 #!/usr/bin/env bash
 # Tests of the command-line tool: what it prints, where, and its status.
-# (refusals.sh, pictures.sh and terminal.sh have the rest.)
+# (starts.sh, refusals.sh, pictures.sh and terminal.sh have the rest.)
 #
 #   tool.sh TOOL...      the command that runs the tool
 set -euo pipefail
@@ -12,20 +12,28 @@ tool=("$@")
 # Runs the tool on what stands on standard input.
 run() { ran "${tool[@]}" "$@"; }
 
+# Document 01's trace and what it prints whole, now of the upright start; and of
+# the other: RAM row r at panel row 63 - r, RAM column c at place 131 - c.
 sample=(01 00 01 00 AF 02 00 02 00 03 01)
+upright=$'frame 132 65\n0 0-1\n1 0-0\nend'
+upside_down=$'frame 132 65\n62 131-131\n63 130-131\nend'
 
 # ---- list ----
 
+run list --upright < <(bytes "${sample[@]}")
+check 'list: upright, status 0' status_is 0
+check 'list: upright, document 01 prints it whole' out_is "$upright"
+check 'list: upright, nothing on standard error' nothing_on err
 run list < <(bytes "${sample[@]}")
 check 'list: status 0' status_is 0
-check 'list: document 01 prints it whole' out_is $'frame 132 65\n0 0-1\n1 0-0\nend'
+check 'list: as a new cabinet hangs the module' out_is "$upside_down"
 check 'list: nothing on standard error' nothing_on err
 
 bytes "${sample[@]}" > "$here/sample.trace"
 run list "$here/sample.trace" < /dev/null
-check 'list: from a file' out_is $'frame 132 65\n0 0-1\n1 0-0\nend'
+check 'list: from a file' out_is "$upside_down"
 run list - < "$here/sample.trace"
-check 'list: - is standard input' out_is $'frame 132 65\n0 0-1\n1 0-0\nend'
+check 'list: - is standard input' out_is "$upside_down"
 
 run list < /dev/null
 check 'list: no bytes are a trace' out_is $'frame 132 65\nend'
@@ -78,7 +86,7 @@ check 'after: what comes later is not read' [ ! -e "$here/cut-whole" ]
 
 three=(01 00 01 00 AF 02 00 02 00 03 01 00 00 04 00)
 run list --after 2 < <(bytes "${three[@]}")
-check 'after: 2 of 3 records' out_is $'frame 132 65\n0 0-1\n1 0-0\nend'
+check 'after: 2 of 3 records' out_is "$upside_down"
 check 'after: 2 of 3, nothing said' nothing_on err
 run list --after=1 < <(bytes "${three[@]}")
 check 'after: 1 of 3 records' out_is $'frame 132 65\nend'
@@ -93,7 +101,7 @@ check 'after: state, before the reset pin' out_has 'display on         1'
 run state --after 9 < <(bytes "${sample[@]}")
 check 'after: state, more than there are' err_has 'the trace has 2 records'
 run show --after 2 < <(bytes "${three[@]}")
-check 'after: show' line_is 2 "│█▀$(printf '%130s' '')│"
+check 'after: show' line_is 33 "│$(printf '%130s' '')▄█│"
 run picture --scale 1 --after 2 < <(bytes "${three[@]}")
 mv "$here/out" "$here/after.pbm"
 run picture --scale 1 "$here/sample.trace"
@@ -101,7 +109,7 @@ check 'after: picture' cmp -s "$here/out" "$here/after.pbm"
 run memory --after 2 < <(bytes "${three[@]}")
 check 'after: memory' line_is 3 '    0  03 01 00 00 00 00 00 00 00 00 00 00 00 00 00 00'
 run state --after 0 < <(bytes "${three[@]}")
-check 'after: 0 is power-on' out_has 'run                taken, number 0 at 0, whole records 0'
+check 'after: 0 is the start' out_has 'run                taken, number 0 at 0, whole records 0'
 # What is refused later does not count; what is refused before does.
 run state --after 1 < <(bytes 01 00 01 00 AF 01 00 01 00 B9)
 check 'after: stops before a refusal' status_is 0
@@ -112,7 +120,7 @@ run list --after 9 < <(bytes 01 00 01 00 AF 07 00)
 check 'after: a cut record is refused' line_is 1 'refused 8 at 5'
 # The limit of list is that of the records that it lists.
 run list --after 2 < <(bytes "${sample[@]}"; cat "$here/long.trace")
-check 'after: the first records of a long trace are listed' out_is $'frame 132 65\n0 0-1\n1 0-0\nend'
+check 'after: the first records of a long trace are listed' out_is "$upside_down"
 run list --after 3 < <(bytes "${sample[@]}"; cat "$here/long.trace")
 check 'after: three of its records are too long' out_is 'input too long'
 run state --after 80 "$here/long.trace"
@@ -124,7 +132,9 @@ run show "$here/sample.trace"
 check 'show: status 0' status_is 0
 blocks=$(printf '▀%.0s' {1..132})
 check 'show: 32 lines of panel rows, 1 of icons, 3 edges' [ "$(wc -l < "$here/out")" -eq 36 ]
-check 'show: rows 0 and 1' line_is 2 "│█▀$(printf '%130s' '')│"
+check 'show: rows 62 and 63' line_is 33 "│$(printf '%130s' '')▄█│"
+run show --upright "$here/sample.trace"
+check 'show: upright, rows 0 and 1' line_is 2 "│█▀$(printf '%130s' '')│"
 run show < <(bytes 03 00 01 00 A5 AF B9)
 check 'show: a refused run, status 1' status_is 1
 check 'show: the place in words' out_has 'refused 4 at 6 (0x6): B9 to BF name no page'
@@ -169,7 +179,7 @@ check 'state: multiplex' out_has 'multiplex          15, 16 rows in use'
 check 'state: 16 rows in the middle' out_has 'rows in use        panel rows 24 to 39'
 check 'state: awaited code' out_has 'awaited code       D3'
 check 'state: standby' out_has 'power save         standby'
-check 'state: image' out_has 'image              000000000F2004000000000000000100000102D3000001'
+check 'state: image' out_has 'image              000000000F2004000000000001010100000102D3000001'
 check 'state: run' out_has 'run                taken, number 0 at 10, whole records 1'
 run state < <(bytes 01 00 01 00 A5)
 check 'state: sleep' out_has 'power save         sleep'
@@ -266,7 +276,7 @@ for command in list show picture state memory diff check; do
   helps $command -h "$here/sample.trace"
   check "help: the same of $command -h" cmp -s "$here/out" "$here/help"
 done
-for option in --after --scale --png --output --memory --show --picture --brief --refused --; do
+for option in --upright --after --scale --png --output --memory --show --picture --brief --refused --; do
   check "help: names $option" grep -q -- "^  .*$option" <("${tool[@]}" --help)
 done
 run --version < /dev/null
@@ -313,7 +323,7 @@ wrong "cannot read $here: Is a directory" list "$here"
 bytes "${sample[@]}" > "$here/-o"
 run_there() { ran env -C "$here" "${tool[@]:0:${#tool[@]}-1}" "$(realpath "${tool[-1]}")" "$@"; }
 run_there list -- -o
-check 'command line: -- ends the options' out_is $'frame 132 65\n0 0-1\n1 0-0\nend'
+check 'command line: -- ends the options' out_is "$upside_down"
 run_there list -- --help
 check 'command line: after -- there is no help' err_has 'cannot open --help'
 run_there check -- -o sample.trace
