@@ -14,11 +14,20 @@ SHELL  := /bin/bash
 MODEL  ?= proved
 SEED   ?= 1
 TIMES  ?= 1
-TRACE  ?= traces/screens/weighing.trace
 PREFIX ?= /usr/local
 # make itself, for the scripts that test it (a line with MAKE runs under -n too)
 MAKING := $(MAKE)
 Q      := $(if $(filter-out 0,$(V)),,@)
+
+# What is shown where no trace is named is from an old cabinet.
+ifeq ($(origin TRACE),undefined)
+  TRACE   := traces/screens/weighing.trace
+  UPRIGHT ?= yes
+endif
+ifneq ($(filter-out yes,$(UPRIGHT)),)
+  $(error UPRIGHT is yes or left out, not $(UPRIGHT))
+endif
+START := $(if $(UPRIGHT),--upright)
 
 ifeq ($(shell uname -m),x86_64)
   NATIVE := yes
@@ -74,20 +83,22 @@ SHARED   := $(OUT)/libssd1815b.so
 tool: $(TOOL)
 	@echo '$(TOOL)'
 
-# A refused trace (status 1) is shown too; what cannot be shown (2) fails.  A
-# typed source (.txt) is made into a trace; it, and a trace that has one beside
-# it, is told by its lines.
+# From the start of new cabinets, or with UPRIGHT=yes of old ones.  A refused
+# trace (status 1) is shown too; what cannot be shown (2) fails.  A typed source
+# (.txt) is made into a trace; it, and a trace that has one beside it, is told by
+# its lines.
 show: export TRACE := $(TRACE)
 show: export SSD1815B_TOOL := $(RUN) $(TOOL)
 show: $(TOOL)
 	@if [[ $$TRACE = *.txt || $$TRACE = *.trace && -e $${TRACE%.trace}.txt ]]; \
-	then traces/typed.py show "$$TRACE"; \
-	else $(RUN) $(TOOL) show "$$TRACE"; \
+	then traces/typed.py show $(START) "$$TRACE"; \
+	else $(RUN) $(TOOL) show $(START) "$$TRACE"; \
 	fi || [ $$? -eq 1 ]
 
 help:
 	@echo 'make               the tool: $(TOOL)'
-	@echo 'make show          a screen: TRACE=FILE for another trace, FILE.trace or a typed FILE.txt'
+	@echo 'make show          a screen: TRACE=FILE for another trace, FILE.trace or a typed FILE.txt,'
+	@echo '                   and with it UPRIGHT=yes if it is from an old cabinet'
 	@echo 'make shared        the library as a shared object: $(SHARED)'
 	@echo 'make install       tool, header, archive, shared object, pkg-config file and man page'
 	@echo '                   under PREFIX (now $(PREFIX)); DESTDIR is put before it'
@@ -134,6 +145,7 @@ check-tool: $(TOOL) $(NO_PNG) $(PARTS) $(LISTINGS)
 	$(RUN) $(PARTS)
 	$(RUN) $(LISTINGS) traces/*/*.list
 	host/test/tool.sh $(RUN) $(TOOL)
+	host/test/starts.sh $(RUN) $(TOOL)
 	host/test/refusals.sh $(RUN) $(TOOL)
 	host/test/pictures.sh '$(RUN) $(TOOL)' '$(RUN) $(NO_PNG)'
 	host/test/diff.sh '$(RUN) $(TOOL)' '$(RUN) $(NO_PNG)'

@@ -22,17 +22,27 @@ check 'host/README.md says so' grep -qF 'needs `memset` and nothing else' "$read
 cat > "$here/mine.c" <<'END'
 #include "ssd1815b.h"
 
-int main(void)
-{
-  uint8_t state[SSD1815B_STATE_SIZE];
-  uint8_t memory[SSD1815B_MEMORY_SIZE];
-  uint8_t frame[SSD1815B_FRAME_ROWS * SSD1815B_COLUMNS];
+static uint8_t state[SSD1815B_STATE_SIZE];
+static uint8_t memory[SSD1815B_MEMORY_SIZE];
+static uint8_t frame[SSD1815B_FRAME_ROWS * SSD1815B_COLUMNS];
 
-  ssd1815b_start(state, sizeof state, memory, sizeof memory);
+/* Whether these two places are all that is lit after AF and a data byte 03. */
+static int shows(unsigned one, unsigned other)
+{
+  unsigned lit = 0;
   ssd1815b_command(state, sizeof state, memory, sizeof memory, 0xAF);
   ssd1815b_write(state, sizeof state, memory, sizeof memory, 0x03);
   ssd1815b_draw(state, sizeof state, memory, sizeof memory, frame, sizeof frame);
-  return frame[0] == 1 && frame[SSD1815B_COLUMNS] == 1 ? 0 : 1;
+  for (unsigned i = 0; i < sizeof frame; i++) lit += frame[i];
+  return lit == 2 && frame[one] == 1 && frame[other] == 1;
+}
+
+int main(void)
+{
+  ssd1815b_start(state, sizeof state, memory, sizeof memory);
+  if (!shows(63 * SSD1815B_COLUMNS - 1, 64 * SSD1815B_COLUMNS - 1)) return 1;
+  ssd1815b_start_upright(state, sizeof state, memory, sizeof memory);
+  return shows(0, SSD1815B_COLUMNS) ? 0 : 2;
 }
 END
 line=$(sed -n 's/^    gcc \(.*libhost\.a\)$/\1/p' "$readme")
@@ -41,7 +51,7 @@ read -ra words <<< "${line/mine.c/$here/mine.c}"
 ran "$CC" "${words[@]}" -o "$here/mine"
 check 'the line links' status_is 0
 ran "${run[@]}" "$here/mine"
-check 'rows 0 and 1 are lit at their first place' status_is 0
+check 'rows 62 and 63 are lit at their last place, and upright 0 and 1 at their first' status_is 0
 
 # The calls of the program, by their addresses, that do not begin at a multiple
 # of 64 bytes; and how many calls it has.

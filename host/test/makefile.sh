@@ -42,6 +42,38 @@ ran "${make[@]}" show TRACE="$here/typed.txt"
 check 'show: a fault of a source is an error of make' status_is 2
 check 'show: a fault of a source, said' err_has "$here/typed.txt:1: 'A' is not 2 hexadecimal digits"
 
+# ---- from which start ----
+
+# Document 01's trace: rows 0 and 1 from an old cabinet's start, 63 and 62 from a
+# new one's.
+old="│█▀$(printf '%130s' '')│"
+new="│$(printf '%130s' '')▄█│"
+bytes 01 00 01 00 AF 02 00 02 00 03 01 > "$trace"
+printf 'command AF\nwrite 03 01\n' > "$here/typed.txt"
+for shown in "$trace" "$here/typed.txt"; do
+  ran "${make[@]}" show TRACE="$shown"
+  check "start: a new cabinet's (${shown##*/})" line_is 33 "$new"
+  ran "${make[@]}" show TRACE="$shown" UPRIGHT=yes
+  check "start: an old one's by name (${shown##*/})" line_is 2 "$old"
+done
+for wrong in no 1 Yes; do
+  ran "${make[@]}" show TRACE="$trace" UPRIGHT="$wrong"
+  check "start: UPRIGHT=$wrong, status 2" status_is 2
+  check "start: UPRIGHT=$wrong, said" err_has "UPRIGHT is yes or left out, not $wrong"
+  check "start: UPRIGHT=$wrong, nothing shown" nothing_on out
+done
+# What is shown where no trace is named is from an old cabinet.
+demonstration=traces/screens/weighing.trace
+ran env -u TRACE -u UPRIGHT "${make[@]}" show
+check 'start: of what is shown without a name, status 0' status_is 0
+cp "$here/out" "$here/shown"
+ran "${make[@]}" show TRACE="$demonstration" UPRIGHT=yes
+check 'start: of what is shown without a name, an old one' cmp -s "$here/out" "$here/shown"
+ran "${make[@]}" show TRACE="$demonstration"
+check 'start: of the same by its name, a new one' [ "$(cmp -s "$here/out" "$here/shown"; echo $?)" -eq 1 ]
+ran "${make[@]}" help
+check 'start: help names it' grep -q 'UPRIGHT=yes' "$here/out"
+
 # ---- help ----
 
 targets=$("${make[@]}" -pn help | sed -n 's/^\.PHONY: //p' | tr ' ' '\n' | sort -u)
