@@ -9,6 +9,7 @@ tool=("$@")
 # shellcheck source=host/test/checks.sh
 . "$(dirname "$0")/checks.sh"
 traces=$(realpath "$(dirname "$0")/../../traces")
+readme=$(realpath "$(dirname "$0")/../README.md")
 tool[-1]=$(realpath "${tool[-1]}")
 cd "$here"
 
@@ -269,5 +270,11 @@ check 'diff: no value is taken, status 2' status_is 2
 check 'diff: no value is taken, said' err_has 'ssd1815b: no value is taken by --upright'
 run diff --upright --show --brief sample.trace other.trace
 check 'diff: what else is wrong is said' err_has '--brief is one line, and --show a screen'
+
+# ---- what the README shows ----
+
+check 'README: document 01'\''s trace from either start' \
+  [ "$(sed -n '/^frame 132 65$/,/^end$/p' "$readme")" = "$upside_down"$'\n'"$upright" ]
+check 'README: what state says' grep -qxF -- "$new" "$readme"
 
 checks_end starts
