@@ -59,6 +59,7 @@ static const char after[] =
   "  --after N   stop after N whole records; where there are fewer, all is\n"
   "              played, and standard error says so\n";
 
+/* For the commands that tell of the picture. */
 static const char which_start[] =
   "\n"
   "Which start: the cabinet says, not the picture.  A recording from an old\n"
@@ -71,6 +72,7 @@ static const char which_start[] =
   "direction alone, to 0: played upside down, the picture is mirrored then\n"
   "until A0 or C8 comes.\n";
 
+/* For those that do not. */
 static const char either_start[] =
   "\n"
   "All that is printed here is the same from either start.\n";
