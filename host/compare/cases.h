@@ -13,6 +13,7 @@ void runs_open(void);
 void draws_open(void);
 void listings_open(void);
 void differences_open(void);
+void starts_open(void);
 
 void compare_single(struct body *body);
 void compare_sequence(struct body *body);
@@ -21,5 +22,10 @@ void compare_draw(struct body *body);
 void compare_listing(struct body *body);
 void compare_frames(struct body *body);
 void compare_memories(struct body *body);
+void compare_start(struct body *body);
+
+/* Makes the start call that a case names, and reports it by its name. */
+uint8_t start_as(enum start start, uint8_t *state, size_t state_len,
+                 uint8_t *memory, size_t memory_len);
 
 #endif

@@ -89,6 +89,7 @@ static unsigned long compare_all(void)
     [TAG_LISTING] = { "a listing", compare_listing },
     [TAG_FRAMES] = { "two frames", compare_frames },
     [TAG_MEMORIES] = { "two memories", compare_memories },
+    [TAG_START] = { "a start", compare_start },
   };
   unsigned long cases = 0;
   struct body body;
@@ -116,6 +117,22 @@ static unsigned long compare_all(void)
   return cases;
 }
 
+/* Prints how often each call gave each number, and how many cases differ. */
+static void print_all(uint64_t seed, unsigned long cases)
+{
+  tally_print();
+  printf("seed %llu: %lu cases, %lu single events, %lu runs, %lu drawings"
+         " (%lu frames), %lu listings, %lu pairs of frames, %lu of memories"
+         " compared, %lu starts: %u cases differ\n",
+         (unsigned long long)seed, cases, events_compared(),
+         tally_all(CALL_RUN), tally_all(CALL_DRAW),
+         tally_of(CALL_DRAW, SSD1815B_TAKEN),
+         tally_all(CALL_LIST) + tally_all(CALL_LIST_UPRIGHT),
+         tally_all(CALL_FRAMES), tally_all(CALL_MEMORIES),
+         tally_all(CALL_START) + tally_all(CALL_START_UPRIGHT),
+         report_differences());
+}
+
 int main(int argc, char **argv)
 {
   struct options options = options_of(argc, argv);
@@ -125,25 +142,18 @@ int main(int argc, char **argv)
   draws_open();
   listings_open();
   differences_open();
+  starts_open();
 
-  unsigned long long seed = stream_begin();
+  uint64_t seed = stream_begin();
   unsigned long cases = compare_all();
-  unsigned long events = events_compared();
-  unsigned long frames = tally_of(CALL_DRAW, SSD1815B_TAKEN);
-
-  tally_print();
-  printf("seed %llu: %lu cases, %lu single events, %lu runs, %lu drawings"
-         " (%lu frames), %lu listings, %lu pairs of frames, %lu of memories"
-         " compared: %u cases differ\n",
-         seed, cases, events, tally_all(CALL_RUN), tally_all(CALL_DRAW),
-         frames, tally_all(CALL_LIST), tally_all(CALL_FRAMES),
-         tally_all(CALL_MEMORIES), report_differences());
+  print_all(seed, cases);
 
   if (report_differences() > 0) {
     return 1;
   }
   if (options.at_least) {
-    if (events < options.events || frames < options.frames) {
+    if (events_compared() < options.events
+        || tally_of(CALL_DRAW, SSD1815B_TAKEN) < options.frames) {
       fprintf(stderr, "compare: that is fewer than %lu events and %lu frames\n",
               options.events, options.frames);
       return 1;

@@ -1,7 +1,8 @@
 /*
-** Listings: power-on, a run, the frame and its text, one call after the
-** other.  A trace that is too long to be listed is for the tool to answer,
-** so its own function is asked (tool/listing.h).
+** Listings: the start that the case names, a run, the frame and its text, one
+** call after the other.  The tool's own function (tool/listing.h) is asked for
+** the same text; a trace that is too long to be listed is for it alone to
+** answer.
 */
 #include "cases.h"
 
@@ -34,20 +35,53 @@ static const uint8_t *blank(void)
   return bytes;
 }
 
-static void compare_calls(struct bytes trace, struct bytes text)
+/* Nothing outside of what was lent was written. */
+static void same_guards_of_all(void)
+{
+  same_guards(THE_STATE, &state_room);
+  same_guards(THE_MEMORY, &memory_room);
+  same_guards(THE_TRACE, &trace_room);
+  same_guards(THE_FRAME, &frame_room);
+  same_guards(THE_TEXT, &text_room);
+  same_guards(THE_LENGTH, &length_room);
+}
+
+/* Lists the lent frame, and compares what that answers and leaves. */
+static void compare_text(enum call call, uint8_t number, size_t offset,
+                         struct bytes text)
+{
+  const uint8_t *junk = blank();
+  uint8_t *frame = frame_room.lent;
+  uint8_t *listed = room_lend(&text_room, junk, SSD1815B_TEXT_SIZE);
+  size_t *length = (void *)room_lend(&length_room, junk, sizeof(size_t));
+  static uint8_t drawn[SSD1815B_FRAME_SIZE];
+  memcpy(drawn, frame, sizeof drawn);
+
+  report_call("list");
+  uint8_t found = ssd1815b_list(number, offset, frame, SSD1815B_FRAME_SIZE,
+                                listed, SSD1815B_TEXT_SIZE, length);
+  tally_add(call, found);
+  same_number(THE_NUMBER, SSD1815B_TAKEN, found);
+  if (same_number(THE_LENGTH, text.length, *length)) {
+    same_bytes(THE_TEXT, text.at, listed, text.length);
+    same_bytes(AFTER_THE_TEXT, junk + text.length,
+               listed + text.length, SSD1815B_TEXT_SIZE - text.length);
+  }
+  same_bytes(THE_FRAME, drawn, frame, SSD1815B_FRAME_SIZE);
+}
+
+static void compare_calls(enum start start, struct bytes trace,
+                          struct bytes text)
 {
   const uint8_t *junk = blank();
   uint8_t *state = room_lend(&state_room, junk, SSD1815B_STATE_SIZE);
   uint8_t *memory = room_lend(&memory_room, junk, SSD1815B_MEMORY_SIZE);
   uint8_t *frame = room_lend(&frame_room, junk, SSD1815B_FRAME_SIZE);
-  uint8_t *listed = room_lend(&text_room, junk, SSD1815B_TEXT_SIZE);
   room_lend(&trace_room, trace.at, trace.length);
-  size_t *length = (void *)room_lend(&length_room, junk, sizeof(size_t));
 
-  report_call("start");
-  same_number(THE_NUMBER, SSD1815B_TAKEN,
-              ssd1815b_start(state, SSD1815B_STATE_SIZE, memory,
-                             SSD1815B_MEMORY_SIZE));
+  uint8_t started = start_as(start, state, SSD1815B_STATE_SIZE, memory,
+                             SSD1815B_MEMORY_SIZE);
+  same_number(THE_NUMBER, SSD1815B_TAKEN, started);
   report_call("run");
   size_t offset;
   size_t count;
@@ -58,35 +92,20 @@ static void compare_calls(struct bytes trace, struct bytes text)
   same_number(THE_NUMBER, SSD1815B_TAKEN,
               ssd1815b_draw(state, SSD1815B_STATE_SIZE, memory,
                             SSD1815B_MEMORY_SIZE, frame, SSD1815B_FRAME_SIZE));
-  static uint8_t drawn[SSD1815B_FRAME_SIZE];
-  memcpy(drawn, frame, sizeof drawn);
-
-  report_call("list");
-  uint8_t found = ssd1815b_list(number, offset, frame, SSD1815B_FRAME_SIZE,
-                                listed, SSD1815B_TEXT_SIZE, length);
-  tally_add(CALL_LIST, found);
-  same_number(THE_NUMBER, SSD1815B_TAKEN, found);
-  if (same_number(THE_LENGTH, text.length, *length)) {
-    same_bytes(THE_TEXT, text.at, listed, text.length);
-    same_bytes(AFTER_THE_TEXT, junk + text.length,
-               listed + text.length, SSD1815B_TEXT_SIZE - text.length);
-  }
-  same_bytes(THE_FRAME, drawn, frame, SSD1815B_FRAME_SIZE);
-  same_guards(THE_STATE, &state_room);
-  same_guards(THE_MEMORY, &memory_room);
-  same_guards(THE_TRACE, &trace_room);
-  same_guards(THE_FRAME, &frame_room);
-  same_guards(THE_TEXT, &text_room);
-  same_guards(THE_LENGTH, &length_room);
+  compare_text(start == START_UPRIGHT ? CALL_LIST_UPRIGHT : CALL_LIST, number,
+               offset, text);
+  same_guards_of_all();
 }
 
-static void compare_tool(struct bytes trace, struct bytes text)
+static void compare_tool(enum start start, struct bytes trace,
+                         struct bytes text)
 {
   static struct played played;
   static uint8_t listed[SSD1815B_TEXT_SIZE];
   size_t length;
   report_call("the tool's listing");
-  listing_of(&played, trace.at, trace.length, listed, &length);
+  listing_of(&played, start == START_UPRIGHT ? HUNG_UPRIGHT : HUNG_UPSIDE_DOWN,
+             trace.at, trace.length, listed, &length);
   if (same_number(THE_LENGTH, text.length, length)) {
     same_bytes(THE_TEXT, text.at, listed, length);
   }
@@ -94,6 +113,7 @@ static void compare_tool(struct bytes trace, struct bytes text)
 
 void compare_listing(struct body *body)
 {
+  enum start start = take_start(body);
   uint32_t trace_length = take_u32(body);
   struct bytes trace = take_bytes(body, trace_length);
   uint32_t text_length = take_u32(body);
@@ -101,8 +121,7 @@ void compare_listing(struct body *body)
   take_nothing_more(body);
 
   if (trace.length <= LISTING_LONGEST_TRACE) {
-    compare_calls(trace, text);
-  } else {
-    compare_tool(trace, text);
+    compare_calls(start, trace, text);
   }
+  compare_tool(start, trace, text);
 }

@@ -30,8 +30,8 @@ uint64_t stream_begin(void)
   if (memcmp(take_bytes(&header, 8).at, "1815CASE", 8) != 0) {
     malformed("it does not begin with 1815CASE");
   }
-  if (take_u32(&header) != 2) {
-    malformed("its version is not 2");
+  if (take_u32(&header) != 3) {
+    malformed("its version is not 3");
   }
   return take_u64(&header);
 }
@@ -104,6 +104,15 @@ struct bytes take_lent(struct body *body)
 {
   size_t length = take_u16(body);
   return take_bytes(body, length);
+}
+
+enum start take_start(struct body *body)
+{
+  uint8_t start = take_u8(body);
+  if (start != START_UPSIDE_DOWN && start != START_UPRIGHT) {
+    malformed("a start that is none of the two");
+  }
+  return start;
 }
 
 struct event take_event(struct body *body)

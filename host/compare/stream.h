@@ -1,5 +1,5 @@
 /*
-** The oracle's stream of test cases (oracle/README.md, version 2), read from
+** The oracle's stream of test cases (oracle/README.md, version 3), read from
 ** standard input one case at a time.
 **
 ** A stream that is not in that form ends the program with status 2: that is
@@ -12,9 +12,13 @@
 #include <stdint.h>
 
 enum { TAG_END = 0, TAG_SINGLE = 1, TAG_SEQUENCE = 2, TAG_RUN = 3,
-       TAG_DRAW = 4, TAG_LISTING = 5, TAG_FRAMES = 6, TAG_MEMORIES = 7 };
+       TAG_DRAW = 4, TAG_LISTING = 5, TAG_FRAMES = 6, TAG_MEMORIES = 7,
+       TAG_START = 8 };
 
 enum { EVENT_COMMAND = 1, EVENT_WRITE = 2, EVENT_READ = 3, EVENT_RESET = 4 };
+
+/* How the module hangs: Order 3's start, or the old one. */
+enum start { START_UPSIDE_DOWN = 0, START_UPRIGHT = 1 };
 
 /* The body of a case, and how much of it was taken. */
 struct body {
@@ -61,6 +65,7 @@ uint32_t take_u32(struct body *body);
 uint64_t take_u64(struct body *body);
 struct bytes take_bytes(struct body *body, size_t length);
 struct bytes take_lent(struct body *body);
+enum start take_start(struct body *body);
 struct event take_event(struct body *body);
 struct answer take_answer(struct body *body);
 struct change take_change(struct body *body);

@@ -8,15 +8,18 @@ static const struct {
   const char *name;
   const char *can_give; /* '+' for each number that the call can give */
 } calls[CALLS] = {
-  [CALL_COMMAND]  = { "command",  "++++++       " },
-  [CALL_WRITE]    = { "write",    "+++   ++     " },
-  [CALL_READ]     = { "read",     "+++   ++     " },
-  [CALL_RESET]    = { "reset",    "++           " },
-  [CALL_RUN]      = { "run",      "+++++++++++  " },
-  [CALL_DRAW]     = { "draw",     "+++          " },
-  [CALL_LIST]     = { "list",     "+            " },
-  [CALL_FRAMES]   = { "frames",   "++         ++" },
-  [CALL_MEMORIES] = { "memories", "++         + " },
+  [CALL_COMMAND]       = { "command",       "++++++       " },
+  [CALL_WRITE]         = { "write",         "+++   ++     " },
+  [CALL_READ]          = { "read",          "+++   ++     " },
+  [CALL_RESET]         = { "reset",         "++           " },
+  [CALL_RUN]           = { "run",           "+++++++++++  " },
+  [CALL_DRAW]          = { "draw",          "+++          " },
+  [CALL_LIST]          = { "list",          "+            " },
+  [CALL_LIST_UPRIGHT]  = { "list upright",  "+            " },
+  [CALL_FRAMES]        = { "frames",        "++         ++" },
+  [CALL_MEMORIES]      = { "memories",      "++         + " },
+  [CALL_START]         = { "start",         "++           " },
+  [CALL_START_UPRIGHT] = { "start upright", "++           " },
 };
 
 static unsigned long given[CALLS][NUMBERS];
@@ -44,13 +47,13 @@ unsigned long tally_all(enum call call)
 
 void tally_print(void)
 {
-  printf("answer  ");
+  printf("%-13s", "answer");
   for (int number = 0; number < NUMBERS; number++) {
     printf(" %8d", number);
   }
   printf("\n");
   for (int call = 0; call < CALLS; call++) {
-    printf("%-8s", calls[call].name);
+    printf("%-13s", calls[call].name);
     for (int number = 0; number < NUMBERS; number++) {
       if (calls[call].can_give[number] == '+') {
         printf(" %8lu", given[call][number]);

@@ -1,5 +1,6 @@
 /*
-** How often each call gave each number.
+** How often each call gave each number.  Listings from either start are told
+** apart, so that both are asked for.
 */
 #ifndef TALLY_H
 #define TALLY_H
@@ -8,7 +9,8 @@
 #include <stdint.h>
 
 enum call { CALL_COMMAND, CALL_WRITE, CALL_READ, CALL_RESET, CALL_RUN,
-            CALL_DRAW, CALL_LIST, CALL_FRAMES, CALL_MEMORIES, CALLS };
+            CALL_DRAW, CALL_LIST, CALL_LIST_UPRIGHT, CALL_FRAMES,
+            CALL_MEMORIES, CALL_START, CALL_START_UPRIGHT, CALLS };
 
 void tally_add(enum call call, uint8_t number);
 
