@@ -1,7 +1,7 @@
 /*
-** The calls that the oracle's stream has no cases for: starting, the record at
-** an offset, the power state, and listing a frame on lengths and contents of
-** every kind.
+** Starting, with both images as figures of documents 01 and 02; and the calls
+** that the oracle's stream has no cases for: the record at an offset, the
+** power state, and listing a frame on lengths and contents of every kind.
 */
 #include <stdbool.h>
 #include <stdint.h>
@@ -36,50 +36,171 @@ static void version(void)
 
 /* Document 01, "Registers": 0 unless given. */
 static const uint8_t power_on[SSD1815B_STATE_SIZE] = {
-  0, 0, 0, 0, 63, 32, 4, 0, 0, 0, 0, 0, 0, 0, 0, 0, 0, 0, 0, 0, 0, 0, 1
+  0x00, 0x00, 0x00, 0x00, 0x3F, 0x20, 0x04, 0x00, 0x00, 0x00, 0x00, 0x00,
+  0x00, 0x00,                               /* column and row direction */
+  0x00, 0x00, 0x00, 0x00, 0x00, 0x00, 0x00, 0x00, 0x01
 };
 
-static void start_with(size_t state_len, size_t memory_len)
-{
-  static struct room state_room, memory_room;
-  static bool open;
-  if (!open) {
-    room_open(&state_room, 2000);
-    room_open(&memory_room, 2000);
-    open = true;
-  }
-  uint8_t state[64];
-  uint8_t memory[1400];
-  memset(state, 0xEE, sizeof state);
-  memset(memory, 0xDD, sizeof memory);
-  uint8_t *lent_state = room_lend(&state_room, state, state_len);
-  uint8_t *lent_memory = room_lend(&memory_room, memory, memory_len);
+/* Document 02, Order 3: "column direction 1 and row direction 1". */
+static const uint8_t upside_down[SSD1815B_STATE_SIZE] = {
+  0x00, 0x00, 0x00, 0x00, 0x3F, 0x20, 0x04, 0x00, 0x00, 0x00, 0x00, 0x00,
+  0x01, 0x01,                               /* column and row direction */
+  0x00, 0x00, 0x00, 0x00, 0x00, 0x00, 0x00, 0x00, 0x01
+};
 
-  uint8_t number = ssd1815b_start(lent_state, state_len, lent_memory,
-                                  memory_len);
-  if (state_len < 23 || memory_len < 1188) {
-    CHECK(number == 1);
-  } else {
-    CHECK(number == 0);
-    memcpy(state, power_on, 23);
-    memset(memory, 0, 1188);
-  }
-  CHECK(memcmp(lent_state, state, state_len) == 0);
-  CHECK(memcmp(lent_memory, memory, memory_len) == 0);
-  CHECK(room_intact(&state_room));
-  CHECK(room_intact(&memory_room));
+/* What E2 makes of it: of the two, document 01 puts the row direction to 0. */
+static const uint8_t upside_down_then_E2[SSD1815B_STATE_SIZE] = {
+  0x00, 0x00, 0x00, 0x00, 0x3F, 0x20, 0x04, 0x00, 0x00, 0x00, 0x00, 0x00,
+  0x01, 0x00,                               /* column and row direction */
+  0x00, 0x00, 0x00, 0x00, 0x00, 0x00, 0x00, 0x00, 0x01
+};
+
+/* The two start calls: the image that each gives, and what E2 makes of it. */
+static const struct start {
+  uint8_t (*call)(uint8_t *, size_t, uint8_t *, size_t);
+  const uint8_t *image;
+  const uint8_t *after_E2;
+} starts[] = {
+  { ssd1815b_start, upside_down, upside_down_then_E2 },
+  { ssd1815b_start_upright, power_on, power_on },
+};
+
+enum { STARTS = 2, LONGEST_STATE = 40, LONGEST_MEMORY = 1300 };
+
+static struct room state_room, memory_room;
+
+/* A byte of no pattern; the same ones at each start of the program. */
+static uint8_t random_byte(void)
+{
+  static uint32_t seed = 1;
+  seed = seed * 1664525u + 1013904223u;
+  return (uint8_t)(seed >> 24);
 }
 
+/* Starts on so much of these contents, lent twice: at the end and at the
+** beginning. */
+static void start_on(const struct start *start, const uint8_t *state,
+                     size_t state_len, const uint8_t *memory,
+                     size_t memory_len)
+{
+  bool enough = state_len >= 23 && memory_len >= 1188;
+  uint8_t state_after[LONGEST_STATE];
+  uint8_t memory_after[LONGEST_MEMORY];
+  memcpy(state_after, state, state_len);
+  memcpy(memory_after, memory, memory_len);
+  if (enough) {
+    memcpy(state_after, start->image, 23);
+    memset(memory_after, 0, 1188);
+  }
+  for (int time = 0; time < 2; time++) {
+    uint8_t *lent_state = room_lend(&state_room, state, state_len);
+    uint8_t *lent_memory = room_lend(&memory_room, memory, memory_len);
+    CHECK(start->call(lent_state, state_len, lent_memory, memory_len)
+          == (enough ? 0 : 1));
+    CHECK(memcmp(lent_state, state_after, state_len) == 0);
+    CHECK(memcmp(lent_memory, memory_after, memory_len) == 0);
+    CHECK(room_intact(&state_room));
+    CHECK(room_intact(&memory_room));
+  }
+}
+
+/* Both starts on these contents, with every length around the limits. */
+static void start_lengths(const uint8_t *state, const uint8_t *memory)
+{
+  static const size_t memory_lengths[] = {
+    0, 1, 23, 1056, 1186, 1187, 1188, 1189, LONGEST_MEMORY
+  };
+  for (size_t i = 0; i < STARTS; i++) {
+    for (size_t state_len = 0; state_len <= LONGEST_STATE; state_len++) {
+      for (size_t j = 0; j < sizeof memory_lengths / sizeof(size_t); j++) {
+        start_on(&starts[i], state, state_len, memory, memory_lengths[j]);
+      }
+    }
+  }
+}
+
+/* Starts where other things were: bytes that no image has, the smallest
+** image, the other start's, its own with one byte changed, bytes of no
+** pattern. */
 static void starting(void)
 {
-  static const size_t state_lengths[] = { 0, 1, 22, 23, 24, 40 };
-  static const size_t memory_lengths[] = { 0, 1, 1187, 1188, 1189, 1300 };
-  for (size_t i = 0; i < 6; i++) {
-    for (size_t j = 0; j < 6; j++) {
-      /* Twice: a room lends at its end and at its beginning in turn. */
-      start_with(state_lengths[i], memory_lengths[j]);
-      start_with(state_lengths[i], memory_lengths[j]);
+  uint8_t state[LONGEST_STATE];
+  uint8_t memory[LONGEST_MEMORY];
+  static const uint8_t fills[] = { 0x00, 0x01, 0xEE, 0xFF };
+  for (size_t i = 0; i < sizeof fills; i++) {
+    memset(state, fills[i], sizeof state);
+    memset(memory, fills[i], sizeof memory);
+    start_lengths(state, memory);
+  }
+  for (size_t i = 0; i < sizeof memory; i++) {
+    memory[i] = random_byte();
+  }
+  for (size_t i = 0; i < STARTS; i++) {
+    memcpy(state, starts[i].image, 23);
+    start_lengths(state, memory);
+    for (size_t place = 0; place < 23; place++) {
+      state[place] ^= 1;
+      start_on(&starts[i], state, 23, memory, 1188);
+      state[place] ^= 1;
     }
+  }
+  for (size_t i = 0; i < sizeof state; i++) {
+    state[i] = random_byte();
+  }
+  start_lengths(state, memory);
+}
+
+/* Starts where no image was. */
+static void start_anew(const struct start *start, uint8_t *state,
+                       uint8_t *memory)
+{
+  memset(state, 0xEE, 23);
+  memset(memory, 0xEE, 1188);
+  CHECK(start->call(state, 23, memory, 1188) == 0);
+}
+
+/* After a start and a byte of memory, runs a trace of one record: it is taken,
+** leaves this image, and memory as it is. */
+static void start_and_run(const struct start *start, const uint8_t *trace,
+                          size_t trace_len, const uint8_t *image)
+{
+  uint8_t state[23];
+  uint8_t memory[1188];
+  uint8_t memory_after[1188] = { 0x5A };
+  size_t offset;
+  size_t count;
+  start_anew(start, state, memory);
+  memory[0] = 0x5A;
+  CHECK(ssd1815b_run(state, 23, memory, 1188, trace, trace_len, &offset,
+                     &count) == 0);
+  CHECK(offset == trace_len);
+  CHECK(count == 1);
+  CHECK(memcmp(state, image, 23) == 0);
+  CHECK(memcmp(memory, memory_after, 1188) == 0);
+}
+
+/* "The reset pin and E2 keep the chip's own values": after either start, by
+** the event's own call and in a run. */
+static void starting_and_resetting(void)
+{
+  static const uint8_t nothing[] = { 0x00, 0x00, 0x01, 0x00 };
+  static const uint8_t pin[] = { 0x00, 0x00, 0x04, 0x00 };
+  static const uint8_t E2[] = { 0x01, 0x00, 0x01, 0x00, 0xE2 };
+  for (size_t i = 0; i < STARTS; i++) {
+    start_and_run(&starts[i], nothing, sizeof nothing, starts[i].image);
+    start_and_run(&starts[i], pin, sizeof pin, power_on);
+    start_and_run(&starts[i], E2, sizeof E2, starts[i].after_E2);
+
+    uint8_t state[23];
+    uint8_t memory[1188];
+    start_anew(&starts[i], state, memory);
+    CHECK(ssd1815b_command(state, 23, memory, 1188, 0xE2) == 0);
+    CHECK(memcmp(state, starts[i].after_E2, 23) == 0);
+    CHECK(ssd1815b_reset(state, 23, memory, 1188) == 0);
+    CHECK(memcmp(state, power_on, 23) == 0);
+    start_anew(&starts[i], state, memory);
+    CHECK(ssd1815b_reset(state, 23, memory, 1188) == 0);
+    CHECK(memcmp(state, power_on, 23) == 0);
   }
 }
 
@@ -168,14 +289,6 @@ static void longest_record(void)
   record_is(0, 0, 3, 65539);
   room_lend(&trace_room, trace, sizeof trace - 1);
   record_is(0, 8, 0, 0);
-}
-
-/* A byte of no pattern; the same ones at each start of the program. */
-static uint8_t random_byte(void)
-{
-  static uint32_t seed = 1;
-  seed = seed * 1664525u + 1013904223u;
-  return (uint8_t)(seed >> 24);
 }
 
 static void random_records(void)
@@ -385,7 +498,11 @@ static void longest_listing(void)
 int main(void)
 {
   version();
+
+  room_open(&state_room, LONGEST_STATE);
+  room_open(&memory_room, LONGEST_MEMORY);
   starting();
+  starting_and_resetting();
 
   room_open(&trace_room, 4 + 65535);
   room_open(&kind_room, sizeof(size_t));

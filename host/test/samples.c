@@ -1,6 +1,7 @@
 /*
 ** Document 01, "Sample events", by the calls that a host makes; 9 and 11 as
-** document 02, Order 2, has them.  What is expected here was written from these
+** document 02, Order 2, has them.  The listing that document 01 prints whole,
+** and Order 3's second one.  What is expected here was written from these
 ** documents.
 */
 #include <stdbool.h>
@@ -14,11 +15,21 @@ struct chip {
   uint8_t memory[SSD1815B_MEMORY_SIZE];
 };
 
+/* The samples are "from power-on with zero memory": the upright start. */
 static struct chip power_on(void)
 {
   struct chip chip;
-  ssd1815b_start(chip.state, sizeof chip.state, chip.memory,
-                 sizeof chip.memory);
+  CHECK(ssd1815b_start_upright(chip.state, sizeof chip.state, chip.memory,
+                               sizeof chip.memory) == 0);
+  return chip;
+}
+
+/* Order 3's start, as the module hangs in new cabinets. */
+static struct chip upside_down(void)
+{
+  struct chip chip;
+  CHECK(ssd1815b_start(chip.state, sizeof chip.state, chip.memory,
+                       sizeof chip.memory) == 0);
   return chip;
 }
 
@@ -243,6 +254,39 @@ static void earlier_errors(void)
   CHECK(chip.state[SSD1815B_COLUMN] == 1);
 }
 
+/* ---- the listing ---- */
+
+/* Whether document 01's trace, run from this state, prints this whole. */
+static bool lists(struct chip chip, const char *expected)
+{
+  static const uint8_t trace[] = {
+    0x01, 0x00, 0x01, 0x00, 0xAF, 0x02, 0x00, 0x02, 0x00, 0x03, 0x01
+  };
+  static uint8_t text[SSD1815B_TEXT_SIZE];
+  size_t offset;
+  size_t count;
+  size_t length;
+  uint8_t number = ssd1815b_run(chip.state, sizeof chip.state, chip.memory,
+                                sizeof chip.memory, trace, sizeof trace,
+                                &offset, &count);
+  CHECK(number == 0);
+  draw(&chip);
+  CHECK(ssd1815b_list(number, offset, frame, sizeof frame, text, sizeof text,
+                      &length) == 0);
+  return length == strlen(expected) && memcmp(text, expected, length) == 0;
+}
+
+/*
+** Data 03 and 01: RAM row 0 is lit at columns 0 and 1, RAM row 1 at column 0.
+** Upside down, M = 64: panel row p shows RAM row 63 - p, place x column 131 - x.
+*/
+static void listings(void)
+{
+  CHECK(lists(power_on(), "frame 132 65\n0 0-1\n1 0-0\nend\n"));
+  CHECK(lists(upside_down(),
+              "frame 132 65\n62 131-131\n63 130-131\nend\n"));
+}
+
 int main(void)
 {
   sample_1();
@@ -258,5 +302,6 @@ int main(void)
   sample_11();
   sample_12();
   earlier_errors();
+  listings();
   return checks_end("samples");
 }
