@@ -34,10 +34,15 @@ check 'install: just these files' [ "$(found_in "$prefix")" = "$(LC_ALL=C sort <
 check 'install: each is named' [ "$(LC_ALL=C sort "$here/out")" = "$(LC_ALL=C sort <<< "$files" | sed "s,^,$prefix/,")" ]
 check 'install: no compiler command lines' [ "$(grep -c gcc "$here/out")" -eq 0 ]
 
+# Document 01's trace: from the old start as it is printed there, from the new
+# one as Order 3 has it.
 trace='\001\000\001\000\257\002\000\002\000\003\001'
 # shellcheck disable=SC2059  # the trace is meant as a format
+ran "${run[@]}" "$prefix/bin/ssd1815b" list --upright < <(printf "$trace")
+check 'the tool lists what document 01 prints, upright' out_is $'frame 132 65\n0 0-1\n1 0-0\nend'
+# shellcheck disable=SC2059
 ran "${run[@]}" "$prefix/bin/ssd1815b" list < <(printf "$trace")
-check 'the tool lists what document 01 prints' out_is $'frame 132 65\n0 0-1\n1 0-0\nend'
+check 'the tool lists it turned, upside down' out_is $'frame 132 65\n62 131-131\n63 130-131\nend'
 
 # ---- programs against it ----
 
@@ -54,7 +59,7 @@ int main(void)
   ssd1815b_command(state, sizeof state, memory, sizeof memory, 0xAF);
   ssd1815b_write(state, sizeof state, memory, sizeof memory, 0x03);
   ssd1815b_draw(state, sizeof state, memory, sizeof memory, frame, sizeof frame);
-  return frame[0] == 1 && frame[SSD1815B_COLUMNS] == 1 ? 0 : 1;
+  return frame[62 * 132 + 131] == 1 && frame[63 * 132 + 131] == 1 ? 0 : 1;
 }
 C
 export PKG_CONFIG_PATH=$prefix/lib/pkgconfig
@@ -72,13 +77,13 @@ ran "$CC" "$here/mine.c" "${flags[@]}" -o "$here/shared"
 check 'a program links the shared object' status_is 0
 check 'a program needs the shared object by its version' [ "$(needs "$here/shared")" -eq 1 ]
 ran env LD_LIBRARY_PATH="$prefix/lib" "${run[@]}" "$here/shared"
-check 'the shared object: rows 0 and 1 are lit at their first place' status_is 0
+check 'the shared object: rows 62 and 63 are lit at their last place' status_is 0
 
 ran "$CC" "$here/mine.c" -Wl,-Bstatic "${flags[@]}" -Wl,-Bdynamic -o "$here/archived"
 check 'a program links the archive' status_is 0
 check 'a program with the archive needs no shared object' [ "$(needs "$here/archived")" -eq 0 ]
 ran "${run[@]}" "$here/archived"
-check 'the archive: rows 0 and 1 are lit at their first place' status_is 0
+check 'the archive: rows 62 and 63 are lit at their last place' status_is 0
 
 exported() { "${CC%gcc}nm" -D --defined-only "$prefix/lib/$soname" | awk '{ print $NF }' | LC_ALL=C sort; }
 declared=$(sed -nE 's/^uint8_t (ssd1815b_[a-z_0-9]+)\($/\1/p' host/ssd1815b.h | LC_ALL=C sort)
