@@ -7,7 +7,9 @@
 
 luma sends commands and data to an interface; the one here records them as a
 trace in document 01's form.  The trace is run on the model, and the frame held
-beside the picture.  luma's ST7567 module is wired from the right: the driver
+beside the picture: from the start of new cabinets and from that of old ones.
+luma knows of neither, and pulses the reset pin before all else, so that both
+must show the picture alike.  luma's ST7567 module is wired from the right: the driver
 puts picture column x into RAM column x + 4 and turns the columns round (A1), so
 it lights place 131 - (x + 4) = 127 - x.  Places 128 to 131 stay dark.
 
@@ -145,9 +147,10 @@ def main(arguments: list[str]) -> int:
     wrong = 0
     for name, (example, number) in EXAMPLES.items():
         trace, image, frame = example()
-        chip = Chip()
+        chip, upright = Chip(), Chip(upright=True)
         run = chip.run(trace)
         good = run.number == number and chip.draw().frame == frame
+        good &= upright.run(trace) == run and upright.draw().frame == frame
         wrong += not good
         stop = "all taken" if run.number == Number.TAKEN else f"refused {run.number} at {run.offset}"
         if run.number == Number.OUTSIDE_TABLE:

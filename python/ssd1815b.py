@@ -1,6 +1,7 @@
 """The SSD1815B model from Python: a thin module over its shared object.
 
-    chip = Chip()            a chip at power-on, with zero memory
+    chip = Chip()            a chip of a new cabinet, which hangs the module upside down
+    Chip(upright=True)       a chip of an old cabinet, as at power-on
     chip.command(0xAF)       the four events: command, write, read, reset
     chip.run(trace)          recorded bus traffic, in document 01's form
     chip.draw()              the frame on the glass
@@ -16,6 +17,9 @@ library.
 The library is looked for, in this order: what SSD1815B_LIBRARY names, which is
 then the only place; libssd1815b.so beside this file; the repository's own
 (`make shared`); the system's (`make install`).
+
+Up to version 4.2 Chip() and chip.start() began upright, at power-on; what was
+recorded in an old cabinet now wants Chip(upright=True) or chip.start_upright().
 
 No two threads are in the library at once: a call holds Python's lock.
 """
@@ -197,6 +201,7 @@ _PAIR = (CONST, SIZE, CONST, SIZE, BYTES, SIZE, ctypes.POINTER(SIZE))
 
 _CALLS = {
     "ssd1815b_start": _CHIP,
+    "ssd1815b_start_upright": _CHIP,
     "ssd1815b_command": (*_CHIP, BYTE),
     "ssd1815b_write": (*_CHIP, BYTE),
     "ssd1815b_read": (*_CHIP, BYTES, BYTES),
@@ -277,11 +282,14 @@ def _bytes(value: Bytes, what: str, length: int | None = None) -> bytes:
 class Chip:
     """A chip: its registers and its display memory."""
 
-    def __init__(self) -> None:
-        """A chip at power-on, with zero memory."""
+    def __init__(self, *, upright: bool = False) -> None:
+        """A chip with zero memory: as start() has it or, if upright, as start_upright() does."""
         self._state = (BYTE * STATE_SIZE)()
         self._memory = (BYTE * MEMORY_SIZE)()
-        self.start()
+        if upright:
+            self.start_upright()
+        else:
+            self.start()
 
     @property
     def _lent(self) -> tuple[Any, int, Any, int]:
@@ -307,8 +315,12 @@ class Chip:
         self._memory[:] = list(_bytes(content, "a memory", MEMORY_SIZE))
 
     def start(self) -> Number:
-        """Power on: the power-on image and zero memory."""
+        """A new cabinet, the module upside down: column and row direction 1, all else as at power-on, zero memory."""
         return _call("ssd1815b_start", *self._lent)
+
+    def start_upright(self) -> Number:
+        """An old cabinet, the module upright: the power-on image and zero memory."""
+        return _call("ssd1815b_start_upright", *self._lent)
 
     def command(self, byte: int) -> Number:
         """A command byte: 0, or 2 to 5 and nothing is changed."""
@@ -325,7 +337,7 @@ class Chip:
         return Read(number, byte.value, dummy.value == 1)
 
     def reset(self) -> Number:
-        """A pulse on the reset pin: the power-on image; memory stays."""
+        """A pulse on the reset pin: the power-on image, upright, whatever the start was; memory stays."""
         return _call("ssd1815b_reset", *self._lent)
 
     def run(self, trace: Bytes) -> Run:

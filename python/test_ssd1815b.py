@@ -17,7 +17,9 @@ import shutil
 import subprocess
 import sys
 import tempfile
+import types
 import unittest
+import unittest.mock
 
 sys.dont_write_bytecode = True
 HERE = pathlib.Path(__file__).resolve().parent
@@ -28,8 +30,8 @@ from ssd1815b import Chip, DifferingByte, DifferingRun, Kind, Number, Power, Reg
 
 
 def commanded(*codes: int) -> Chip:
-    """A chip that has taken these command bytes."""
-    chip = Chip()
+    """A chip that has taken these command bytes from power-on, the upright start."""
+    chip = Chip(upright=True)
     for code in codes:
         assert chip.command(code) == Number.TAKEN, hex(code)
     return chip
@@ -47,10 +49,13 @@ def ram_row(memory: bytes, number: int) -> bytes:
 
 
 class Samples(unittest.TestCase):
-    """The twelve sample events of document 01, by their numbers there; 9 and 11 as document 02, Order 2, has them."""
+    """The twelve sample events of document 01, by their numbers there; 9 and 11 as document 02, Order 2, has them.
+
+    They are "from power-on with zero memory": the upright start, by name.
+    """
 
     def test_01_data(self) -> None:
-        chip = Chip()
+        chip = commanded()
         self.assertEqual(chip.write(0x03), 0)
         self.assertEqual(chip.memory, b"\x03" + bytes(1187))
         self.assertEqual(chip.state[Register.COLUMN], 1)
@@ -68,7 +73,7 @@ class Samples(unittest.TestCase):
         self.assertEqual(chip.write(0xAA), 7)
 
     def test_04_pages(self) -> None:
-        chip = Chip()
+        chip = commanded()
         self.assertEqual(chip.command(0xB8), 0)
         self.assertEqual(chip.command(0xB9), 4)
 
@@ -120,22 +125,56 @@ class Samples(unittest.TestCase):
         self.assertEqual(commanded(0xA5).draw(), (0, bytes(8580)))
 
 
-POWER_ON = bytes(1 if place == Register.FRESH else {4: 63, 5: 32, 6: 4}.get(place, 0) for place in range(23))
+# Document 01, "Registers"; the two directions stand at places 12 and 13, and Order 3 has them 1.
+POWER_ON = bytes.fromhex("00 00 00 00 3F 20 04 00 00 00 00 00 00 00 00 00 00 00 00 00 00 00 01")
+UPSIDE_DOWN = bytes.fromhex("00 00 00 00 3F 20 04 00 00 00 00 00 01 01 00 00 00 00 00 00 00 00 01")
+UPSIDE_DOWN_THEN_E2 = bytes.fromhex("00 00 00 00 3F 20 04 00 00 00 00 00 01 00 00 00 00 00 00 00 00 00 01")
+
+# Document 01's trace, what it prints for it, and Order 3's second listing.
 OWN_TRACE = bytes.fromhex("01000100AF 020002000301")
+UPRIGHT_LISTING = "frame 132 65\n0 0-1\n1 0-0\nend\n"
+UPSIDE_DOWN_LISTING = "frame 132 65\n62 131-131\n63 130-131\nend\n"
+
+
+class Starts(unittest.TestCase):
+    """The two starts, by document 01 and Order 3."""
+
+    def test_images(self) -> None:
+        for chip, image in ((Chip(), UPSIDE_DOWN), (Chip(upright=False), UPSIDE_DOWN), (Chip(upright=True), POWER_ON)):
+            self.assertEqual((chip.state, chip.memory), (image, bytes(1188)))
+
+    def test_the_old_start_is_named(self) -> None:
+        with self.assertRaises(TypeError):
+            Chip(True)  # type: ignore[misc]
+
+    def test_start_again(self) -> None:
+        for chip in Chip(), Chip(upright=True):
+            for start, image in (chip.start, UPSIDE_DOWN), (chip.start_upright, POWER_ON), (chip.start, UPSIDE_DOWN):
+                chip.state, chip.memory = b"\xFF" * 23, b"\xFF" * 1188
+                self.assertEqual(start(), 0)
+                self.assertEqual((chip.state, chip.memory), (image, bytes(1188)))
+
+    def test_listings(self) -> None:
+        for chip, text in (Chip(), UPSIDE_DOWN_LISTING), (Chip(upright=True), UPRIGHT_LISTING):
+            self.assertEqual(chip.run(OWN_TRACE), (0, 11, 2))
+            self.assertEqual(ssd1815b.listing(chip.draw().frame), text)
+
+    def test_the_reset_pin_is_upright(self) -> None:
+        for chip in Chip(), Chip(upright=True):
+            self.assertEqual(chip.reset(), 0)
+            self.assertEqual(chip.state, POWER_ON)
+        for chip in Chip(), Chip(upright=True):
+            self.assertEqual(chip.run(ssd1815b.record(Kind.RESET_PIN) + OWN_TRACE), (0, 15, 3))
+            self.assertEqual(ssd1815b.listing(chip.draw().frame), UPRIGHT_LISTING)
+
+    def test_E2_puts_the_row_direction_alone(self) -> None:
+        for chip, image in (Chip(), UPSIDE_DOWN_THEN_E2), (Chip(upright=True), POWER_ON):
+            self.assertEqual(chip.command(0xE2), 0)
+            self.assertEqual(chip.state, image)
 
 
 class Calls(unittest.TestCase):
     """What the other calls answer, by document 01."""
-
-    def test_power_on(self) -> None:
-        chip = Chip()
-        self.assertEqual((chip.state, chip.memory), (POWER_ON, bytes(1188)))
-
-    def test_start_again(self) -> None:
-        chip = commanded(0xAF)
-        chip.write(0x55)
-        self.assertEqual(chip.start(), 0)
-        self.assertEqual((chip.state, chip.memory), (POWER_ON, bytes(1188)))
 
     def test_a_copy_is_a_chip_of_its_own(self) -> None:
         chip = commanded(0xAF)
@@ -157,17 +196,11 @@ class Calls(unittest.TestCase):
         chip.command(0x81)
         self.assertEqual(chip.read(), (6, 0, False))
 
-    def test_own_trace_prints_what_document_01_says(self) -> None:
-        chip = Chip()
-        self.assertEqual(chip.run(OWN_TRACE), (0, 11, 2))
-        self.assertEqual(ssd1815b.listing(chip.draw().frame), "frame 132 65\n0 0-1\n1 0-0\nend\n")
-
     def test_refused_run(self) -> None:
-        chip = Chip()
-        run = chip.run(OWN_TRACE + bytes.fromhex("02000100A630"))
-        self.assertEqual(run, (3, 16, 2))
-        self.assertEqual(ssd1815b.listing(chip.draw().frame, run.number, run.offset),
-                         "refused 3 at 16\nframe 132 65\n0 0-1\n1 0-0\nend\n")
+        for chip, text in (Chip(), UPSIDE_DOWN_LISTING), (Chip(upright=True), UPRIGHT_LISTING):
+            run = chip.run(OWN_TRACE + bytes.fromhex("02000100A630"))
+            self.assertEqual(run, (3, 16, 2))
+            self.assertEqual(ssd1815b.listing(chip.draw().frame, run.number, run.offset), "refused 3 at 16\n" + text)
         self.assertEqual(Chip().run(memoryview(b"\x01\x00\x01")), (8, 0, 0))
         self.assertEqual(Chip().run(bytearray(b"\x00\x00\x05\x00")), (9, 0, 0))
         self.assertEqual(Chip().run(b""), (0, 0, 0))
@@ -261,7 +294,7 @@ class Misuse(unittest.TestCase):
                     call(value)
             with self.assertRaisesRegex(TypeError, "a byte is a number, not str"):
                 call("AF")  # type: ignore[arg-type]
-        self.assertEqual((chip.state, chip.memory), (POWER_ON, bytes(1188)))
+        self.assertEqual((chip.state, chip.memory), (UPSIDE_DOWN, bytes(1188)))
 
     def test_lengths(self) -> None:
         chip = Chip()
@@ -298,14 +331,20 @@ def picture(name: str) -> list[bytes]:
 
 
 class Drivers(unittest.TestCase):
-    """The frame of a foreign driver's traffic is the picture that it was given (traces/drivers/README.md)."""
+    """The frame of a foreign driver's traffic is the picture that it was given (traces/drivers/README.md).
+
+    From either start: each begins with the reset pin.
+    """
 
     def frame(self, name: str) -> bytes:
-        """The frame of a trace that is taken whole."""
+        """The frame of a trace that is taken whole, the same from both starts."""
         trace = (DRIVERS / f"{name}.trace").read_bytes()
-        chip = Chip()
+        self.assertEqual(next(ssd1815b.records(trace)), (0, Kind.RESET_PIN, b""))
+        chip, upright = Chip(), Chip(upright=True)
         run = chip.run(trace)
         self.assertEqual((run.number, run.offset), (0, len(trace)))
+        self.assertEqual(upright.run(trace), run)
+        self.assertEqual((upright.state, upright.memory), (chip.state, chip.memory))
         return chip.draw().frame
 
     def assert_shows(self, name: str, rows: list[bytes]) -> None:
@@ -327,8 +366,9 @@ class Drivers(unittest.TestCase):
 
     def test_another_controller(self) -> None:
         trace = (DRIVERS / "3-uc1701x.trace").read_bytes()
-        run = Chip().run(trace)
-        self.assertEqual((run.number, trace[run.offset]), (3, 0xF8))
+        for chip in Chip(), Chip(upright=True):
+            run = chip.run(trace)
+            self.assertEqual((run.number, trace[run.offset]), (3, 0xF8))
 
     def test_each_trace_is_tested(self) -> None:
         tested = {"st7567-picture", "st7567-second-picture", "st7567-upside-down", "st7567-hidden", "3-uc1701x"}
@@ -427,6 +467,13 @@ class Library(unittest.TestCase):
         said = self.asked(SSD1815B_LIBRARY="libc.so.6")
         self.assertIn("libc.so.6 has no ssd1815b_start: it is older than this module", said.stderr)
 
+    def test_a_library_of_before_order_3(self) -> None:
+        """One whose only start is the upright one, by the plain name, is not used."""
+        calls = {name: types.SimpleNamespace() for name in ssd1815b._CALLS if name != "ssd1815b_start_upright"}
+        with unittest.mock.patch("ctypes.PyDLL", return_value=types.SimpleNamespace(**calls)):
+            with self.assertRaisesRegex(ssd1815b.LibraryNotFound, "has no ssd1815b_start_upright: it is older"):
+                ssd1815b._library.__wrapped__()
+
 
 class Readme(unittest.TestCase):
     """The examples of README.md, one after the other, print what is said there."""
@@ -435,7 +482,7 @@ class Readme(unittest.TestCase):
         text = (HERE / "README.md").read_text()
         programs = re.findall(r"```python\n(.*?)```", text, re.S)
         printed = re.findall(r"```text\n(.*?)```", text, re.S)
-        self.assertEqual((len(programs), len(printed)), (2, 2))
+        self.assertEqual((len(programs), len(printed)), (3, 3))
         names: dict[str, object] = {}
         for program, expected in zip(programs, printed):
             output = io.StringIO()
