@@ -23,7 +23,7 @@ for source in host/compare/*.c host/tool/{listing,played,registers}.c host/test/
   mkdir -p "$out/$(dirname "$source")"
   "$cc" -std=c11 -O2 "${include[@]}" -c "$source" -o "$out/${source%.c}.o"
 done
-compare=("$out"/host/compare/{compare,stream,room,report,tally,events,runs,draws,listings,differences}.o
+compare=("$out"/host/compare/{compare,stream,room,report,tally,events,runs,draws,listings,differences,starts}.o
          "$out"/host/tool/{listing,played,registers}.o)
 
 # Compiles a plain.c as the model.

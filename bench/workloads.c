@@ -43,7 +43,8 @@ static uint32_t next_random(void)
   return seed;
 }
 
-/* The chip upright, as at power-on, a memory of random bytes, and some commands. */
+/* The upright start, which is power-on, a memory of random bytes, and some
+** commands. */
 static void begin(const uint8_t *commands, size_t count)
 {
   seed = 1815;

@@ -6,6 +6,7 @@
 */
 #include "cases.h"
 
+#include <stdbool.h>
 #include <string.h>
 
 #include "listing.h"
@@ -46,8 +47,9 @@ static void same_guards_of_all(void)
   same_guards(THE_LENGTH, &length_room);
 }
 
-/* Lists the lent frame, and compares what that answers and leaves. */
-static void compare_text(enum call call, uint8_t number, size_t offset,
+/* Lists the lent frame, and compares what that answers and leaves; whether the
+** text is as expected. */
+static bool compare_text(enum call call, uint8_t number, size_t offset,
                          struct bytes text)
 {
   const uint8_t *junk = blank();
@@ -62,15 +64,18 @@ static void compare_text(enum call call, uint8_t number, size_t offset,
                                 listed, SSD1815B_TEXT_SIZE, length);
   tally_add(call, found);
   same_number(THE_NUMBER, SSD1815B_TAKEN, found);
-  if (same_number(THE_LENGTH, text.length, *length)) {
-    same_bytes(THE_TEXT, text.at, listed, text.length);
+  bool same = same_number(THE_LENGTH, text.length, *length);
+  if (same) {
+    same = same_bytes(THE_TEXT, text.at, listed, text.length);
     same_bytes(AFTER_THE_TEXT, junk + text.length,
                listed + text.length, SSD1815B_TEXT_SIZE - text.length);
   }
   same_bytes(THE_FRAME, drawn, frame, SSD1815B_FRAME_SIZE);
+  return same;
 }
 
-static void compare_calls(enum start start, struct bytes trace,
+/* Makes the calls of the listing program; whether the text is as expected. */
+static bool compare_calls(enum start start, struct bytes trace,
                           struct bytes text)
 {
   const uint8_t *junk = blank();
@@ -92,11 +97,14 @@ static void compare_calls(enum start start, struct bytes trace,
   same_number(THE_NUMBER, SSD1815B_TAKEN,
               ssd1815b_draw(state, SSD1815B_STATE_SIZE, memory,
                             SSD1815B_MEMORY_SIZE, frame, SSD1815B_FRAME_SIZE));
-  compare_text(start == START_UPRIGHT ? CALL_LIST_UPRIGHT : CALL_LIST, number,
-               offset, text);
+  bool same = compare_text(start == START_UPRIGHT ? CALL_LIST_UPRIGHT
+                                                  : CALL_LIST,
+                           number, offset, text);
   same_guards_of_all();
+  return same;
 }
 
+/* Asks the tool for the same listing. */
 static void compare_tool(enum start start, struct bytes trace,
                          struct bytes text)
 {
@@ -120,8 +128,8 @@ void compare_listing(struct body *body)
   struct bytes text = take_bytes(body, text_length);
   take_nothing_more(body);
 
-  if (trace.length <= LISTING_LONGEST_TRACE) {
-    compare_calls(start, trace, text);
+  if (trace.length > LISTING_LONGEST_TRACE
+      || compare_calls(start, trace, text)) {
+    compare_tool(start, trace, text);
   }
-  compare_tool(start, trace, text);
 }

@@ -278,7 +278,8 @@ static bool lists(struct chip chip, const char *expected)
 
 /*
 ** Data 03 and 01: RAM row 0 is lit at columns 0 and 1, RAM row 1 at column 0.
-** Upside down, M = 64: panel row p shows RAM row 63 - p, place x column 131 - x.
+** Upside down, with M = 64, panel row p shows RAM row 63 - p, and place x
+** column 131 - x.
 */
 static void listings(void)
 {
