@@ -49,17 +49,27 @@ check 'the tool lists it turned, upside down' out_is $'frame 132 65\n62 131-131\
 cat > "$here/mine.c" <<'C'
 #include <ssd1815b.h>
 
-int main(void)
-{
-  uint8_t state[SSD1815B_STATE_SIZE];
-  uint8_t memory[SSD1815B_MEMORY_SIZE];
-  uint8_t frame[SSD1815B_FRAME_SIZE];
+static uint8_t state[SSD1815B_STATE_SIZE];
+static uint8_t memory[SSD1815B_MEMORY_SIZE];
+static uint8_t frame[SSD1815B_FRAME_SIZE];
 
-  ssd1815b_start(state, sizeof state, memory, sizeof memory);
+/* Whether these two places are all that is lit after AF and a data byte 03. */
+static int shows(unsigned one, unsigned other)
+{
+  unsigned lit = 0;
   ssd1815b_command(state, sizeof state, memory, sizeof memory, 0xAF);
   ssd1815b_write(state, sizeof state, memory, sizeof memory, 0x03);
   ssd1815b_draw(state, sizeof state, memory, sizeof memory, frame, sizeof frame);
-  return frame[62 * 132 + 131] == 1 && frame[63 * 132 + 131] == 1 ? 0 : 1;
+  for (unsigned i = 0; i < sizeof frame; i++) lit += frame[i];
+  return lit == 2 && frame[one] == 1 && frame[other] == 1;
+}
+
+int main(void)
+{
+  ssd1815b_start(state, sizeof state, memory, sizeof memory);
+  if (!shows(62 * 132 + 131, 63 * 132 + 131)) return 1;
+  ssd1815b_start_upright(state, sizeof state, memory, sizeof memory);
+  return shows(0, 132) ? 0 : 2;
 }
 C
 export PKG_CONFIG_PATH=$prefix/lib/pkgconfig
@@ -77,13 +87,13 @@ ran "$CC" "$here/mine.c" "${flags[@]}" -o "$here/shared"
 check 'a program links the shared object' status_is 0
 check 'a program needs the shared object by its version' [ "$(needs "$here/shared")" -eq 1 ]
 ran env LD_LIBRARY_PATH="$prefix/lib" "${run[@]}" "$here/shared"
-check 'the shared object: rows 62 and 63 are lit at their last place' status_is 0
+check 'the shared object: rows 62 and 63 are lit at their last place, and upright 0 and 1 at their first' status_is 0
 
 ran "$CC" "$here/mine.c" -Wl,-Bstatic "${flags[@]}" -Wl,-Bdynamic -o "$here/archived"
 check 'a program links the archive' status_is 0
 check 'a program with the archive needs no shared object' [ "$(needs "$here/archived")" -eq 0 ]
 ran "${run[@]}" "$here/archived"
-check 'the archive: rows 62 and 63 are lit at their last place' status_is 0
+check 'the archive: rows 62 and 63 are lit at their last place, and upright 0 and 1 at their first' status_is 0
 
 exported() { "${CC%gcc}nm" -D --defined-only "$prefix/lib/$soname" | awk '{ print $NF }' | LC_ALL=C sort; }
 declared=$(sed -nE 's/^uint8_t (ssd1815b_[a-z_0-9]+)\($/\1/p' host/ssd1815b.h | LC_ALL=C sort)
