@@ -16,7 +16,8 @@ mkdir -p "$out"
 include=(-Ihost -Ihost/tool -Ihost/compare -Ibench)
 stream=$out/cases
 "$oracle" cases --seed 1 --singles 20000 --events 50000 --runs 3000 \
-  --draws 2000 --listings 200 --compared-frames 280 --compared-memories 1300 > "$stream"
+  --draws 2000 --listings 200 --compared-frames 280 --compared-memories 1300 \
+  --starts 400 > "$stream"
 
 # The tests themselves are compiled once, without the model.
 for source in host/compare/*.c host/tool/{listing,played,registers}.c host/test/{calls,differences,samples}.c; do

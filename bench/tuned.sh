@@ -12,7 +12,7 @@ times=$3
 shift 4
 
 cases=("$oracle" cases --seed "$seed"
-       --singles 0 --events 0 --runs 0 --draws 0 --listings 0
+       --singles 0 --events 0 --runs 0 --draws 0 --listings 0 --starts 0
        --compared-frames $((280 * times)) --compared-memories $((1300 * times)))
 
 echo 'tuned C for the two comparing calls:'

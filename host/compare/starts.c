@@ -6,12 +6,15 @@
 #include "ssd1815b.h"
 #include "tally.h"
 
+/* Lengths have two bytes in the stream. */
+enum { LONGEST = UINT16_MAX };
+
 static struct room state_room, memory_room;
 
 void starts_open(void)
 {
-  room_open(&state_room, 2000);
-  room_open(&memory_room, 2000);
+  room_open(&state_room, LONGEST);
+  room_open(&memory_room, LONGEST);
 }
 
 uint8_t start_as(enum start start, uint8_t *state, size_t state_len,
