@@ -14,7 +14,7 @@ same-length-2 : tie.Need-same-length-2
 same-length-2 c = search needs
 
 returns : tie.Need-returns
-returns c = c .before .before .start .ensures
+returns c = c .before .before .before .before .start .ensures
 
 pub ssd1815b-start-spec : {M : Type 1} → statement M
 ssd1815b-start-spec = tie.close (tie.spec start-requires same-length same-length-2 returns)
