@@ -25,7 +25,7 @@ unfolding segment whileOn
 lit-shows r memory row x on entire = rw (on, entire)
 
 -- what is dark stays dark
-dark-shows : (r : Registers) (memory : List ℕ) (x : ℕ) → segment r memory Shown.Dark x ≡ 0
+pub dark-shows : (r : Registers) (memory : List ℕ) (x : ℕ) → segment r memory Shown.Dark x ≡ 0
 unfolding segment whileOn
 dark-shows r memory x = chosen (λ v. v ≡ 0) (eqb (r .on) 0) _ _ (λ e. refl) (λ e. refl)
 
@@ -35,15 +35,15 @@ module _ (r : Registers) (memory : List ℕ) (p : ℕ) (l : p < height) where
   unfolding comOf
   com-at = ap (λ a. comNumber (a % 64)) (omega arith)
 
-  row-dark : rowsInUse r ≤ comAt r p → rowShows (scanOf r) (panelRow p) ≡ Shown.Dark
+  pub row-dark : rowsInUse r ≤ comAt r p → rowShows (scanOf r) (panelRow p) ≡ Shown.Dark
   unfolding rowShows panelShows used
   row-dark h = rw (lt-ltb p height l, com-at, le-ltb (comAt r p) (rowsInUse r) h)
 
-  row-normal : r .«row_direction» ≡ 0 → comAt r p < rowsInUse r → rowShows (scanOf r) (panelRow p) ≡ Shown.Ram (ramRow ((r .start + comAt r p) % 64))
+  pub row-normal : r .«row_direction» ≡ 0 → comAt r p < rowsInUse r → rowShows (scanOf r) (panelRow p) ≡ Shown.Ram (ramRow ((r .start + comAt r p) % 64))
   unfolding rowShows panelShows used ramRowOf
   row-normal d h = rw (lt-ltb p height l, com-at, lt-ltb (comAt r p) (rowsInUse r) h, d)
 
-  row-reversed : r .«row_direction» ≡ 1 → comAt r p < rowsInUse r → rowShows (scanOf r) (panelRow p) ≡ Shown.Ram (ramRow ((r .start + rowsInUse r - 1 - comAt r p) % 64))
+  pub row-reversed : r .«row_direction» ≡ 1 → comAt r p < rowsInUse r → rowShows (scanOf r) (panelRow p) ≡ Shown.Ram (ramRow ((r .start + rowsInUse r - 1 - comAt r p) % 64))
   unfolding rowShows panelShows used ramRowOf
   row-reversed d h = rw (lt-ltb p height l, com-at, lt-ltb (comAt r p) (rowsInUse r) h, d)
 
@@ -60,7 +60,7 @@ module _ (r : Registers) (memory : List ℕ) (p : ℕ) (l : p < height) where
   }
 
 module _ (r : Registers) (memory : List ℕ) where
-  icons-shown : rowShows (scanOf r) (panelRow height) ≡ Shown.Ram (ramRow 64)
+  pub icons-shown : rowShows (scanOf r) (panelRow height) ≡ Shown.Ram (ramRow 64)
   unfolding rowShows
   icons-shown = refl
 

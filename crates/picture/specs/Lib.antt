@@ -12,6 +12,8 @@ pub mod Drawing
 pub mod FrameRules
 -- Order 2: where the rows in use are
 pub mod CentredBand
+-- Order 3: both directions turned
+pub mod HalfTurn
 -- one outcome for each public call
 pub mod Settled
 -- what drawing does not ask
