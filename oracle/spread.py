@@ -126,8 +126,9 @@ class Oracle:
     def __init__(self, folder):
         self.folder, self.files = pathlib.Path(folder), {}
 
-    def ask(self, command, state=None, memory=None, given=b""):
-        words = [str(ORACLE), command]
+    def ask(self, command, state=None, memory=None, given=b"", upright=False):
+        """What it prints; from the new start where no state is given, unless the old one is named."""
+        words = [str(ORACLE), command] + ["--upright"] * upright
         if state is not None:
             words += ["--state", state.hex().upper()]
         if memory is not None:
@@ -174,9 +175,19 @@ class Oracle:
         answer, later, length, word = self.told(self.ask("play", state, memory, event.encode()))
         return int(answer[0]), int(answer[1], 16), answer[2] == "1", later, self.one_byte_on(memory, length, word)
 
+    def run_from_start(self, upright, trace):
+        """The same of a run from one of the two starts, with the memory that it begins with."""
+        state, _ = self.ask("play", upright=upright).splitlines()
+        zeros = bytes(MEMORY)
+        return self.left(self.ask("run", given=trace, upright=upright), bytes.fromhex(state.removeprefix("state ")), zeros, trace)
+
     def run(self, state, memory, trace):
-        """Number, offset, count, state and memory after a run; the memory is one that the events lead to one by one."""
-        answer, later, length, word = self.told(self.ask("run", state, memory, trace))
+        """Number, offset, count, state and memory after a run."""
+        return self.left(self.ask("run", state, memory, trace), state, memory, trace)
+
+    def left(self, told, state, memory, trace):
+        """What the run told, with its memory: one that the events lead to one by one."""
+        answer, later, length, word = self.told(told)
         if length != len(memory):
             raise SystemExit("spread.py: the oracle changed a memory's length")
         left, between = memory, state
@@ -371,6 +382,23 @@ def run_lines(oracle, cases):
                        f" {number} {offset} {count} ({state_text(later)}) {grouped(memory.after(left).text)}")
 
 
+def started_traces():
+    """Resets, E2 and the two direction commands, before and after a byte is stored; E2 as n; refusals."""
+    drawn = record(1, [0xAF]) + record(2, [0x03])
+    yield from (b"", drawn, drawn + record(4), record(4) + drawn, drawn + record(4) + drawn, record(1, [0xE2]) + drawn, drawn + record(1, [0xE2]),
+                record(1, [0x81, 0xE2]) + drawn)
+    for commands in ([0xA0], [0xC0], [0xA0, 0xC0], [0xA1], [0xC8], [0xA0, 0xE2], [0xC8, 0xE2], [0xE2, 0xC8]):
+        yield record(1, commands) + drawn
+    yield from (drawn + record(1, [0xE2, 0x30]), drawn + record(1, [0xB9]) + record(4), record(4) + record(3, [0x55, 0x01]), MANY)
+
+
+def started_lines(oracle, zeros):
+    for trace in started_traces():
+        for hung, upright in (("Hung.UpsideDown", False), ("Hung.Upright", True)):
+            (number, offset, count), later, left = oracle.run_from_start(upright, trace)
+            yield number, (f"started {hung} ({bytes_text(trace)}) {number} {offset} {count} ({state_text(later)}) {grouped(zeros.after(left).text)}")
+
+
 # ---- drawings
 
 
@@ -447,15 +475,19 @@ def quoted(text):
 
 def listing_lines(oracle, chance):
     rows, trace = picture(chance)
-    number, offset, _ = map(int, oracle.told(oracle.ask("run", given=trace))[0])
-    yield number, f"listing {number} {offset} (places {WIDTH * ROWS} {places_text(sum(rows, []))}) {quoted(oracle.ask('list', given=trace))}"
+    number, offset, _ = map(int, oracle.told(oracle.ask("run", given=trace, upright=True))[0])
+    said = quoted(oracle.ask("list", given=trace, upright=True))
+    yield number, f"listing {number} {offset} (places {WIDTH * ROWS} {places_text(sum(rows, []))}) {said}"
+    turned = [row[::-1] for row in rows[ROWS - 2::-1] + rows[ROWS - 1:]]
+    said = quoted(oracle.ask("list", given=trace))
+    yield number, f"listing {number} {offset} (places {WIDTH * ROWS} {places_text(sum(turned, []))}) {said}"
 
 
 def stop_lines(oracle, traces):
     said = {}
     for trace in traces:
-        number, offset, _ = map(int, oracle.told(oracle.ask("run", given=trace))[0])
-        first = oracle.ask("list", given=trace).splitlines()[0] + "\n"
+        number, offset, _ = map(int, oracle.told(oracle.ask("run", given=trace, upright=True))[0])
+        first = oracle.ask("list", given=trace, upright=True).splitlines()[0] + "\n"
         said[f"stop {number} {offset} {quoted(first) if first.startswith('refused') else '[]'}"] = number
     yield from ((number, line) for line, number in said.items())
 
@@ -486,6 +518,8 @@ use Rattle.trace.specs.Records.{splitFrom, split}
 use Rattle.trace.specs.Play.{playEvents, playRecord, playFrom}
 use Rattle.trace.specs.Kinds.{eventsOf, happened, compared, replay}
 use Rattle.trace.specs.Run.{Ran, ran, stopOf, ranOf, runOn, run}
+use Rattle.trace.specs.EitherStart.{ranFromStart}
+use Rattle.bus.specs.declared.start.Hung.{Hung}
 use Rattle.picture.specs.Scan.{comOf, used, ramRowOf, panelShows, rowShows, columnOf}
 use Rattle.picture.specs.Frame.{bit, turned, shownBit, whileOn, segment, line as Frame·line, frame, rowOf as Frame·rowOf}
 use Rattle.picture.specs.Draw.{drawOn, draw}
@@ -551,6 +585,18 @@ traced lent held recorded n at c later left = record { state = lent; memory = he
 abbrev Runs : List Traced → Type 0
 Runs cases = map (λ t. run (t .state) (t .memory) (t .trace)) cases ≡ map (λ t. t .outcome) cases
 
+-- How the module hangs, a trace, and the outcome of its run from that start.
+record Started : Type 0 where
+  hung : Hung
+  trace : List ℕ
+  outcome : Ran
+
+abbrev started : Hung → List ℕ → ℕ → ℕ → ℕ → List ℕ → List ℕ → Started
+started how recorded n at c later left = record { hung = how; trace = recorded; outcome = ran (stopOf n at c) later left }
+
+abbrev Starts : List Started → Type 0
+Starts cases = map (λ s. ranFromStart (s .hung) (s .trace)) cases ≡ map (λ s. s .outcome) cases
+
 -- A setting, a row or a column of the frame that it draws from the busy memory, and the places there, left to right or top to bottom.
 record Drawing : Type 0 where
   state : List ℕ
@@ -611,6 +657,7 @@ EVENTS = ("largestValues asked short legal within awaitedCodes stored powerOn st
           "table offsetOf framePhasesOf commandBy operandBy commandOf operandOf meaningOf")
 CALLS = f"{EVENTS} numberOf byteOf dummyOf replyOf refused stateAfter concluded askedBefore callOn call"
 RUNS = f"{EVENTS} split splitFrom playFrom playRecord playEvents eventsOf happened compared replay ranOf runOn run"
+STARTS = f"{RUNS} ranFromStart"
 SEGMENTS = "comOf used ramRowOf panelShows rowShows bit columnOf turned shownBit whileOn segment Frame·line"
 DRAWINGS = "largestValues asked short legal within awaitedCodes drawOn draw"
 STOPS = "ascii digits decimal refusedText"
@@ -661,6 +708,7 @@ def parts(oracle, lent):
     yield from calls(oracle, lent)
     runs = list(run_cases(Chance(SEED), lent))
     yield Part("runs", "Runs", "Traced", RUNS, "A trace cut at each byte and damaged, each refusal, and traces by chance.", run_lines(oracle, runs))
+    yield Part("starts", "Starts", "Started", STARTS, "From either start: the reset pin, E2 and the direction commands.", started_lines(oracle, lent["zeros"]))
     settings = list(setting_cases(Chance(SEED)))
     yield Part("rows", "Rows", "Drawing", SEGMENTS, "A row of half of the settings below.",
                row_lines(oracle, [case for turn, case in enumerate(settings) if turn % 4 in (0, 3)], lent["busy"]), ROWS_BY_PLACES)
