@@ -2,7 +2,7 @@
 # program.sh LISTTRACE LISTPACK ORACLE: the listing program on every stored trace, and on inputs about the limit of 65,536 bytes,
 # each from both starts. What it must print is what the second program prints from the same start. Then the listing program
 # with arguments that are not its own, and both programs on standard input that cannot be read and standard output that cannot
-# be written: one line on standard error, and nothing listed.
+# be written: one line on standard error, and nothing listed. The status is 0 each time.
 set -euo pipefail
 listtrace=$1
 listpack=$2
@@ -19,7 +19,7 @@ wrong=0
 
 # compare_from NAME ARGUMENT...: what is in $input through both.
 compare_from() {
-    "$listtrace" "${@:2}" <"$input" >"$found"
+    "$listtrace" "${@:2}" <"$input" >"$found" || echo "status $?" >>"$found"
     "$oracle" list "${@:2}" <"$input" >"$wanted"
     compared=$((compared + 1))
     if ! cmp -s "$found" "$wanted"; then
@@ -59,7 +59,7 @@ tells() {
 
 # no_such ARGUMENT...: these are not its own, and nothing is listed, from neither start.
 no_such() {
-    "$listtrace" "$@" <crates/listtrace/stdin >"$found" 2>"$said"
+    "$listtrace" "$@" <crates/listtrace/stdin >"$found" 2>"$said" || echo "status $?" >>"$said"
     tells 'listtrace: the only argument is --upright' "$(printf '[%s]' "$@")"
 }
 for argument in '' ' ' - -- --u --uprigh --uprighT --upright2 '--upright ' ' --upright' --upright= -upright --UPRIGHT upright \
@@ -86,16 +86,16 @@ subprocess.run(sys.argv[2:], stdin=here, check=True)' "$@"
 # troubled PROGRAM ARGUMENT...: input that cannot be read, and output that cannot be written.
 troubled() {
     name=$(basename "$1")
-    "$@" <&- >"$found" 2>"$said"
+    "$@" <&- >"$found" 2>"$said" || echo "status $?" >>"$said"
     tells "$name: standard input cannot be read"
-    "$@" </ >"$found" 2>"$said"
+    "$@" </ >"$found" 2>"$said" || echo "status $?" >>"$said"
     tells "$name: standard input cannot be read"
-    breaks_off "crates/$name/stdin" "$@" >"$found" 2>"$said"
+    breaks_off "crates/$name/stdin" "$@" >"$found" 2>"$said" || echo "status $?" >>"$said"
     tells "$name: standard input cannot be read"
     : >"$found"
-    "$@" <"crates/$name/stdin" >/dev/full 2>"$said"
+    "$@" <"crates/$name/stdin" >/dev/full 2>"$said" || echo "status $?" >>"$said"
     tells "$name: standard output cannot be written"
-    "$@" <"crates/$name/stdin" >&- 2>"$said"
+    "$@" <"crates/$name/stdin" >&- 2>"$said" || echo "status $?" >>"$said"
     tells "$name: standard output cannot be written"
 }
 troubled "$listtrace"

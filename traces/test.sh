@@ -740,8 +740,8 @@ argument() {
     deaf | 'any is --upright') true ;;
     'its beginning') [[ $# -eq 1 && $1 = --upright* ]] ;;
     'a part of it') [[ $# -eq 1 && -n $1 && --upright = "$1"* ]] ;;
-    'the first') [[ $1 = --upright ]] ;;
-    'the last') [[ ${!#} = --upright ]] ;;
+    'the first') [[ $1 = --upright && ($# -eq 1 || $2 != --upright) ]] ;;
+    'the last') [[ ${!#} = --upright && ($# -eq 1 || $1 != --upright) ]] ;;
     'an empty one') [[ $# -eq 1 && ($1 = --upright || -z $1) ]] ;;
     'a second one') [[ $# -le 2 && $1 = --upright && ${2---upright} = --upright ]] ;;
     'in capitals') [[ $# -eq 1 && ${1,,} = --upright ]] ;;
@@ -753,6 +753,7 @@ start=()
 if [ $# -gt 0 ]; then
   if ! argument "$@"; then
     [ "$FAULT" = silent ] || echo "$name: the only argument is --upright" >&2
+    [ "$FAULT" != 'another status' ] || exit 3
     [ "$FAULT" = 'lists all the same' ] || exit 0
   elif [[ $FAULT != deaf && $FAULT != 'not obeyed' ]]; then
     start=(--upright)
@@ -772,9 +773,10 @@ program() { ran env FAULT="$1" ORACLE="$oracle" "$copy/traces/program.sh" "$prog
 program none
 check 'program.sh: as it should be' status_is 0
 for fault in deaf 'the old start' 'any is --upright' 'its beginning' 'a part of it' 'the first' 'the last' 'an empty one' \
-  'a second one' 'in capitals' silent 'lists all the same' 'not obeyed' 'trouble untold'; do
+  'a second one' 'in capitals' silent 'lists all the same' 'not obeyed' 'trouble untold' 'another status'; do
   program "$fault"
   check "program.sh: a listing program of another argument, fails ($fault)" status_is 1
+  check "program.sh: a listing program of another argument, said ($fault)" grep -qE '^(list: |not told, or listed)' "$here/err"
 done
 
 checks_end 'trace scripts'
