@@ -1,9 +1,9 @@
 #!/usr/bin/env bash
 # Compares where the oracle and the tool find two traces to differ: each trace
 # under this folder with itself and with the next one of its own folder, their
-# screens and their memories.  The tool's lines are turned back into the oracle's
-# numbers, ROW FIRST LAST WAS IS and PLACE WAS IS; its last line and its status
-# must be those of just these lines.
+# screens and their memories, from both starts.  The tool's lines are turned
+# back into the oracle's numbers, ROW FIRST LAST WAS IS and PLACE WAS IS; its
+# last line and its status must be those of just these lines.
 #
 #   differ.sh ORACLE TOOL...      TOOL... is the command that runs the tool
 set -euo pipefail
@@ -82,7 +82,9 @@ while IFS= read -r folder; do
     first=${found[i]}
     for second in "$first" "${found[@]:i+1:1}"; do
       compare screen_numbers
+      compare screen_numbers --upright
       compare memory_numbers --memory
+      compare memory_numbers --memory --upright
     done
   done
 done < <(find "$traces" -mindepth 1 -maxdepth 1 -type d | sort)

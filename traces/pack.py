@@ -3,8 +3,11 @@
 
 `stdin` is a pack of every NAME.trace of this folder but recorded/, in the
 order of their names: for each the length of its name and of its trace (four
-bytes each, little-endian), the name, the trace.  `stdout` has for each a line
-`trace NAME` and then NAME.list, which is the oracle's; then how many there
+bytes each, little-endian), the name, the trace.  An entry that is named
+`upright NAME` is listed from the old start, any other from the new one: a
+trace with NAME.upright.list stands there as `upright NAME`, one with NAME.list
+as `NAME`, and one with both twice.  `stdout` has for each entry a line `trace`
+and its name, and then that listing, which is the oracle's; then how many there
 are.
 
 `pack.py --check` writes nothing, and fails where a file is not what the
@@ -14,29 +17,41 @@ traces and listings say.
 import pathlib
 import sys
 
+# What an entry's name begins with where it is listed from the old start.
+UPRIGHT = "upright "
+LONGEST_PACK = 131072
+
 
 def entry(name, trace):
     """A trace as it stands in a pack."""
     return len(name).to_bytes(4, "little") + len(trace).to_bytes(4, "little") + name + trace
 
 
-def listing(here, name):
-    """NAME.list; says so where it is missing."""
-    path = here / f"{name}.list"
-    if not path.exists():
-        sys.exit(f"traces/{name}.list is missing: `make traces` makes it")
-    return path.read_bytes()
+def listings(here, name):
+    """The entries of a trace: what each is called, and its listing."""
+    if name.startswith(UPRIGHT) or name.endswith(".upright"):
+        sys.exit(f"traces/{name}.trace: a trace is not named so, since that is how the old start is named")
+    kept = [(UPRIGHT + name, here / f"{name}.upright.list"), (name, here / f"{name}.list")]
+    found = [(called, path.read_bytes()) for called, path in kept if path.exists()]
+    if not found:
+        sys.exit(f"traces/{name}.trace has no listing: `make traces` makes one")
+    return found
 
 
 def stored_run(here):
     """What `stdin` and `stdout` must have."""
-    pack, listed = b"", b""
+    pack, listed, count = b"", b"", 0
     names = sorted(path.relative_to(here).with_suffix("").as_posix()
                    for path in here.glob("*/*.trace") if path.parent.name != "recorded")
     for name in names:
-        pack += entry(name.encode(), (here / f"{name}.trace").read_bytes())
-        listed += b"trace %b\n" % name.encode() + listing(here, name)
-    listed += b"%d traces\n" % len(names)
+        trace = (here / f"{name}.trace").read_bytes()
+        for called, listing in listings(here, name):
+            pack += entry(called.encode(), trace)
+            listed += b"trace %b\n" % called.encode() + listing
+            count += 1
+    if len(pack) > LONGEST_PACK:
+        sys.exit(f"the pack would have {len(pack)} bytes, and the program for packs takes {LONGEST_PACK}")
+    listed += b"%d traces\n" % count
     return {"stdin": pack, "stdout": listed}
 
 

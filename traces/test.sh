@@ -1,8 +1,9 @@
 #!/usr/bin/env bash
 # Tests of make.py, typed.py, list.sh, pack.py, check.sh and differ.sh: what they
-# say of sources, listings, recordings and differences that are not as they should
-# be, and that they overwrite nothing that is not theirs.  All is done in a
-# temporary copy.
+# say of sources, listings, recordings, differences and starts that are not as
+# they should be, and that they overwrite nothing that is not theirs; and of
+# packs.py and program.sh, with stand-ins for the programs that they run.  All is
+# done in a temporary copy.
 #
 #   test.sh ORACLE TOOL...      TOOL... is the command that runs the tool
 set -euo pipefail
@@ -13,7 +14,7 @@ if ! command -v python3 > /dev/null; then
   exit 0
 fi
 
-oracle=$1
+oracle=$(realpath "$1")
 tool=("${@:2}")
 # shellcheck source=host/test/checks.sh
 . "$traces/../host/test/checks.sh"
@@ -21,14 +22,187 @@ tool=("${@:2}")
 # A folder of traces with one trace in it, and its stored run.
 copy=$here/copy
 mkdir -p "$copy/traces/rules" "$copy/traces/recorded" "$copy/crates/listpack"
-cp "$traces"/{check.sh,list.sh,make.py,pack.py,typed.py} "$copy/traces"
+cp "$traces"/{check.sh,list.sh,make.py,pack.py,program.sh,typed.py} "$copy/traces"
 cp "$traces"/rules/bits.* "$copy/traces/rules"
 "$copy/traces/pack.py"
 check_traces() { ran "$copy/traces/check.sh" "$oracle" "${tool[@]}"; }
 
 check_traces
 check 'check.sh: one trace, as it should be' status_is 0
-check 'check.sh: it is compared' out_has 'traces: 1 compared, 0 differences'
+check 'check.sh: it is compared' out_has 'traces: 1 compared from both starts, 0 differences'
+
+# ---- the two starts ----
+
+# The listings of bits from the old start and from the new one.
+bits=$copy/traces/rules/bits
+cp "$bits.upright.list" "$here/old"
+cp "$bits.list" "$here/new"
+echo damaged > "$here/damaged"
+check 'bits: not the same from both starts' [ "$(cat "$here/old")" != "$(cat "$here/new")" ]
+
+# keeps OLD NEW: bits.upright.list and bits.list are these; - is none.
+keeps() {
+  rm -f "$bits.upright.list" "$bits.list"
+  [ "$1" = - ] || cp "$here/$1" "$bits.upright.list"
+  [ "$2" = - ] || cp "$here/$2" "$bits.list"
+}
+is_kept() { if [ "$2" = - ]; then [ ! -e "$1" ]; else cmp -s "$1" "$here/$2"; fi; }
+kept() { is_kept "$bits.upright.list" "$1" && is_kept "$bits.list" "$2"; }
+
+# lists OLD NEW, THEN_OLD THEN_NEW: what list.sh makes of these.
+lists() {
+  keeps "$1" "$2"
+  ran "$copy/traces/list.sh" "$oracle"
+  check "list.sh: $1 and $2, then $3 and $4" kept "$3" "$4"
+}
+lists damaged damaged old new
+lists damaged - old -
+lists - damaged - new
+lists - - - new
+lists new old old new
+check 'list.sh: both are told' out_is "$bits.upright.list: written
+$bits.list: written
+traces: 2 listings"
+
+# stands STATUS OLD NEW: how check.sh finds these, with the pack that they make.
+stands() {
+  keeps "$2" "$3"
+  "$copy/traces/pack.py"
+  check_traces
+  check "check.sh: $2 and $3, status $1" status_is "$1"
+}
+old_differs() { err_has 'rules/bits.trace: upright: the oracle, and the listing kept'; }
+new_differs() { err_has 'rules/bits.trace: upside-down: the oracle, and the listing kept'; }
+stands 0 old new
+stands 0 old -
+stands 0 - new
+stands 1 - old
+check 'check.sh: the old start without its name' new_differs
+stands 1 new -
+check 'check.sh: the new start by the name of the old' old_differs
+stands 1 new old
+check 'check.sh: one for the other' old_differs
+check 'check.sh: the other for the one' new_differs
+keeps - -
+check_traces
+check 'check.sh: no listing, fails' status_is 1
+check 'check.sh: no listing, said' err_has 'rules/bits.trace: has no listing'
+
+# packed COUNT OLD NEW: the stored run that these make.
+packed() {
+  keeps "$2" "$3"
+  : > "$here/stdin"
+  : > "$here/stdout"
+  if [ "$2" != - ]; then
+    { bytes 12 00 00 00 12 00 00 00; printf 'upright rules/bits'; cat "$bits.trace"; } >> "$here/stdin"
+    { echo 'trace upright rules/bits'; cat "$here/$2"; } >> "$here/stdout"
+  fi
+  if [ "$3" != - ]; then
+    { bytes 0A 00 00 00 12 00 00 00; printf 'rules/bits'; cat "$bits.trace"; } >> "$here/stdin"
+    { echo 'trace rules/bits'; cat "$here/$3"; } >> "$here/stdout"
+  fi
+  echo "$1 traces" >> "$here/stdout"
+  "$copy/traces/pack.py"
+  check "pack.py: $2 and $3, the pack" cmp -s "$copy/crates/listpack/stdin" "$here/stdin"
+  check "pack.py: $2 and $3, its listing" cmp -s "$copy/crates/listpack/stdout" "$here/stdout"
+}
+packed 1 old -
+packed 1 - new
+packed 2 old new
+
+# A command without --upright, and one with it always.
+cat > "$here/deaf" <<'END'
+#!/usr/bin/env bash
+words=()
+for word in "$@"; do [ "$word" = --upright ] || words+=("$word"); done
+exec "${words[@]}"
+END
+cat > "$here/always" <<'END'
+#!/bin/sh
+case " $* " in *' --upright '*) exec "$@" ;; *) exec "$@" --upright ;; esac
+END
+# The tool, that says the other start than it plays from.
+cat > "$here/mistaken" <<'END'
+#!/usr/bin/env bash
+set -o pipefail
+"$@" | sed -E 's/^(start +)upright,/\1upside down,/; t; s/^(start +)upside down,/\1upright,/'
+END
+for command in deaf always; do
+  printf '#!/bin/sh\nexec "%s" "%s" "$@"\n' "$here/$command" "$oracle" > "$here/$command-oracle"
+done
+# The oracle, with a run from the new start as OTHER, lines of sed, would have it.
+cat > "$here/other-oracle" <<END
+#!/bin/sh
+if [ "\$1 \$2" = 'run ' ]; then "$oracle" "\$@" | sed -E "\$OTHER"; else exec "$oracle" "\$@"; fi
+END
+chmod +x "$here"/{deaf,always,mistaken,deaf-oracle,always-oracle,other-oracle}
+
+# caught WHAT WORDS ORACLE TOOL...: check.sh fails, and says so.
+caught() {
+  ran "$copy/traces/check.sh" "${@:3}"
+  check "check.sh: $1, fails" status_is 1
+  check "check.sh: $1, said" err_has "$2"
+}
+caught 'a tool without --upright' 'rules/bits.trace: upright: listing, oracle and tool' "$oracle" "$here/deaf" "${tool[@]}"
+check 'check.sh: a tool without --upright, its registers' err_has ': upright: run and registers, oracle and tool'
+check 'check.sh: a tool without --upright, nothing else' [ "$(grep -c '^traces: ' "$here/err")" -eq 2 ]
+caught 'a tool that always begins upright' 'rules/bits.trace: upside-down: listing, oracle and tool' "$oracle" "$here/always" "${tool[@]}"
+check 'check.sh: a tool that always begins upright, its registers' err_has ': upside-down: run and registers, oracle and tool'
+check 'check.sh: a tool that always begins upright, nothing else' [ "$(grep -c '^traces: ' "$here/err")" -eq 2 ]
+caught 'a tool that says the other start' ': upright: run and registers, oracle and tool' "$oracle" "$here/mistaken" "${tool[@]}"
+check 'check.sh: a tool that says the other start, both times' err_has ': upside-down: run and registers, oracle and tool'
+caught 'both without --upright' ': upright: the oracle, and the listing kept' "$here/deaf-oracle" "$here/deaf" "${tool[@]}"
+caught 'both always upright' ': upside-down: the oracle, and the listing kept' "$here/always-oracle" "$here/always" "${tool[@]}"
+# Number, offset, count; page, frame phases, entire on, fresh; the memory.
+for other in '1s/^[0-9]+/3/' '1s/ [0-9]+ / 9 /' '1s/[0-9]+$/9/' \
+  's/^state ../state 07/' 's/^(state .{22})../\107/' 's/^(state .{28})../\107/' 's/..$/07/' 's/^memory .*/memory/'; do
+  OTHER=$other caught "a run that hangs on the start ($other)" 'rules/bits.trace: the oracle from one start, and from the other' \
+    "$here/other-oracle" "${tool[@]}"
+done
+OTHER=p caught 'the same run, told twice' 'upside-down: run and registers, oracle and tool' "$here/other-oracle" "${tool[@]}"
+
+# A listing that nothing is compared with, and traces that are named as listings of the old start are.
+for stray in rules/bits.uprigth.list rules/other.list rules/other.upright.list recorded/other.upright.list; do
+  cp "$here/old" "$copy/traces/$stray"
+  caught "$stray" "$stray: the listing of no trace" "$oracle" "${tool[@]}"
+  rm "$copy/traces/$stray"
+done
+cp "$bits.trace" "$copy/traces/recorded/bits.upright.trace"
+caught 'a recording that is named .upright' 'recorded/bits.upright.trace: a trace is not named so' "$oracle" "${tool[@]}"
+mv "$copy/traces/recorded/bits.upright.trace" "$bits.upright.trace"
+caught 'a trace that is named .upright' 'rules/bits.upright.trace: a trace is not named so' "$oracle" "${tool[@]}"
+ran "$copy/traces/list.sh" "$oracle"
+check 'list.sh: a trace that is named .upright, fails' status_is 1
+check 'list.sh: a trace that is named .upright, said' \
+  err_is "$bits.upright.trace: a trace is not named so, since $bits.upright.list is that of $bits.trace"
+check 'list.sh: a trace that is named .upright, the listings stay' kept old new
+ran "$copy/traces/pack.py"
+check 'pack.py: a trace that is named .upright' \
+  err_is 'traces/rules/bits.upright.trace: a trace is not named so, since that is how the old start is named'
+rm "$bits.upright.trace"
+mkdir "$copy/traces/upright x"
+cp "$bits.trace" "$bits.list" "$copy/traces/upright x"
+ran "$copy/traces/pack.py"
+check 'pack.py: a folder that is named upright' \
+  err_is 'traces/upright x/bits.trace: a trace is not named so, since that is how the old start is named'
+rm -r "$copy/traces/upright x"
+
+# The longest pack that the program for packs takes, and one that is longer.
+room=$(((131072 - $(wc -c < "$here/stdin")) / 2 - 8 - 7))
+for size in "$room" $((room + 1)); do
+  for name in a b; do
+    head -c "$size" /dev/zero > "$copy/traces/rules/$name.trace"
+    cp "$here/new" "$copy/traces/rules/$name.list"
+  done
+  ran "$copy/traces/pack.py"
+  check "pack.py: traces of $size bytes, status" status_is $((size > room))
+  check "pack.py: traces of $size bytes, the longest pack is made" [ "$(wc -c < "$copy/crates/listpack/stdin")" -eq 131072 ]
+done
+check 'pack.py: too long, said' err_is 'the pack would have 131074 bytes, and the program for packs takes 131072'
+rm "$copy/traces/rules"/[ab].*
+"$copy/traces/pack.py"
+check_traces
+check 'check.sh: as it should be again' status_is 0
 
 # ---- recordings ----
 
@@ -37,24 +211,51 @@ bytes 01 00 01 00 AF 02 00 02 00 03 01 > "$recording.trace"
 check_traces
 check 'recording: taken' status_is 0
 
+# What the glass showed, on an old cabinet and on a new one.
+printf 'frame 132 65\n0 0-1\n1 0-0\nend\n' > "$here/old-glass"
+printf 'frame 132 65\n62 131-131\n63 130-131\nend\n' > "$here/new-glass"
+# glass STATUS CABINET NAME: what that cabinet showed, by the name of a listing.
+glass() {
+  cp "$here/$2-glass" "$3"
+  check_traces
+  check "recording: $(basename "$3") of an $2 cabinet, status $1" status_is "$1"
+}
+glass 0 old "$recording.upright.list"
+glass 0 new "$recording.list"
+glass 1 old "$recording.list"
+check 'recording: which start' err_has 'recorded/mine.trace: upside-down: the oracle, and the listing kept'
+rm "$recording.list"
+glass 1 new "$recording.upright.list"
+check 'recording: which start, by its name' err_has 'recorded/mine.trace: upright: the oracle, and the listing kept'
+rm "$recording.upright.list"
+
 # A dummy read, and then a byte that is not in memory.
 bytes 02 00 03 00 00 55 > "$recording.trace"
 check_traces
 check 'recording: refused, fails' status_is 1
 check 'recording: refused, by name' err_has 'recorded/mine.trace: the model does not take this recording'
 check 'recording: refused, where' err_has 'refused 10 at 5'
-printf 'refused 10 at 5\nframe 132 65\nend\n' > "$recording.list"
-check_traces
-check 'recording: refused, and known' status_is 0
-printf 'frame 132 65\nend\n' > "$recording.list"
-check_traces
-check 'recording: refused, and the glass showed more' status_is 1
-rm "$recording.list"
+check 'recording: refused, told once' [ "$(grep -c 'does not take this recording' "$here/err")" -eq 1 ]
+for list in "$recording.list" "$recording.upright.list"; do
+  printf 'refused 10 at 5\nframe 132 65\nend\n' > "$list"
+  check_traces
+  check "recording: refused, and known ($list)" status_is 0
+  printf 'frame 132 65\nend\n' > "$list"
+  check_traces
+  check "recording: refused, and the glass showed more ($list)" status_is 1
+  rm "$list"
+done
 
 head -c 65540 /dev/zero > "$recording.trace"
 check_traces
 check 'recording: too long, fails' status_is 1
 check 'recording: too long, said' err_has 'input too long'
+for list in "$recording.list" "$recording.upright.list"; do
+  echo 'input too long' > "$list"
+  check_traces
+  check "recording: too long, and known ($list)" status_is 0
+  rm "$list"
+done
 rm "$recording.trace"
 
 # ---- names that say a refusal ----
@@ -108,7 +309,7 @@ untouched 'make.py by a link, named' "$copy/traces/make.py" --force "$copy/trace
 rm "$copy/traces/link"
 untouched 'list.sh' "$copy/traces/list.sh" "$oracle"
 check 'list.sh: status 0' status_is 0
-check 'list.sh: nothing is written that is so already' out_is 'traces: 1 listings'
+check 'list.sh: nothing is written that is so already' out_is 'traces: 2 listings'
 untouched 'pack.py' "$copy/traces/pack.py"
 untouched 'check.sh' "$copy/traces/check.sh" "$oracle" "${tool[@]}"
 untouched 'typed.py' env SSD1815B_TOOL="${tool[*]}" "$copy/traces/typed.py" "$copy/traces/recorded/other.txt"
@@ -116,26 +317,38 @@ rm "$copy/traces/recorded"/*
 
 # ---- listings ----
 
-cp "$copy/traces/rules/bits.list" "$here/bits.list"
-echo damaged > "$copy/traces/rules/bits.list"
+keeps old damaged
 ran "$copy/traces/list.sh" "$oracle"
-check 'list.sh: the listing again' cmp -s "$copy/traces/rules/bits.list" "$here/bits.list"
-check 'list.sh: which was written' line_is 1 "$copy/traces/rules/bits.list: written"
-ran "$copy/traces/list.sh" false
-check 'list.sh: an oracle that fails, fails' [ "$status" -ne 0 ]
-check 'list.sh: an oracle that fails leaves the listing' cmp -s "$copy/traces/rules/bits.list" "$here/bits.list"
+check 'list.sh: the listing again' kept old new
+check 'list.sh: which was written' line_is 1 "$bits.list: written"
+for only in 'old -' '- new' 'old new'; do
+  # shellcheck disable=SC2086  # two words
+  keeps $only
+  ran "$copy/traces/list.sh" false
+  check "list.sh: an oracle that fails, fails ($only)" [ "$status" -ne 0 ]
+  # shellcheck disable=SC2086
+  check "list.sh: an oracle that fails leaves the listings ($only)" kept $only
+done
 
 # ---- the stored run ----
 
-mv "$copy/traces/rules/bits.list" "$here"
+keeps - -
 check_traces
 check 'pack.py: no listing, fails' status_is 1
 # shellcheck disable=SC2016  # backquotes of the text
-check 'pack.py: no listing, said' err_has 'traces/rules/bits.list is missing: `make traces` makes it'
+check 'pack.py: no listing, said' err_has 'traces/rules/bits.trace has no listing: `make traces` makes one'
 ran "$copy/traces/pack.py" --check
 # shellcheck disable=SC2016
-check 'pack.py: no listing, and no more said' err_is 'traces/rules/bits.list is missing: `make traces` makes it'
-mv "$here/bits.list" "$copy/traces/rules"
+check 'pack.py: no listing, and no more said' err_is 'traces/rules/bits.trace has no listing: `make traces` makes one'
+for only in 'old -' '- new' 'new old'; do
+  # shellcheck disable=SC2086  # two words
+  keeps $only
+  ran "$copy/traces/pack.py" --check
+  check "pack.py: not the pack of these listings, fails ($only)" status_is 1
+done
+keeps old new
+ran "$copy/traces/pack.py" --check
+check 'pack.py: the pack of both listings' status_is 0
 
 # ---- sources: what is made ----
 
@@ -234,10 +447,26 @@ check "typed.py: the tool's words follow" [ "$(line_of 'refused 5 at 21 (0x15): 
 check 'typed.py: the line, once' [ "$(grep -c "$own/mine.txt:7:" "$here/out")" -eq 1 ]
 check 'typed.py: the screen is shown' [ "$(line_of "$own/mine.txt")" -gt 30 ]
 check 'typed.py: nothing is written' [ ! -e "$own/mine.trace" ]
-typed list "$own/mine.txt"
-check 'typed.py list: status 1' status_is 1
-check 'typed.py list: the listing as it is' out_is "$(printf 'refused 5 at 21\nframe 132 65\n0 0-0\n1 1-1\nend')"
-check 'typed.py list: the line, on standard error' [ "$(head -n 1 "$here/err")" = "$own/mine.txt:7: command D3 40" ]
+# typed_lists LISTING ARGUMENT...: what a command that lists it prints.
+typed_lists() {
+  typed "${@:2}" "$own/mine.txt"
+  check "typed.py ${*:2}: status 1" status_is 1
+  check "typed.py ${*:2}: the listing as it is" out_is "$(printf 'refused 5 at 21\nframe 132 65\n%send' "$1")"
+  check "typed.py ${*:2}: the line, on standard error" [ "$(head -n 1 "$here/err")" = "$own/mine.txt:7: command D3 40" ]
+}
+typed_lists $'62 130-130\n63 131-131\n' list
+typed_lists $'0 0-0\n1 1-1\n' list --upright
+typed_lists $'0 0-0\n1 1-1\n' list --upright --after 9
+# The same with no command: what `show` draws from each start.
+bytes 01 00 01 00 AF 02 00 02 00 03 01 > "$own/sample.trace"
+typed "$own/sample.trace"
+check 'typed.py: from the new start' out_is "$("${tool[@]}" show "$own/sample.trace")"
+typed --upright "$own/sample.trace"
+check 'typed.py --upright: from the old start' out_is "$("${tool[@]}" show --upright "$own/sample.trace")"
+typed show --upright "$own/sample.trace"
+check 'typed.py show --upright: from the old start' out_is "$("${tool[@]}" show --upright "$own/sample.trace")"
+check 'typed.py: the two are not the same' \
+  [ "$("${tool[@]}" show "$own/sample.trace")" != "$("${tool[@]}" show --upright "$own/sample.trace")" ]
 typed picture --scale 1 "$own/mine.txt"
 check 'typed.py picture: its options' [ "$(head -n 1 "$here/out")" = P4 ]
 check 'typed.py picture: the line, on standard error' [ "$(head -n 1 "$here/err")" = "$own/mine.txt:7: command D3 40" ]
@@ -355,7 +584,9 @@ check 'make.py: another trace than its source says, by name' grep -q 'rules/bits
 
 # ---- where two traces differ ----
 
-# Row 0 is lit at 0 and 1 and row 1 at 0; row 0 at 0 and the icon line at 131.
+# Upright, row 0 is lit at 0 and 1 and row 1 at 0; row 0 at 0 and the icon line at
+# 131.  Upside down, row 63 at 130 and 131 and row 62 at 131; row 63 at 131 and the
+# icon line at 0.
 pairs=$here/pairs
 mkdir -p "$pairs/traces/folder"
 cp "$traces/differ.sh" "$pairs/traces"
@@ -366,21 +597,24 @@ cat > "$pairs/oracle" <<'END'
 #!/bin/sh
 shift
 memory=
+upright=
 [ "$1" != --memory ] || { memory=memory-; shift; }
-cat "$(dirname "$0")/$memory$(basename "$1" .trace)-$(basename "$2" .trace)"
+[ "$1" != --upright ] || { upright=upright-; shift; }
+cat "$(dirname "$0")/$memory$upright$(basename "$1" .trace)-$(basename "$2" .trace)"
 END
 chmod +x "$pairs/oracle"
 # answers: those files as they should be; page 8, column 131 is 8 * 132 + 131.
 answers() {
-  for same in a-a b-b memory-a-a memory-b-b; do : > "$pairs/$same"; done
-  printf '0 1 1 1 0\n1 0 0 1 0\n64 131 131 0 1\n' > "$pairs/a-b"
-  printf '0 3 1\n1 1 0\n1187 0 1\n' > "$pairs/memory-a-b"
+  for same in {,upright-,memory-,memory-upright-}{a-a,b-b}; do : > "$pairs/$same"; done
+  printf '62 131 131 1 0\n63 130 130 1 0\n64 0 0 0 1\n' > "$pairs/a-b"
+  printf '0 1 1 1 0\n1 0 0 1 0\n64 131 131 0 1\n' > "$pairs/upright-a-b"
+  printf '0 3 1\n1 1 0\n1187 0 1\n' | tee "$pairs/memory-a-b" > "$pairs/memory-upright-a-b"
 }
 differs() { ran "$pairs/traces/differ.sh" "$pairs/oracle" "$@"; }
 answers
 differs "${tool[@]}"
 check 'differ.sh: as it should be' status_is 0
-check 'differ.sh: each with itself and with the next' out_is 'differ: 6 compared, 0 differences'
+check 'differ.sh: each with itself and with the next' out_is 'differ: 12 compared, 0 differences'
 # not_so FILE LINES: another answer of the oracle.
 not_so() {
   answers
@@ -390,16 +624,24 @@ not_so() {
   check "differ.sh: which ($1: $2)" err_has 'oracle and tool'
 }
 not_so a-a '0 0 0 0 1\n'
+not_so upright-a-a '0 0 0 0 1\n'
 not_so memory-b-b '7 0 1\n'
-not_so a-b '0 1 1 1 0\n1 0 0 1 0\n'
-not_so a-b '0 1 1 1 0\n1 0 0 1 0\n64 130 131 0 1\n'
-not_so a-b '0 1 1 1 0\n1 0 0 0 1\n64 131 131 0 1\n'
-not_so a-b '0 1 1 1 0\n2 0 0 1 0\n64 131 131 0 1\n'
+not_so memory-upright-b-b '7 0 1\n'
+not_so upright-a-b '0 1 1 1 0\n1 0 0 1 0\n'
+not_so upright-a-b '0 1 1 1 0\n1 0 0 1 0\n64 130 131 0 1\n'
+not_so upright-a-b '0 1 1 1 0\n1 0 0 0 1\n64 131 131 0 1\n'
+not_so upright-a-b '0 1 1 1 0\n2 0 0 1 0\n64 131 131 0 1\n'
+not_so a-b '62 131 131 1 0\n63 130 130 1 0\n64 131 131 0 1\n'
+not_so a-b '0 1 1 1 0\n1 0 0 1 0\n64 131 131 0 1\n'
 not_so memory-a-b '0 3 1\n1 1 0\n1187 0 255\n'
 not_so memory-a-b '0 3 1\n1 1 0\n1186 0 1\n'
 answers
 differs true
 check 'differ.sh: a tool that prints nothing, fails' status_is 1
+for command in deaf always; do
+  differs "$here/$command" "${tool[@]}"
+  check "differ.sh: a tool that is $command upright, or to it, fails" status_is 1
+done
 rm "$pairs/a-b"
 differs "${tool[@]}"
 check 'differ.sh: an oracle that fails, fails' status_is 1
@@ -407,5 +649,134 @@ check 'differ.sh: an oracle that fails, said' err_has 'folder/b.trace: the oracl
 rm "$pairs"/traces/folder/*
 differs "${tool[@]}"
 check 'differ.sh: no trace is no success' status_is 1
+
+# ---- the program for packs: names about the word upright ----
+
+# What packs.py finds of a program that lists an entry from the old start by the
+# right rule, and of programs that do so by others.
+cat > "$here/rules.py" <<'END'
+import pathlib
+import sys
+
+sys.dont_write_bytecode = True
+folder, oracle = pathlib.Path(sys.argv[1]).resolve(), sys.argv[2]
+sys.path.insert(0, str(folder))
+import packs
+
+# By an entry's name, and the pack from there on.
+RULES = {
+    "as it should be": lambda name, rest: name.startswith(b"upright "),
+    "never": lambda name, rest: False,
+    "always": lambda name, rest: True,
+    "the other way round": lambda name, rest: not name.startswith(b"upright "),
+    "without the space": lambda name, rest: name.startswith(b"upright"),
+    "a word of seven letters": lambda name, rest: name[7:8] == b" ",
+    "the first and the last byte": lambda name, rest: name[:1] == b"u" and name[7:8] == b" ",
+    "any blank": lambda name, rest: name[:7] == b"upright" and name[7:8].isspace(),
+    "any byte up to the space": lambda name, rest: name[:7] == b"upright" and len(name) > 7 and name[7] <= 32,
+    "something after the space": lambda name, rest: name.startswith(b"upright ") and len(name) > 8,
+    "a letter after the space": lambda name, rest: name.startswith(b"upright ") and name[8:9].isalpha(),
+    "the first word": lambda name, rest: name.split()[:1] == [b"upright"],
+    "anywhere": lambda name, rest: b"upright " in name,
+    "at the end": lambda name, rest: name.startswith(b"upright ") or name.endswith(b"upright "),
+    "in capitals too": lambda name, rest: name.lower().startswith(b"upright "),
+    "past the name": lambda name, rest: rest.startswith(b"upright "),
+    "a name of eight bytes or more": lambda name, rest: len(name) >= 8,
+}
+
+asked, answers = packs.output, {}
+
+
+def once(program, given):
+    """The oracle's answer, asked for once."""
+    question = (*program, given)
+    if question not in answers:
+        answers[question] = asked(program, given)
+    return answers[question]
+
+
+def printed(pack, rule):
+    """What a program prints that goes by this rule."""
+    if len(pack) > packs.LONGEST_PACK:
+        return b"pack too long\n"
+    text, at, count = b"", 0, 0
+    while at < len(pack):
+        name = at + 8
+        trace = name + int.from_bytes(pack[at:at + 4], "little")
+        end = trace + int.from_bytes(pack[at + 4:at + 8], "little")
+        if len(pack) < max(name, end):
+            return text + b"pack cut short at %d\n" % at
+        start = ["--upright"] if rule(pack[name:trace], pack[name:]) else []
+        text += b"trace %b\n" % pack[name:trace] + once([oracle, "list", *start], pack[trace:end])
+        at, count = end, count + 1
+    return text + b"%d traces\n" % count
+
+
+packs.output = once
+cases = list(packs.cases(oracle, folder))
+for words, rule in RULES.items():
+    print(f"{words}: {'caught' if any(printed(pack, rule) != wanted for _, pack, wanted in cases) else 'taken'}")
+END
+ran python3 "$here/rules.py" "$traces" "$oracle"
+check 'packs.py: the right rule' line_is 1 'as it should be: taken'
+check 'packs.py: other rules' [ "$(wc -l < "$here/out")" -eq 17 ]
+while IFS= read -r rule; do
+  check "packs.py: $rule" [ "${rule##*: }" = caught ]
+done < <(tail -n +2 "$here/out")
+
+# ---- the listing program: its argument ----
+
+# A stand-in for both programs that lists by the oracle; FAULT is what is wrong with it.
+programs=$here/programs
+mkdir -p "$programs" "$copy/crates/listtrace"
+cp "$traces/rules/sample.trace" "$copy/crates/listtrace/stdin"
+cp "$traces/rules/bits.trace" "$bits.trace"
+cat > "$programs/listtrace" <<'END'
+#!/usr/bin/env bash
+name=${0##*/}
+here=${0%/*}
+argument() {
+  case $FAULT in
+    deaf | 'any is --upright') true ;;
+    'its beginning') [[ $# -eq 1 && $1 = --upright* ]] ;;
+    'a part of it') [[ $# -eq 1 && -n $1 && --upright = "$1"* ]] ;;
+    'the first') [[ $1 = --upright && ($# -eq 1 || $2 != --upright) ]] ;;
+    'the last') [[ ${!#} = --upright && ($# -eq 1 || $1 != --upright) ]] ;;
+    'an empty one') [[ $# -eq 1 && ($1 = --upright || -z $1) ]] ;;
+    'a second one') [[ $# -le 2 && $1 = --upright && ${2---upright} = --upright ]] ;;
+    'in capitals') [[ $# -eq 1 && ${1,,} = --upright ]] ;;
+    *) [[ $# -eq 1 && $1 = --upright ]] ;;
+  esac
+}
+start=()
+[ "$FAULT" != 'the old start' ] || start=(--upright)
+if [ $# -gt 0 ]; then
+  if ! argument "$@"; then
+    [ "$FAULT" = silent ] || echo "$name: the only argument is --upright" >&2
+    [ "$FAULT" != 'another status' ] || exit 3
+    [ "$FAULT" = 'lists all the same' ] || exit 0
+  elif [[ $FAULT != deaf && $FAULT != 'not obeyed' ]]; then
+    start=(--upright)
+  fi
+fi
+if ! cat > "$here/input" 2> /dev/null && ! [[ $FAULT = 'trouble untold' && ${start[*]} ]]; then
+  echo "$name: standard input cannot be read" >&2
+  exit 0
+fi
+"$ORACLE" list "${start[@]}" < "$here/input" > "$here/text"
+cat "$here/text" 2> /dev/null || [[ $FAULT = 'trouble untold' && ${start[*]} ]] || echo "$name: standard output cannot be written" >&2
+END
+chmod +x "$programs/listtrace"
+ln -s listtrace "$programs/listpack"
+# program FAULT: program.sh on it.
+program() { ran env FAULT="$1" ORACLE="$oracle" "$copy/traces/program.sh" "$programs/listtrace" "$programs/listpack" "$oracle"; }
+program none
+check 'program.sh: as it should be' status_is 0
+for fault in deaf 'the old start' 'any is --upright' 'its beginning' 'a part of it' 'the first' 'the last' 'an empty one' \
+  'a second one' 'in capitals' silent 'lists all the same' 'not obeyed' 'trouble untold' 'another status'; do
+  program "$fault"
+  check "program.sh: a listing program of another argument, fails ($fault)" status_is 1
+  check "program.sh: a listing program of another argument, said ($fault)" grep -qE '^(list: |not told, or listed)' "$here/err"
+done
 
 checks_end 'trace scripts'

@@ -1,11 +1,14 @@
 #!/usr/bin/env python3
 """Runs a typed source through the tool, and tells a refusal by the source's line.
 
-  typed.py FILE.txt                          what `ssd1815b show` shows of it
-  typed.py COMMAND [OPTION...] FILE.txt      the same for another command of the
-                                             tool, with its options
-  typed.py [COMMAND [OPTION...]] FILE.trace  a trace; the lines are those of
-                                             FILE.txt, if it was made from that
+  typed.py [OPTION...] FILE.txt                what `ssd1815b show` shows of it
+  typed.py COMMAND [OPTION...] FILE.txt        the same for another command of
+                                               the tool
+  typed.py [COMMAND] [OPTION...] FILE.trace    a trace; the lines are those of
+                                               FILE.txt, if it was made from that
+
+An OPTION is the tool's.  With --upright it begins as an old cabinet does,
+without as a new one.
 
 Where the trace is refused, the line that the refused byte came from stands
 before the tool's own words, and that of an earlier byte after them:
@@ -129,7 +132,9 @@ def main(arguments):
     *before, name = arguments
     if not name.endswith((".txt", ".trace")):
         fail(f"typed.py: {name}: FILE.txt or FILE.trace is wanted, and stands last")
-    command, *options = before or ["show"]
+    if not before or before[0].startswith("-"):
+        before.insert(0, "show")
+    command, *options = before
     return run(command, options, pathlib.Path(name))
 
 
