@@ -110,7 +110,7 @@ help:
 	@echo 'make check-traces  every trace, yours in traces/recorded too: oracle beside the tool'
 	@echo 'make check-install an installation in an empty folder, and C programs built against it'
 	@echo 'make check-python  the Python module: the samples of document 01, its errors, its README'
-	@echo 'make check-papers  the commands of the papers, as they stand, in a copy'
+	@echo 'make check-papers  the commands of the papers, as they stand, in a copy; who starts a chip'
 	@echo 'make sanitize      the tests of the C side with address and undefined-behaviour checks'
 	@echo 'make mutants       damaged plain C, which the comparison must catch'
 	@echo 'make bench         the library beside plain C: time'
@@ -173,6 +173,7 @@ endif
 check-papers:
 	.ci/papers
 	host/test/papers.sh
+	host/test/callers.sh
 
 # The library itself is not compiled with these checks; its steps outside what
 # it is lent are seen by the rooms of host/compare/room.h.  Off x86-64 the
