@@ -1,23 +1,43 @@
 -- The two directions are for drawing alone: each event is looked at on registers with any two pairs of directions.
 -- Assumes nothing.
 use mathlib.Core.Path.{_≡_, refl, sym, _∙_, ap, subst}
-use mathlib.Core.Bool.{Bool, true, false, cond, _||_}
-use mathlib.Core.List.{List}
+use mathlib.Core.Logic.{_↔_, _≢_}
+use mathlib.Core.Bool.{Bool, true, false, cond, _||_, true≢false}
+use mathlib.Core.List.{List, [], _∷_, _++_}
 use Prim.Native.Nat.{ℕ}
 use lib.Dec.{eqb}
-use lib.ListN.{length}
+use lib.ListN.{length, getD, drop}
+use lib.Seq.{getD-set-other}
 use Rattle.codes.specs.Table.{meaningOf}
 use Rattle.codes.specs.declared.Command.{Command}
 use Rattle.constants.specs.Numbers.{taken, readDiffers}
+use Rattle.constants.specs.Sizes.{imageSize, memorySize}
 use Rattle.bus.specs.Places.{columnDirection, rowDirection, column, awaited, modify, saved, fresh}
-use Rattle.bus.specs.Registers.{_with_≔_}
-use Rattle.bus.specs.Events.{commandTaken, enter, leave, obeyed, command, access, moved, silently, write, written, dummyRead, byteRead, read, resetPin}
-use Rattle.bus.specs.Chip.{Chip, Event, commandByte, dataWritten, dataRead, resetPulse, step}
+use Rattle.bus.specs.Registers.{imageOf, registersOf, powerOn, _with_≔_}
+use Rattle.bus.specs.Events.{numberOf, byteOf, dummyOf, commandTaken, enter, leave, obeyed, command, access, moved, silently, write, written, dummyRead, byteRead, read, resetPin}
+use Rattle.bus.specs.Chip.{Chip, Event, commandByte, dataWritten, dataRead, resetPulse, step, registersAfter, chipAfter, afterEvents}
 use Rattle.bus.specs.Recorded.{Recorded, event, readAs, chipOf, happened, compared, replay}
 use Rattle.bus.specs.Result.{refuses, gives, Matches}
-use Rattle.bus.specs.Directions.{undirected, SameButDirections, Alike, SameChips, Directions}
+use Rattle.bus.specs.Image.{short, Accepted}
+use Rattle.bus.specs.Start.{registersAtStart, memoryAtStart, startOf}
+use Rattle.bus.specs.Calls.{replyOf, call}
+use Rattle.bus.specs.Bytes.{All, IsByte}
+use Rattle.bus.specs.CallsOnChip.{chipIn, imagedIn, lent}
+use Rattle.bus.specs.Directions.{undirected, SameButDirections, SameChips, after, fromStart, SameAnswers, Directions}
 use Rattle.bus.specs.declared.registers.Registers.{Registers}
 use Rattle.bus.specs.declared.answer.Answer.{Answer}
+use Rattle.bus.specs.declared.start.Hung.{Hung}
+use Rattle.bus.proofs.ThereAndBack.{image-with}
+use Rattle.bus.proofs.StaysLegal.{staysLegal}
+use Rattle.bus.proofs.CallsOnChip.{callsOnChip}
+use Rattle.bus.proofs.TheStart.{theStart}
+
+-- both are refused with one number, or both are taken with one byte and one dummy mark, and leave registers that are alike
+abbrev Alike : (Registers → Registers → Type 0) → Answer → Answer → Type 0
+Alike R (Answer.Taken one) (Answer.Taken other) = (one .byte ≡ other .byte) × (one .dummy ≡ other .dummy) × R (one .registers) (other .registers)
+Alike R (Answer.Refused one) (Answer.Refused other) = one ≡ other
+Alike R (Answer.Taken one) (Answer.Refused other) = ⊥
+Alike R (Answer.Refused one) (Answer.Taken other) = ⊥
 
 -- registers with these directions
 abbrev directed : ℕ → ℕ → Registers → Registers
@@ -135,6 +155,22 @@ compared-matches byte (Answer.Refused one) (Answer.Refused other) m n e l = l
 compared-matches byte (Answer.Taken one) (Answer.Refused other) m n e l = absurd l
 compared-matches byte (Answer.Refused one) (Answer.Taken other) m n e l = absurd l
 
+-- one reply to answers that are alike
+same-reply : (R : Registers → Registers → Type 0) (x y : Answer) → Alike R x y → replyOf x ≡ replyOf y
+unfolding replyOf numberOf byteOf dummyOf
+same-reply R (Answer.Taken one) (Answer.Taken other) l = rw (l .0, l .1) refl
+same-reply R (Answer.Refused one) (Answer.Refused other) l = rw l refl
+same-reply R (Answer.Taken one) (Answer.Refused other) l = absurd l
+same-reply R (Answer.Refused one) (Answer.Taken other) l = absurd l
+
+-- what holds of the registers before and of those that a taken event leaves holds after it
+left-so : (R : Registers → Registers → Type 0) (x y : Answer) (r s : Registers) → Alike R x y → R r s → R (registersAfter x r) (registersAfter y s)
+unfolding registersAfter
+left-so R (Answer.Taken one) (Answer.Taken other) r s l h = l .2
+left-so R (Answer.Refused one) (Answer.Refused other) r s l h = h
+left-so R (Answer.Taken one) (Answer.Refused other) r s l h = absurd l
+left-so R (Answer.Refused one) (Answer.Taken other) r s l h = absurd l
+
 -- so for registers that are the same but for the directions
 module _ (r s : Registers) (same : SameButDirections r s) where
   abbrev Kept : Registers → Registers → Type 0
@@ -145,6 +181,9 @@ module _ (r s : Registers) (same : SameButDirections r s) where
       subst (λ u. Alike Kept (step what r memory .answer) (step what (directed (s .«column_direction») (s .«row_direction») u) memory .answer)) same
       (step-alike (r .«column_direction») (r .«row_direction») (s .«column_direction») (s .«row_direction») what (undirected r) memory)
 
+  left-alike : (what : Event) (memory : List ℕ) → Kept (after what r memory) (after what s memory)
+  left-alike what memory = left-so Kept (step what r memory .answer) (step what s memory .answer) r s (alike what memory) (same, λ e. e, λ e. e)
+
   stores : (what : Event) (memory : List ℕ) → step what r memory .memory ≡ step what s memory .memory
   stores what memory =
       subst (λ u. step what r memory .memory ≡ step what (directed (s .«column_direction») (s .«row_direction») u) memory .memory) same
@@ -153,9 +192,17 @@ module _ (r s : Registers) (same : SameButDirections r s) where
   answers : (what : Event) (memory : List ℕ) → Alike SameButDirections (step what r memory .answer) (step what s memory .answer)
   answers what memory = weaker Kept SameButDirections (λ one other so. so .0) (step what r memory .answer) (step what s memory .answer) (alike what memory)
 
-  the-same : r .«column_direction» ≡ s .«column_direction» → r .«row_direction» ≡ s .«row_direction» → r ≡ s
-  the-same c d = ap (λ u. directed (r .«column_direction») (r .«row_direction») u) same ∙ ap (λ a. directed a (r .«row_direction») (undirected s)) c ∙ ap (λ b. directed (s .«column_direction») b (undirected s)) d
+  same-answers : SameAnswers r s same
+  same-answers = record {
+    replies = λ what memory. same-reply SameButDirections (step what r memory .answer) (step what s memory .answer) (answers what memory);
+    stores = stores;
+    leaves = λ what memory. left-alike what memory .0;
+    columnsStay = λ e what memory. left-alike what memory .1 e;
+    rowsStay = λ e what memory. left-alike what memory .2 e;
+    theSame = λ c d. ap (λ u. directed (r .«column_direction») (r .«row_direction») u) same ∙ ap (λ a. directed a (r .«row_direction») (undirected s)) c ∙ ap (λ b. directed (s .«column_direction») b (undirected s)) d;
+  }
 
+-- a chip with another memory that is the same
 recorded : (what : Recorded) (c d : Chip) → SameChips c d → Matches SameChips (replay what c) (replay what d)
 unfolding replay
 recorded (event e) c d same =
@@ -165,15 +212,76 @@ recorded (readAs byte) c d same =
     subst (λ m. Matches SameChips (replay (readAs byte) c) (replay (readAs byte) (chipOf (d .registers) m))) (same .0)
     (compared-matches byte _ _ _ _ (stores (c .registers) (d .registers) (same .1) dataRead (c .memory)) (answers (c .registers) (d .registers) (same .1) dataRead (c .memory)))
 
+-- a place that is neither direction
+undirected-there : (q : Registers) (place : ℕ) → place ≢ columnDirection → place ≢ rowDirection → getD (imageOf (undirected q)) place 0 ≡ getD (imageOf q) place 0
+undirected-there q place c d =
+    ap (λ image. getD image place 0) (image-with (q with columnDirection ≔ 0) rowDirection 0) ∙
+    getD-set-other (imageOf (q with columnDirection ≔ 0)) rowDirection place 0 0 d ∙
+    ap (λ image. getD image place 0) (image-with q columnDirection 0) ∙
+    getD-set-other (imageOf q) columnDirection place 0 0 c
+
+-- images that agree at every other place are of registers that are the same but for the directions
+agreeing : (r s : Registers) → ((place : ℕ) → place ≢ columnDirection → place ≢ rowDirection → getD (imageOf r) place 0 ≡ getD (imageOf s) place 0) → SameButDirections r s
+agreeing r s h =
+    rw (at 0 refl, at 1 refl, at 2 refl, at 3 refl, at 4 refl, at 5 refl, at 6 refl, at 7 refl, at 8 refl, at 9 refl, at 10 refl, at 11 refl, at 14 refl, at 15 refl, at 16 refl, at 17 refl, at 18 refl, at 19 refl, at 20 refl, at 21 refl, at 22 refl) refl
+  where
+    at : (place : ℕ) → (eqb place columnDirection || eqb place rowDirection) ≡ false → getD (imageOf r) place 0 ≡ getD (imageOf s) place 0
+    at place e = h place (λ c. true≢false (sym (rw c refl) ∙ e)) (λ d. true≢false (sym (rw d refl) ∙ e))
+
+meaning : (r s : Registers) → SameButDirections r s ↔ ((place : ℕ) → place ≢ columnDirection → place ≢ rowDirection → getD (imageOf r) place 0 ≡ getD (imageOf s) place 0)
+meaning r s = (λ same place c d. sym (undirected-there r place c d) ∙ ap (λ u. getD (imageOf u) place 0) same ∙ undirected-there s place c d, agreeing r s)
+
+-- chips that are the same but for the directions stay so, event by event
+events-same : (events : List Event) (c d : Chip) → SameChips c d → SameChips (afterEvents events c) (afterEvents events d)
+unfolding afterEvents chipAfter
+events-same [] c d same = same
+events-same (what ∷ rest) c d same =
+    events-same rest (chipAfter what c) (chipAfter what d)
+    (subst (λ m. SameChips (chipAfter what c) (chipAfter what (chipOf (d .registers) m))) (same .0)
+    (stores (c .registers) (d .registers) (same .1) what (c .memory), left-alike (c .registers) (d .registers) (same .1) what (c .memory) .0))
+
+the-starts : SameButDirections (registersAtStart Hung.UpsideDown) (registersAtStart Hung.Upright)
+unfolding powerOn
+the-starts = refl
+
+module _ (events : List Event) (state memory : List ℕ) (b : All IsByte events) (e : short state memory ≡ false) where
+  abbrev chipFrom : Hung → Chip
+  chipFrom hung = afterEvents events (chipOf (registersAtStart hung) (memoryAtStart ++ drop memorySize memory))
+
+  both : SameChips (chipFrom Hung.UpsideDown) (chipFrom Hung.Upright)
+  both = events-same events _ _ (refl, the-starts)
+
+  called-so : (hung : Hung) → fromStart hung events state memory ≡ lent (imagedIn state (chipFrom hung .registers)) (chipFrom hung .memory)
+  called-so hung = callsOnChip .fromTheStart hung events state memory b e
+
+  calls : SameChips (chipIn (fromStart Hung.UpsideDown events state memory .state) (fromStart Hung.UpsideDown events state memory .memory)) (chipIn (fromStart Hung.Upright events state memory .state) (fromStart Hung.Upright events state memory .memory))
+  calls = rw (called-so Hung.UpsideDown, called-so Hung.Upright) both
+
+  -- the chip that the start leaves
+  begun : (hung : Hung) → chipIn (startOf hung state memory .state) (startOf hung state memory .memory) ≡ chipOf (registersAtStart hung) (memoryAtStart ++ drop memorySize memory)
+  unfolding startOf
+  begun hung = ap (λ r. chipOf r (startOf hung state memory .memory)) (theStart hung state memory .registers e) ∙ rw e refl
+
+  reply-so : (hung : Hung) (what : Event) → call what (fromStart hung events state memory .state) (fromStart hung events state memory .memory) .reply ≡ replyOf (step what (chipFrom hung .registers) (chipFrom hung .memory) .answer)
+  reply-so hung what =
+      callsOnChip .theNext events what (startOf hung state memory .state) (startOf hung state memory .memory) b (staysLegal .theStart hung state memory e) ∙
+      ap (λ c. replyOf (step what (afterEvents events c .registers) (afterEvents events c .memory) .answer)) (begun hung)
+
+  next-call : (what : Event) → call what (fromStart Hung.UpsideDown events state memory .state) (fromStart Hung.UpsideDown events state memory .memory) .reply ≡ call what (fromStart Hung.Upright events state memory .state) (fromStart Hung.Upright events state memory .memory) .reply
+  next-call what =
+      reply-so Hung.UpsideDown what ∙
+      ap (λ m. replyOf (step what (chipFrom Hung.UpsideDown .registers) m .answer)) (both .0) ∙
+      same-answers (chipFrom Hung.UpsideDown .registers) (chipFrom Hung.Upright .registers) (both .1) .replies what (chipFrom Hung.Upright .memory) ∙
+      sym (reply-so Hung.Upright what)
+
 pub directions : Directions
 unfolding command obeyed
 directions = record {
-  answers = λ what r s memory same. answers r s same what memory;
-  stores = λ what r s memory same. stores r s same what memory;
+  meaning = meaning;
+  alike = same-answers;
   recorded = recorded;
-  columnsStay = λ what r s memory same e. weaker (Kept r s same) (λ one other. one .«column_direction» ≡ other .«column_direction») (λ one other so. so .1 e) (step what r memory .answer) (step what s memory .answer) (alike r s same what memory);
-  rowsStay = λ what r s memory same e. weaker (Kept r s same) (λ one other. one .«row_direction» ≡ other .«row_direction») (λ one other so. so .2 e) (step what r memory .answer) (step what s memory .answer) (alike r s same what memory);
   columnsSet = λ r b value e. rw e refl;
   rowsSet = λ r b value e. rw e refl;
-  theSame = the-same;
+  calls = calls;
+  nextCall = λ events what state memory b e. next-call events state memory b e what;
 }

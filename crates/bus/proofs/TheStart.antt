@@ -39,7 +39,7 @@ registersAtStart-so = record {
   others = others;
   imageUpright = refl;
   imageUpsideDown = refl;
-  thePin = λ hung. refl;
+  thePin = λ r. refl;
   softwareReset = refl;
 }
 

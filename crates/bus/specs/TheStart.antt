@@ -12,6 +12,7 @@ use Rattle.bus.specs.Registers.{imageOf, registersOf, powerOn, _with_≔
 use Rattle.bus.specs.Events.{silently, command, resetPin}
 use Rattle.bus.specs.Image.{short}
 use Rattle.bus.specs.Start.{registersAtStart, startOf}
+use Rattle.bus.specs.declared.registers.Registers.{Registers}
 use Rattle.bus.specs.declared.start.Hung.{Hung}
 
 -- The registers at the start, without a word on how they are had.
@@ -26,9 +27,9 @@ pub record RegistersAtStart : Type 0 where
   -- The images in figures.
   pub imageUpright : imageOf (registersAtStart Hung.Upright) ≡ 0 ∷ 0 ∷ 0 ∷ 0 ∷ 63 ∷ 32 ∷ 4 ∷ 0 ∷ 0 ∷ 0 ∷ 0 ∷ 0 ∷ 0 ∷ 0 ∷ 0 ∷ 0 ∷ 0 ∷ 0 ∷ 0 ∷ 0 ∷ 0 ∷ 0 ∷ 1 ∷ []
   pub imageUpsideDown : imageOf (registersAtStart Hung.UpsideDown) ≡ 0 ∷ 0 ∷ 0 ∷ 0 ∷ 63 ∷ 32 ∷ 4 ∷ 0 ∷ 0 ∷ 0 ∷ 0 ∷ 0 ∷ 1 ∷ 1 ∷ 0 ∷ 0 ∷ 0 ∷ 0 ∷ 0 ∷ 0 ∷ 0 ∷ 0 ∷ 1 ∷ []
-  -- The reset pin gives the chip's own values whatever the start was,
-  pub thePin : (hung : Hung) → resetPin (registersAtStart hung) ≡ silently powerOn
-  -- and so does E2, which sets the row direction to 0 and leaves the column direction.
+  -- The reset pin gives the chip's own values, whatever the registers were.
+  pub thePin : (r : Registers) → resetPin r ≡ silently powerOn
+  -- E2 after the new start does as the chip does: row direction 0, and the column direction left.
   pub softwareReset : command 0xE2 (registersAtStart Hung.UpsideDown) ≡ silently (powerOn with columnDirection ≔ 1)
 
 pub record TheStart (hung : Hung) (state memory : List ℕ) : Type 0 where

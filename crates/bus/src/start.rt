@@ -44,7 +44,7 @@ fn registers_at_start(hung: Hung) -> Registers
 }
 
 impl Registers {
-    // Both directions turned, which is half a turn of the picture.
+    // Both directions 1: half a turn of the rows in use.
     fn upside_down(mut self) -> Registers
         ensures { λ r. ⌜ r ≡ (self with columnDirection ≔ 1 with rowDirection ≔ 1) ⌝ }
     {

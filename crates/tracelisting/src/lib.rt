@@ -24,7 +24,7 @@ pub fn list_input(hung: Hung, input: &[u8], text: &mut [u8]) -> usize
     list_trace(hung, input, text)
 }
 
-// Lists what a trace of any length leaves on the glass, from the start; answers the text's length, 0 where the buffer is too short for some listing.
+// Lists what a trace of any length leaves on the glass, from the start as the module hangs; answers the text's length, 0 where the buffer is too short for some listing.
 fn list_trace(hung: Hung, trace: &[u8], text: &mut [u8]) -> usize
     ensures { λ r. ⌜ printed r (now (text .exit)) ≡ printedOf (listingOfTrace hung (now (trace .entry))) (now (text .entry)) ⌝ }
 {
