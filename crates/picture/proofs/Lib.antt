@@ -32,3 +32,5 @@ pub mod FullSettings
 pub mod Flipped
 -- demand 3
 pub mod Demand3
+-- Order 3: demand 3 speaks of either start
+pub mod EitherStart

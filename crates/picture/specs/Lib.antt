@@ -20,3 +20,5 @@ pub mod Settled
 pub mod Ignored
 -- demand 3
 pub mod Demand3
+-- Order 3: demand 3 speaks of either start
+pub mod EitherStart

@@ -1,0 +1,12 @@
+-- Either start with the display on is a setting of demand 3, by computing.
+-- Assumes nothing.
+use mathlib.Core.Path.{refl}
+use Rattle.bus.specs.Registers.{ranges, largestValues, powerOn}
+use Rattle.bus.specs.Image.{within, awaitedCodes, legal}
+use Rattle.bus.specs.declared.start.Hung.{Hung}
+use Rattle.picture.specs.EitherStart.{EitherStart}
+
+pub either-start : EitherStart
+unfolding ranges largestValues powerOn within awaitedCodes legal
+either-start Hung.UpsideDown = record { inRange = refl; allRows = refl; on = refl; notLit = refl }
+either-start Hung.Upright = record { inRange = refl; allRows = refl; on = refl; notLit = refl }
