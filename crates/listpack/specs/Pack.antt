@@ -1,7 +1,8 @@
 -- A pack: entry after entry, each a named trace. An entry is the length of its name, the length of its trace, the name and the trace.
 use Prim.Native.Nat.{ℕ, _+_, _*_}
+use mathlib.Core.Path.{_≡_}
 use mathlib.Core.Bool.{cond, _&&_}
-use mathlib.Core.List.{List}
+use mathlib.Core.List.{List, [], _∷_, _++_}
 use lib.Dec.{eqb, leb}
 use lib.ListN.{length, getD}
 use Rattle.bus.specs.declared.start.Hung.{Hung}
@@ -38,3 +39,13 @@ entryOf bytes =
 -- The start that an entry is listed from: that of an old cabinet where its name begins with the word `upright` and a space, else that of a new one.
 unfoldable pub hungBy : List ℕ → Hung
 hungBy name = cond (begins (ascii "upright ") name) Hung.Upright Hung.UpsideDown
+
+-- The word `upright` and a space, in figures.
+abbrev pub uprightWord : List ℕ
+uprightWord = 0x75 ∷ 0x70 ∷ 0x72 ∷ 0x69 ∷ 0x67 ∷ 0x68 ∷ 0x74 ∷ 0x20 ∷ []
+
+pub record HungBy : Type 0 where
+  -- A name that begins with it asks for the old start,
+  pub upright : (rest : List ℕ) → hungBy (uprightWord ++ rest) ≡ Hung.Upright
+  -- any other for the new one.
+  pub others : (name : List ℕ) → ((rest : List ℕ) → name ≡ uprightWord ++ rest → ⊥) → hungBy name ≡ Hung.UpsideDown

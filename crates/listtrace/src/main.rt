@@ -1,4 +1,8 @@
 // The listing program: a trace from standard input, the frame that it leaves on the glass to standard output.
+mod arguments;
+
+use arguments::Asked;
+use arguments::start_asked;
 use bus::start::Hung;
 use constants::sizes::LONGEST_LISTING;
 use constants::sizes::LONGEST_TRACE;
@@ -6,16 +10,14 @@ use libc::STDERR_FILENO;
 use libc::STDOUT_FILENO;
 use standardinput::Input;
 use standardinput::read_input;
-use tracelisting::word::begins_with;
 
-// What the arguments ask for: a start, or nothing that the program knows.
-enum Asked {
-    Start(Hung),
-    Unknown,
-}
+// Room for the longest argument that is taken, and a byte more.
+const LONGEST_ARGUMENT: usize = 10;
 
 fn main() {
-    match start_asked() {
+    let mut word = [0u8; LONGEST_ARGUMENT];
+    let length = os::arg(1, &mut word);
+    match start_asked(os::arg_count(), &word[..length]) {
         Asked::Start(hung) => list_from(hung),
         Asked::Unknown => {
             io::write_all(
@@ -24,20 +26,6 @@ fn main() {
             );
         }
     }
-}
-
-// The start that the arguments ask for: none asks for that of a new cabinet, and `--upright` for that of an old one.
-fn start_asked() -> Asked {
-    let count = os::arg_count();
-    if count < 2 {
-        return Asked::Start(Hung::UpsideDown);
-    }
-    let mut word = [0u8; 10];
-    let length = os::arg(1, &mut word);
-    if count == 2 && length == 9 && begins_with(&word, b"--upright") {
-        return Asked::Start(Hung::Upright);
-    }
-    Asked::Unknown
 }
 
 // Reads the trace, and prints its listing from the start as the module hangs.

@@ -93,7 +93,7 @@ as-one trace c d =
     let one = ended Hung.UpsideDown trace in
     let other = ended Hung.Upright trace in
     let there : (place : ℕ) → getD (ranFromStart Hung.UpsideDown trace .state) place 0 ≡ getD (ranFromStart Hung.Upright trace .state) place 0 → getD (imageOf (one .state .registers)) place 0 ≡ getD (imageOf (other .state .registers)) place 0
-        = λ place e. sym (ap (λ r. getD (r .state) place 0) (ran-so Hung.UpsideDown trace)) ∙ e ∙ ap (λ r. getD (r .state) place 0) (ran-so Hung.Upright trace) in
+    = λ place e. sym (ap (λ r. getD (r .state) place 0) (ran-so Hung.UpsideDown trace)) ∙ e ∙ ap (λ r. getD (r .state) place 0) (ran-so Hung.Upright trace) in
     ran-so Hung.UpsideDown trace ∙
     ap (λ number. ran (stopOf number (one .offset) (one .count)) (imageOf (one .state .registers)) (one .state .memory)) (same .number) ∙
     ap (λ offset. ran (stopOf (other .number) offset (one .count)) (imageOf (one .state .registers)) (one .state .memory)) (same .offset) ∙
