@@ -478,9 +478,6 @@ def listing_lines(oracle, chance):
     number, offset, _ = map(int, oracle.told(oracle.ask("run", given=trace, upright=True))[0])
     said = quoted(oracle.ask("list", given=trace, upright=True))
     yield number, f"listing {number} {offset} (places {WIDTH * ROWS} {places_text(sum(rows, []))}) {said}"
-    turned = [row[::-1] for row in rows[ROWS - 2::-1] + rows[ROWS - 1:]]
-    said = quoted(oracle.ask("list", given=trace))
-    yield number, f"listing {number} {offset} (places {WIDTH * ROWS} {places_text(sum(turned, []))}) {said}"
 
 
 def stop_lines(oracle, traces):
