@@ -23,11 +23,12 @@ static const char usage[] =
   "                                       two are compared, tuned\n";
 
 static const struct model models[] = {
-  { "library", ssd1815b_command, ssd1815b_write, ssd1815b_read, ssd1815b_run,
-    ssd1815b_draw, ssd1815b_list, ssd1815b_compare_frames,
-    ssd1815b_compare_memories },
-  { "plain", plain_command, plain_write, plain_read, plain_run, plain_draw,
-    plain_list, plain_compare_frames, plain_compare_memories },
+  { "library", ssd1815b_start, ssd1815b_start_upright, ssd1815b_command,
+    ssd1815b_write, ssd1815b_read, ssd1815b_run, ssd1815b_draw, ssd1815b_list,
+    ssd1815b_compare_frames, ssd1815b_compare_memories },
+  { "plain", plain_start, plain_start_upright, plain_command, plain_write,
+    plain_read, plain_run, plain_draw, plain_list, plain_compare_frames,
+    plain_compare_memories },
   { .name = "tuned", .compare_frames = tuned_compare_frames,
     .compare_memories = tuned_compare_memories },
 };

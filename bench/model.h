@@ -8,6 +8,8 @@
 
 struct model {
   const char *name;
+  uint8_t (*start)(uint8_t *, size_t, uint8_t *, size_t);
+  uint8_t (*start_upright)(uint8_t *, size_t, uint8_t *, size_t);
   uint8_t (*command)(uint8_t *, size_t, const uint8_t *, size_t, uint8_t);
   uint8_t (*write)(uint8_t *, size_t, uint8_t *, size_t, uint8_t);
   uint8_t (*read)(uint8_t *, size_t, const uint8_t *, size_t, uint8_t *,

@@ -255,6 +255,22 @@ static size_t singles(void)
   return SINGLES;
 }
 
+/* ---- starts ---- */
+
+static void starts(const struct model *model)
+{
+  for (int i = 0; i < SINGLES; i++) {
+    taken(model->start(state, sizeof state, memory, sizeof memory));
+  }
+}
+
+static void starts_upright(const struct model *model)
+{
+  for (int i = 0; i < SINGLES; i++) {
+    taken(model->start_upright(state, sizeof state, memory, sizeof memory));
+  }
+}
+
 /* ---- two frames compared ---- */
 
 /* A second frame or memory to compare the first with, and their list. */
@@ -410,6 +426,8 @@ const struct workload workloads[] = {
   { "command call", "event", idle, single_commands, singles, false, NULL },
   { "write call", "event", idle, single_writes, singles, false, NULL },
   { "read call", "event", idle, single_reads, singles, false, NULL },
+  { "start", "start", idle, starts, singles, false, NULL },
+  { "start upright", "start", idle, starts_upright, singles, false, NULL },
   { "listing of letters", "text", drawn, list, one, false, NULL },
   { "frames: equal", "pair", equal_frames, compare_frames, one, true,
     frames_by_memcmp },
