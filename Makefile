@@ -24,10 +24,7 @@ ifeq ($(origin TRACE),undefined)
   TRACE   := traces/screens/weighing.trace
   UPRIGHT ?= yes
 endif
-ifneq ($(filter-out yes,$(UPRIGHT)),)
-  $(error UPRIGHT is yes or left out, not $(UPRIGHT))
-endif
-START := $(if $(UPRIGHT),--upright)
+START = $(if $(filter-out yes,$(UPRIGHT)),$(error UPRIGHT is yes or left out, not $(UPRIGHT)),$(if $(UPRIGHT),--upright))
 
 ifeq ($(shell uname -m),x86_64)
   NATIVE := yes
@@ -171,6 +168,7 @@ check-python:
 endif
 
 check-papers:
+	.ci/starts
 	.ci/papers
 	host/test/papers.sh
 	host/test/callers.sh

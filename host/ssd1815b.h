@@ -176,7 +176,9 @@ extern "C" {
 ** SSD1815B_COLUMN_DIRECTION and SSD1815B_ROW_DIRECTION are 1, and all else is
 ** as at power-on.  ssd1815b_start_upright() is for an old cabinet, and for
 ** what was recorded in one: all is as at power-on.  Up to version 4.2
-** ssd1815b_start() was that.
+** ssd1815b_start() was that: a program for old cabinets has to call
+** ssd1815b_start_upright() now.  One that is linked with the shared object has
+** the new start as soon as that is replaced, without being compiled again.
 **
 ** Both answer 0; or 1 if state is shorter than 23 or memory shorter than
 ** 1,188, and then nothing is written.

@@ -55,6 +55,37 @@ listed "${rows[@]}" "${rows[0]}"
 check 'two rows: status 1' status_is 1
 check 'two rows: said' out_is 'docs/STARTS.md has two rows of new.c'
 
+# taken LINE FILE START: a file of this line is a caller that takes this start.
+taken() {
+  mkdir -p "$(dirname "$house/$2")"
+  printf '%s\n' "$1" > "$house/$2"
+  listed "${rows[@]}"
+  check "taken: $1" out_is "docs/STARTS.md does not list $2, which takes the start: $3"
+  rm "$house/$2"
+}
+while IFS='~' read -r line file start; do taken "$line" "$file" "$start"; done <<'END'
+"$tool" list one.trace~a.sh~new
+"${tool[@]}" show --upright one.trace~a.sh~old
+run() { ran "${tool[@]}" "$@"; }~a.sh~new
+"$prefix/bin/ssd1815b" list < one.trace~a.sh~new
+"${make[@]}" show TRACE=one.trace~a.sh~new
+make -s show UPRIGHT=yes~a.sh~old
+	$(MAKE) show~Makefile~new
+    traces/typed.py mine.txt~a.md~new
+    target/bin/listtrace < one.trace~a.md~new
+"$listpack" < pack~a.sh~new
+subprocess.run([tool, "list", name])~a.py~new
+subprocess.run([oracle, "list", "--upright"])~a.py~old
+"$oracle" differ one.trace other.trace~a.sh~new
+$ ssd1815b picture -o one.png one.trace~a.1~new
+start_chip(hung, state, memory);~a.h~both
+uint8_t number = plain_start_upright(state, 23, memory, 1188);~a.cpp~old
+chip = Chip()~python/a.py~new
+chip = Chip(upright=True)~python/a.py~old
+let start = Start::UpsideDown;~oracle/a.rs~new
+sample = run (imageOf powerOn) zeros own~crates/one/specs/A.antt~old
+END
+
 # A second listing makes a folder both; a silent call makes an old caller both.
 touch "$house/traces/rules/a.list"
 listed "${rows[@]}"

@@ -16,7 +16,7 @@ static const char all[] =
   "Plays a trace of recorded bus traffic on a model of the SSD1815B, from\n"
   "power-on with zero memory, but with column and row direction 1, as new\n"
   "cabinets hang the module upside down.  A recording from an old cabinet\n"
-  "wants --upright, or its picture is turned by half a turn; COMMAND --help\n"
+  "wants --upright, or its picture may be turned or mirrored; COMMAND --help\n"
   "says more.  TRACE is a file of any length; without one, or with -, it is\n"
   "standard input.\n"
   "\n"
@@ -63,14 +63,15 @@ static const char after[] =
 static const char which_start[] =
   "\n"
   "Which start: the cabinet says, not the picture.  A recording from an old\n"
-  "one wants --upright, or it is printed turned by half a turn; what a reader\n"
-  "of a new one sees upright is printed so, as rows and columns are counted\n"
-  "on the module, and nothing turns it back.  Number, offset, memory and\n"
-  "bytes read are the same from either start.  The picture is too once a\n"
-  "reset record came, after which the screen is upright, or the trace has set\n"
-  "both directions, columns by A0 or A1, rows by C0 to CF.  E2 sets the row\n"
-  "direction alone, to 0: played upside down, the picture is mirrored then\n"
-  "until A0 or C8 comes.\n";
+  "one wants --upright.  Without it the picture is turned by half a turn, the\n"
+  "icon line mirrored in its place; where the trace has set the rows alone,\n"
+  "by E2 or C0 to CF, left and right are exchanged, and where it has set the\n"
+  "columns alone, by A0 or A1, top and bottom.  Once it has set both, or a\n"
+  "reset record came, the picture is the same from either start; number,\n"
+  "offset, memory and bytes read always are.  What a reader of a new cabinet\n"
+  "sees upright is printed turned by half a turn, as rows and columns are\n"
+  "counted on the module, and nothing turns it back.  The reset pin puts both\n"
+  "directions to 0; of the two, E2 puts the rows to 0 and leaves the columns.\n";
 
 /* For those that do not. */
 static const char either_start[] =

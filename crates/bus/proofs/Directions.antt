@@ -11,14 +11,14 @@ use lib.Seq.{getD-set-other}
 use Rattle.codes.specs.Table.{meaningOf}
 use Rattle.codes.specs.declared.Command.{Command}
 use Rattle.constants.specs.Numbers.{taken, readDiffers}
-use Rattle.constants.specs.Sizes.{imageSize, memorySize}
+use Rattle.constants.specs.Sizes.{memorySize}
 use Rattle.bus.specs.Places.{columnDirection, rowDirection, column, awaited, modify, saved, fresh}
-use Rattle.bus.specs.Registers.{imageOf, registersOf, powerOn, _with_≔_}
-use Rattle.bus.specs.Events.{numberOf, byteOf, dummyOf, commandTaken, enter, leave, obeyed, command, access, moved, silently, write, written, dummyRead, byteRead, read, resetPin}
+use Rattle.bus.specs.Registers.{imageOf, powerOn, _with_≔_}
+use Rattle.bus.specs.Events.{numberOf, byteOf, dummyOf, commandTaken, obeyed, command, access, moved, write, written, dummyRead, read, resetPin}
 use Rattle.bus.specs.Chip.{Chip, Event, commandByte, dataWritten, dataRead, resetPulse, step, registersAfter, chipAfter, afterEvents}
 use Rattle.bus.specs.Recorded.{Recorded, event, readAs, chipOf, happened, compared, replay}
 use Rattle.bus.specs.Result.{refuses, gives, Matches}
-use Rattle.bus.specs.Image.{short, Accepted}
+use Rattle.bus.specs.Image.{short}
 use Rattle.bus.specs.Start.{registersAtStart, memoryAtStart, startOf}
 use Rattle.bus.specs.Calls.{replyOf, call}
 use Rattle.bus.specs.Bytes.{All, IsByte}
@@ -192,7 +192,7 @@ module _ (r s : Registers) (same : SameButDirections r s) where
   answers : (what : Event) (memory : List ℕ) → Alike SameButDirections (step what r memory .answer) (step what s memory .answer)
   answers what memory = weaker Kept SameButDirections (λ one other so. so .0) (step what r memory .answer) (step what s memory .answer) (alike what memory)
 
-  same-answers : SameAnswers r s same
+  same-answers : SameAnswers r s
   same-answers = record {
     replies = λ what memory. same-reply SameButDirections (step what r memory .answer) (step what s memory .answer) (answers what memory);
     stores = stores;

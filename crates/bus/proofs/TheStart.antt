@@ -12,7 +12,7 @@ use Rattle.constants.specs.Sizes.{imageSize, memorySize}
 use Rattle.constants.specs.Numbers.{taken, tooShort}
 use Rattle.codes.specs.Table.{table, commandBy, commandOf, meaningOf}
 use Rattle.bus.specs.Places.{columnDirection, rowDirection}
-use Rattle.bus.specs.Registers.{imageOf, registersOf, ranges, powerOn, _with_≔_}
+use Rattle.bus.specs.Registers.{imageOf, ranges, powerOn, _with_≔_}
 use Rattle.bus.specs.Events.{obeyed, command, resetPin}
 use Rattle.bus.specs.Image.{short, stored}
 use Rattle.bus.specs.Start.{registersAtStart, memoryAtStart, Started, started, startOf}

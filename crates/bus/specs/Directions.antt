@@ -1,4 +1,4 @@
--- The two directions are for drawing alone: chips that differ in them and in nothing else meet every event alike. So a call after either start does, and a trace (trace/specs/EitherStart).
+-- The two directions are for drawing alone: chips that differ in them and in nothing else meet every event alike. So an event's call after either start does, and a trace (trace/specs/EitherStart).
 use Prim.Native.Nat.{ℕ}
 use mathlib.Core.Path.{_≡_}
 use mathlib.Core.Logic.{_↔_, _≢_}
@@ -42,7 +42,7 @@ abbrev pub fromStart : Hung → List Event → List ℕ → List ℕ → Lent
 fromStart hung events state memory = afterCalls events (startOf hung state memory .state) (startOf hung state memory .memory)
 
 -- Of registers that are the same but for the directions.
-pub record SameAnswers (r s : Registers) (same : SameButDirections r s) : Type 0 where
+pub record SameAnswers (r s : Registers) : Type 0 where
   -- Every event has one reply, number, byte and dummy mark, from both,
   pub replies : (event : Event) (memory : List ℕ) → replyOf (step event r memory .answer) ≡ replyOf (step event s memory .answer)
   -- leaves one memory,
@@ -59,7 +59,7 @@ pub record Directions : Type 0 where
   -- Registers are so exactly when their images agree at every place but the two.
   pub meaning : (r s : Registers) → SameButDirections r s ↔ ((place : ℕ) → place ≢ columnDirection → place ≢ rowDirection → getD (imageOf r) place 0 ≡ getD (imageOf s) place 0)
   -- They meet every event alike,
-  pub alike : (r s : Registers) (same : SameButDirections r s) → SameAnswers r s same
+  pub alike : (r s : Registers) → SameButDirections r s → SameAnswers r s
   -- and what was recorded, compared reads too.
   pub recorded : (what : Recorded) (c d : Chip) → SameChips c d → Matches SameChips (replay what c) (replay what d)
   -- A command that names a direction sets it, whatever it was: nothing is left of a difference there. After the reset pin nothing is left of either (TheStart `thePin`).

@@ -11,11 +11,11 @@ use libc::STDOUT_FILENO;
 use standardinput::Input;
 use standardinput::read_input;
 
-// Room for the longest argument that is taken, and a byte more.
-const LONGEST_ARGUMENT: usize = 10;
+// Room for the argument that is taken, and a byte more.
+const ARGUMENT_ROOM: usize = 10;
 
 fn main() {
-    let mut word = [0u8; LONGEST_ARGUMENT];
+    let mut word = [0u8; ARGUMENT_ROOM];
     let length = os::arg(1, &mut word);
     match start_asked(os::arg_count(), &word[..length]) {
         Asked::Start(hung) => list_from(hung),

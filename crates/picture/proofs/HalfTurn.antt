@@ -17,7 +17,7 @@ use Rattle.picture.specs.Scan.{ramRow, columnOf}
 use Rattle.picture.specs.Rows.{rowsInUse, rowsAbove}
 use Rattle.picture.specs.Frame.{shownBit, whileOn, segment}
 use Rattle.picture.specs.FrameRules.{comAt}
-use Rattle.picture.specs.HalfTurn.{upsideDown, upright, HalfTurn, HalfTurns}
+use Rattle.picture.specs.HalfTurn.{upsideDown, upright, HalfTurns}
 use Rattle.picture.specs.declared.rows.RamRow.{RamRow}
 use Rattle.picture.specs.declared.rows.Shown.{Shown}
 use Rattle.picture.proofs.Places.{frame-place}

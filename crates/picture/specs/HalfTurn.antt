@@ -1,4 +1,4 @@
--- Document 02, Order 3: the module that hangs upside down. Both directions turned are half a turn of the picture: exactly of the rows in use, and of all panel rows where their number is even and the offset is 0.
+-- Document 02, Order 3: the module that hangs upside down. Both directions turned are half a turn of the rows in use, and of all panel rows where M is even and the offset is 0; the icon line stays, mirrored.
 use Prim.Native.Nat.{ℕ, _+_, _-_, _%_, _<_}
 use mathlib.Core.Path.{_≡_}
 use mathlib.Core.Bool.{true}

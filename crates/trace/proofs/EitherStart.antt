@@ -21,7 +21,7 @@ use Rattle.bus.proofs.Directions.{directions}
 use Rattle.trace.specs.Records.{splitFrom, split}
 use Rattle.trace.specs.Play.{Played, played, playEvents, playRecord, playFrom, play}
 use Rattle.trace.specs.Kinds.{eventsOf, happened, replay, chipOf, theChip}
-use Rattle.trace.specs.Run.{Ran, ran, stopOf, ranOf, runOn, run}
+use Rattle.trace.specs.Run.{ran, stopOf, ranOf, runOn, run}
 use Rattle.trace.specs.AnyMachine.{further, SamePlay}
 use Rattle.trace.specs.EitherStart.{resetRecord, ranFromStart, EitherStart}
 use Rattle.trace.proofs.AnyMachine.{any-machine}

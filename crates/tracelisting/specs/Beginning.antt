@@ -1,4 +1,4 @@
--- The plain word by which the old start is asked for.
+-- Whether a text begins with a word, by which the old start is asked for.
 use Prim.Native.Nat.{ℕ}
 use mathlib.Core.Path.{_≡_}
 use mathlib.Core.Logic.{_↔_}

@@ -8,7 +8,7 @@ pub mod FinalFrame
 pub mod Sample
 -- what a buffer has then, by its length
 pub mod LentBuffer
--- the plain word by which the old start is asked for
+-- whether a text begins with a word
 pub mod Beginning
 -- one result for each call's statement
 pub mod Settled

@@ -1,4 +1,4 @@
-// The plain word by which the old start is asked for.
+// Whether a text begins with a word, by which the old start is asked for.
 ghost use mathlib.Core.Path.{_≡_};
 ghost use Rattle.tracelisting.specs.Beginning.{begins};
 
