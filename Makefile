@@ -102,7 +102,7 @@ help:
 	@echo 'make uninstall     removes just those files'
 	@echo 'make test          all tests of the C side and of python/: the next six'
 	@echo 'make compare       the library beside the oracle; SEED=2 TIMES=10 for more'
-	@echo 'make calls         the calls that the oracle has no cases for, where two screens differ, the header, the archive'
+	@echo 'make calls         the start calls, the calls that the oracle has no cases for, where two screens differ, the header, the archive'
 	@echo 'make check-tool    the tool: what it prints, and its status'
 	@echo 'make check-traces  every trace, yours in traces/recorded too: oracle beside the tool'
 	@echo 'make check-install an installation in an empty folder, and C programs built against it'
