@@ -240,7 +240,7 @@ events-same (what ∷ rest) c d same =
     (subst (λ m. SameChips (chipAfter what c) (chipAfter what (chipOf (d .registers) m))) (same .0)
     (stores (c .registers) (d .registers) (same .1) what (c .memory), left-alike (c .registers) (d .registers) (same .1) what (c .memory) .0))
 
-the-starts : SameButDirections (registersAtStart Hung.UpsideDown) (registersAtStart Hung.Upright)
+pub the-starts : SameButDirections (registersAtStart Hung.UpsideDown) (registersAtStart Hung.Upright)
 unfolding powerOn
 the-starts = refl
 

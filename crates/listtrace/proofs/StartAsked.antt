@@ -13,7 +13,7 @@ use Rattle.bus.specs.declared.start.Hung.{Hung}
 use Rattle.framelisting.specs.Ascii.{ascii}
 use Rattle.tracelisting.specs.Beginning.{begins}
 use Rattle.tracelisting.proofs.Beginning.{begins-so}
-use Rattle.listtrace.specs.StartAsked.{startAsked, upright, StartAsked}
+use Rattle.listtrace.specs.StartAsked.{startAsked, uprightArgument, StartAsked}
 use Rattle.listtrace.specs.declared.arguments.Asked.{Asked}
 
 -- nothing is left of a list of length 0
@@ -22,15 +22,15 @@ empty [] e = refl
 empty (a ∷ l) e = absurd (omega arith)
 
 -- a word of nine bytes that begins with `--upright` is that
-spelt : (word : List ℕ) → (eqb (length word) 9 && begins (ascii "--upright") word) ≡ true → word ≡ upright
+spelt : (word : List ℕ) → (eqb (length word) 9 && begins (ascii "--upright") word) ≡ true → word ≡ uprightArgument
 unfolding ascii
 spelt word e =
     let halves = both (eqb (length word) 9) (begins (ascii "--upright") word) e in
     let whole = begins-so (ascii "--upright") word .0 (halves .1) in
-    let rest = empty (whole .0) (omega (arith, eqb-true (length word) 9 (halves .0), ap length (whole .1) ∙ length-append upright (whole .0))) in
-    whole .1 ∙ ap (λ more. upright ++ more) rest
+    let rest = empty (whole .0) (omega (arith, eqb-true (length word) 9 (halves .0), ap length (whole .1) ∙ length-append uprightArgument (whole .0))) in
+    whole .1 ∙ ap (λ more. uprightArgument ++ more) rest
 
-other : (word : List ℕ) → (word ≡ upright → ⊥) → startAsked 2 word ≡ Asked.Unknown
+other : (word : List ℕ) → (word ≡ uprightArgument → ⊥) → startAsked 2 word ≡ Asked.Unknown
 unfolding startAsked
 other word n = by (eqb (length word) 9 && begins (ascii "--upright") word) refl
   where

@@ -18,14 +18,14 @@ startAsked count word =
     Asked.Unknown)
 
 -- `--upright`, in figures.
-abbrev pub upright : List ℕ
-upright = 0x2D ∷ 0x2D ∷ 0x75 ∷ 0x70 ∷ 0x72 ∷ 0x69 ∷ 0x67 ∷ 0x68 ∷ 0x74 ∷ []
+abbrev pub uprightArgument : List ℕ
+uprightArgument = 0x2D ∷ 0x2D ∷ 0x75 ∷ 0x70 ∷ 0x72 ∷ 0x69 ∷ 0x67 ∷ 0x68 ∷ 0x74 ∷ []
 
 pub record StartAsked : Type 0 where
   -- No argument: the new start.
   pub none : (count : ℕ) (word : List ℕ) → count < 2 → startAsked count word ≡ Asked.Start Hung.UpsideDown
   -- One argument, `--upright`: the old one.
-  pub named : startAsked 2 upright ≡ Asked.Start Hung.Upright
+  pub named : startAsked 2 uprightArgument ≡ Asked.Start Hung.Upright
   -- Anything else is not known.
-  pub other : (word : List ℕ) → (word ≡ upright → ⊥) → startAsked 2 word ≡ Asked.Unknown
+  pub other : (word : List ℕ) → (word ≡ uprightArgument → ⊥) → startAsked 2 word ≡ Asked.Unknown
   pub more : (count : ℕ) (word : List ℕ) → 3 ≤ count → startAsked count word ≡ Asked.Unknown

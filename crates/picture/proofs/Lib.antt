@@ -33,4 +33,4 @@ pub mod Flipped
 -- demand 3
 pub mod Demand3
 -- Order 3: demand 3 speaks of either start
-pub mod EitherStart
+pub mod FullAtStart

@@ -17,7 +17,7 @@ use Rattle.bus.specs.Directions.{SameButDirections, SameChips}
 use Rattle.bus.specs.declared.registers.Registers.{Registers}
 use Rattle.bus.specs.declared.image.Asked.{Asked}
 use Rattle.bus.specs.declared.start.Hung.{Hung}
-use Rattle.bus.proofs.Directions.{directions}
+use Rattle.bus.proofs.Directions.{the-starts, directions}
 use Rattle.trace.specs.Records.{splitFrom, split}
 use Rattle.trace.specs.Play.{Played, played, playEvents, playRecord, playFrom, play}
 use Rattle.trace.specs.Kinds.{eventsOf, happened, replay, chipOf, theChip}
@@ -37,7 +37,8 @@ begun hung = chipOf (registersAtStart hung) memoryAtStart
 abbrev ended : Hung → List ℕ → Played Chip
 ended hung trace = play theChip (split trace) (begun hung)
 
-found : (hung : Hung) → asked (imageOf (registersAtStart hung)) memoryAtStart ≡ Asked.Found (registersAtStart hung)
+-- the image that a run from the start asks first is found legal
+pub found : (hung : Hung) → asked (imageOf (registersAtStart hung)) memoryAtStart ≡ Asked.Found (registersAtStart hung)
 unfolding powerOn largestValues within awaitedCodes legal short asked
 found Hung.UpsideDown = refl
 found Hung.Upright = refl
@@ -49,10 +50,6 @@ image-stored hung r = refl
 ran-so : (hung : Hung) (trace : List ℕ) → ranFromStart hung trace ≡ ran (stopOf (ended hung trace .number) (ended hung trace .offset) (ended hung trace .count)) (imageOf (ended hung trace .state .registers)) (ended hung trace .state .memory)
 unfolding ranFromStart run runOn ranOf
 ran-so hung trace = rw (found hung, image-stored hung (ended hung trace .state .registers)) refl
-
-the-starts : SameButDirections (registersAtStart Hung.UpsideDown) (registersAtStart Hung.Upright)
-unfolding powerOn
-the-starts = refl
 
 both : (trace : List ℕ) → SamePlay SameChips (ended Hung.UpsideDown trace) (ended Hung.Upright trace)
 both trace = alike trace memoryAtStart (registersAtStart Hung.UpsideDown) (registersAtStart Hung.Upright) the-starts

@@ -7,9 +7,9 @@ use Prim.Native.Nat.{ℕ}
 use lib.Dec.{ltb}
 use lib.ListN.{length, replicate}
 use Rattle.constants.specs.Sizes.{frameSize, longestTrace}
-use Rattle.bus.specs.Registers.{largestValues, powerOn, imageOf, registersOf}
+use Rattle.bus.specs.Registers.{imageOf, registersOf}
 use Rattle.bus.specs.Chip.{Chip}
-use Rattle.bus.specs.Image.{within, awaitedCodes, legal, short, asked}
+use Rattle.bus.specs.Image.{asked}
 use Rattle.bus.specs.Start.{registersAtStart, memoryAtStart}
 use Rattle.bus.specs.declared.image.Asked.{Asked}
 use Rattle.bus.specs.declared.start.Hung.{Hung}
@@ -23,16 +23,11 @@ use Rattle.trace.proofs.RunOnLent.{run-legal}
 use Rattle.picture.specs.Frame.{frame}
 use Rattle.picture.specs.Draw.{drawOn, draw}
 use Rattle.trace.specs.EitherStart.{resetRecord, ranFromStart}
-use Rattle.trace.proofs.EitherStart.{either-start}
+use Rattle.trace.proofs.EitherStart.{found, either-start}
 use Rattle.tracelisting.specs.TraceListing.{frameAfter, listingOfTrace, textFor}
 use Rattle.framelisting.specs.Ascii.{ascii}
 use Rattle.framelisting.specs.Text.{listingOf}
 use Rattle.tracelisting.specs.FinalFrame.{FinalFrames, ListedAfterThePin}
-
-found : (hung : Hung) → asked (imageOf (registersAtStart hung)) memoryAtStart ≡ Asked.Found (registersAtStart hung)
-unfolding powerOn largestValues within awaitedCodes legal short asked
-found Hung.UpsideDown = refl
-found Hung.Upright = refl
 
 abbrev played : Hung → List ℕ → Chip
 played hung trace = play theChip (split trace) (chipOf (registersAtStart hung) memoryAtStart) .state

@@ -48,6 +48,17 @@ fn commands(bytes: &[u8]) -> Vec<u8> {
 
 const RESET_RECORD: [u8; 4] = [0x00, 0x00, 0x04, 0x00];
 
+/// A trace lists these rows from the new start, and those from the old one.
+fn lists(trace: &[u8], upside_down: &str, upright: &str) {
+    let expected = |rows: &str| format!("frame 132 65\n{rows}end\n");
+    assert_eq!(
+        listing_upside_down(trace),
+        expected(upside_down),
+        "{trace:02X?}"
+    );
+    assert_eq!(listing(trace), expected(upright), "{trace:02X?}");
+}
+
 /// Turns before document 01's trace, and the rows that are lit from the new
 /// start and from the old.
 #[test]
@@ -87,13 +98,7 @@ fn turns_before_the_drawing() {
         ([RESET_RECORD.to_vec(), commands(&[0xC8])].concat(), NT, NT),
     ] {
         let trace = [&turns[..], &DOCUMENT_TRACE].concat();
-        let expected = |rows: &str| format!("frame 132 65\n{rows}end\n");
-        assert_eq!(
-            listing_upside_down(&trace),
-            expected(upside_down),
-            "{turns:02X?}"
-        );
-        assert_eq!(listing(&trace), expected(upright), "{turns:02X?}");
+        lists(&trace, upside_down, upright);
     }
 }
 
@@ -122,13 +127,7 @@ fn turns_after_the_drawing() {
         (commands(&[0x81, 0xE2]), TT, NN),
     ] {
         let trace = [&DOCUMENT_TRACE, &turns[..]].concat();
-        let expected = |rows: &str| format!("frame 132 65\n{rows}end\n");
-        assert_eq!(
-            listing_upside_down(&trace),
-            expected(upside_down),
-            "{turns:02X?}"
-        );
-        assert_eq!(listing(&trace), expected(upright), "{turns:02X?}");
+        lists(&trace, upside_down, upright);
     }
 }
 

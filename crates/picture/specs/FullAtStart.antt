@@ -5,5 +5,5 @@ use Rattle.bus.specs.Start.{registersAtStart}
 use Rattle.bus.specs.declared.start.Hung.{Hung}
 use Rattle.picture.specs.Demand3.{Full}
 
-abbrev pub EitherStart : Type 0
-EitherStart = (hung : Hung) → Full (registersAtStart hung with on ≔ 1)
+abbrev pub FullAtStart : Type 0
+FullAtStart = (hung : Hung) → Full (registersAtStart hung with on ≔ 1)

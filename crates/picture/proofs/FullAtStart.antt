@@ -4,9 +4,9 @@ use mathlib.Core.Path.{refl}
 use Rattle.bus.specs.Registers.{ranges, largestValues, powerOn}
 use Rattle.bus.specs.Image.{within, awaitedCodes, legal}
 use Rattle.bus.specs.declared.start.Hung.{Hung}
-use Rattle.picture.specs.EitherStart.{EitherStart}
+use Rattle.picture.specs.FullAtStart.{FullAtStart}
 
-pub either-start : EitherStart
+pub full-at-start : FullAtStart
 unfolding ranges largestValues powerOn within awaitedCodes legal
-either-start Hung.UpsideDown = record { inRange = refl; allRows = refl; on = refl; notLit = refl }
-either-start Hung.Upright = record { inRange = refl; allRows = refl; on = refl; notLit = refl }
+full-at-start Hung.UpsideDown = record { inRange = refl; allRows = refl; on = refl; notLit = refl }
+full-at-start Hung.Upright = record { inRange = refl; allRows = refl; on = refl; notLit = refl }
