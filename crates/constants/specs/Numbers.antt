@@ -51,3 +51,11 @@ listTooSmall = 11
 -- a byte of a compared frame is above 1
 abbrev pub frameByteAbove : ℕ
 frameByteAbove = 12
+
+-- a selection that is not left, right or both: a select payload, or a call's, that is not one byte of 1 to 3
+abbrev pub noSelection : ℕ
+noSelection = 13
+
+-- a read with both chips selected
+abbrev pub bothSelected : ℕ
+bothSelected = 14

@@ -37,6 +37,14 @@ frameRows = height + 1
 abbrev pub frameSize : ℕ
 frameSize = frameRows * width
 
+-- places of each row of the wide frame, 264: the left chip's, then the right chip's
+abbrev pub wideWidth : ℕ
+wideWidth = width + width
+
+-- bytes of the wide frame, 17,160
+abbrev pub wideFrameSize : ℕ
+wideFrameSize = frameRows * wideWidth
+
 -- bytes of a record's header in a trace
 abbrev pub headerSize : ℕ
 headerSize = 4
@@ -48,6 +56,10 @@ longestTrace = 65536
 -- bytes of the longest listing: a buffer of that length is enough for any
 abbrev pub longestListing : ℕ
 longestListing = 27408
+
+-- bytes of the longest listing of a wide frame
+abbrev pub longestWideListing : ℕ
+longestWideListing = 61728
 
 -- bytes of an entry in the list of differing runs of two frames
 abbrev pub frameEntrySize : ℕ

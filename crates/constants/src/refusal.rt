@@ -25,3 +25,7 @@ pub const READ_DIFFERS: u8 = 10;
 pub const LIST_TOO_SMALL: u8 = 11;
 // A byte of a compared frame is above 1.
 pub const FRAME_BYTE_ABOVE: u8 = 12;
+// A selection that is not left, right or both: a select payload, or a call's, that is not one byte of 1 to 3.
+pub const NO_SELECTION: u8 = 13;
+// A read with both chips selected.
+pub const BOTH_SELECTED: u8 = 14;

@@ -18,12 +18,18 @@ pub const HEIGHT: u8 = 64;
 pub const FRAME_ROWS: usize = 65;
 // Bytes of the frame.
 pub const FRAME_SIZE: usize = 8580;
+// Places of each row of the wide frame: the left chip's, then the right chip's.
+pub const WIDE_WIDTH: usize = 264;
+// Bytes of the wide frame.
+pub const WIDE_FRAME_SIZE: usize = 17160;
 // Bytes of a record's header in a trace.
 pub const HEADER_SIZE: usize = 4;
 // Bytes of the longest trace that the listing program takes.
 pub const LONGEST_TRACE: usize = 65536;
 // Bytes of the longest listing: a buffer of that length is enough for any.
 pub const LONGEST_LISTING: usize = 27408;
+// Bytes of the longest listing of a wide frame.
+pub const LONGEST_WIDE_LISTING: usize = 61728;
 // Bytes of an entry in the list of differing runs of two frames.
 pub const FRAME_ENTRY_SIZE: usize = 5;
 // Bytes of an entry in the list of differing bytes of two memories.
