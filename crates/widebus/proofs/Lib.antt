@@ -1,0 +1,2 @@
+-- what is asked first
+pub mod Asking

@@ -1,0 +1,3 @@
+// The bus of the wide terminal: two chips, and a selection that says which of them an event is for.
+pub mod both;
+pub mod selection;
