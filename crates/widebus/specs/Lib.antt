@@ -5,3 +5,5 @@ pub mod Selection
 pub mod Pair
 -- refusals 1 and 2 for two chips
 pub mod Asked
+-- the page that is handed back
+pub mod Page

@@ -1,3 +1,4 @@
 // The bus of the wide terminal: two chips, and a selection that says which of them an event is for.
 pub mod both;
+pub mod page;
 pub mod selection;
