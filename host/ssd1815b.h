@@ -16,6 +16,9 @@
 **   trace    recorded bus traffic, any number of bytes
 **   list     where two frames or two memories differ, entry by entry
 **
+** A wide terminal has two chips side by side; its calls, ssd1815b_wide_..., are
+** lent a state and a memory for each, and stand at the end of this file.
+**
 ** A typical host:
 **
 **     uint8_t state[SSD1815B_STATE_SIZE];
@@ -75,8 +78,8 @@ extern "C" {
 ** As text, and as the number 1000000 * major + 1000 * minor + patch, so that
 ** a program can ask `#if SSD1815B_VERSION_NUMBER >= 4000000`.
 */
-#define SSD1815B_VERSION         "4.3.0"
-#define SSD1815B_VERSION_NUMBER  4003000
+#define SSD1815B_VERSION         "4.4.0"
+#define SSD1815B_VERSION_NUMBER  4004000
 
 /*
 ** Sizes
@@ -99,6 +102,10 @@ extern "C" {
 #define SSD1815B_FRAME_SIZE   8580
 #define SSD1815B_TEXT_SIZE    27408  /* holds every listing (proved) */
 
+#define SSD1815B_WIDE_COLUMNS     264    /* the left chip's, then the right's */
+#define SSD1815B_WIDE_FRAME_SIZE  17160
+#define SSD1815B_WIDE_TEXT_SIZE   61728  /* holds every wide listing (proved) */
+
 #define SSD1815B_FRAME_ENTRY_SIZE   5  /* of a list of differing runs */
 #define SSD1815B_MEMORY_ENTRY_SIZE  4  /* of a list of differing bytes */
 #define SSD1815B_FRAME_LIST_SIZE    42900  /* holds every such list (proved) */
@@ -111,10 +118,11 @@ extern "C" {
 ** 0 to 5, a data byte 0 to 2, 6 and 7, the reset pin 0 and 1), the run any
 ** of these up to 10, drawing and the power state 0 to 2, starting and listing
 ** 0 and 1, the record at an offset 0 and 8, comparing frames 0, 1, 11 and 12,
-** comparing memories 0, 1 and 11.
+** comparing memories 0, 1 and 11.  A wide call answers what its narrow one
+** does, and of 13 and 14 those that it says.
 **
 ** Where several reasons hold, the lower of 1 and 2 goes first; then 8 before
-** 9; then 6 before 7 before 10; and 1 before 12 before 11.
+** 9 and 13; then 14 before 6 before 7 before 10; and 1 before 12 before 11.
 */
 #define SSD1815B_TAKEN          0
 #define SSD1815B_TOO_SHORT      1  /* state, memory, frame or text is shorter
@@ -132,6 +140,10 @@ extern "C" {
 #define SSD1815B_READ_DIFFERS  10  /* the byte read is not the recorded one */
 #define SSD1815B_LIST_TOO_SMALL    11  /* too small for all entries */
 #define SSD1815B_FRAME_BYTE_ABOVE  12  /* a byte of a frame is above 1 */
+#define SSD1815B_NO_SELECTION      13  /* not left, right or both: a select
+                                       ** record's payload, or what a wide call
+                                       ** is given */
+#define SSD1815B_BOTH_SELECTED     14  /* a read with both chips selected */
 
 /*
 ** The state image
@@ -481,6 +493,171 @@ uint8_t ssd1815b_compare_memories(
   const uint8_t *second, size_t second_len,
   uint8_t *list, size_t list_len,          /* written if 0 */
   size_t *count                            /* OUT: entries */
+);
+
+/*
+** The wide terminal
+**
+** Two chips side by side on one bus, 264 dots wide.  Each has a state and a
+** memory of its own, and a selection says which of them an event is for:
+*/
+#define SSD1815B_LEFT   1
+#define SSD1815B_RIGHT  2
+#define SSD1815B_BOTH   3
+
+/*
+** Every wide call is lent what both chips have, and asks all of it: 1 if
+** either state is shorter than 23 or either memory shorter than 1,188, and then
+** 2 if either image is out of its ranges, whichever chips are selected.  (A
+** pulse on the reset pin asks no 2, the page call is lent no state.)
+**
+** A terminal starts as its two chips do: call ssd1815b_start(), or
+** ssd1815b_start_upright() for an old cabinet, once for each.  The library does
+** not keep the selection; the host passes it to each event.
+**
+** Commands, writes and the reset pin go to each selected chip.  If any selected
+** chip refuses, neither changes; the number is that of the one that refuses,
+** and the left's where both do.  A chip that is not selected never changes.
+*/
+
+/*
+** A command byte, a data byte written, a pulse on the reset pin
+**
+** For each selected chip what ssd1815b_command(), ssd1815b_write() and
+** ssd1815b_reset() do for one.
+**
+** Each answers 0 with what the selected chips are then in their states and
+** memories; or 1 or 2, as above; or 13 if selection is none of 1 to 3; or the
+** number of a selected chip, 3 to 5 for a command byte, 6 or 7 for a data byte;
+** and then nothing is written.
+*/
+uint8_t ssd1815b_wide_command(
+  uint8_t *left_state, size_t left_state_len,           /* written if 0 */
+  const uint8_t *left_memory, size_t left_memory_len,
+  uint8_t *right_state, size_t right_state_len,         /* written if 0 */
+  const uint8_t *right_memory, size_t right_memory_len,
+  uint8_t selection,                       /* SSD1815B_LEFT, _RIGHT or _BOTH */
+  uint8_t byte
+);
+uint8_t ssd1815b_wide_write(
+  uint8_t *left_state, size_t left_state_len,           /* written if 0 */
+  uint8_t *left_memory, size_t left_memory_len,         /* written if 0 */
+  uint8_t *right_state, size_t right_state_len,         /* written if 0 */
+  uint8_t *right_memory, size_t right_memory_len,       /* written if 0 */
+  uint8_t selection,
+  uint8_t byte
+);
+uint8_t ssd1815b_wide_reset(
+  uint8_t *left_state, size_t left_state_len,           /* written if 0 */
+  const uint8_t *left_memory, size_t left_memory_len,
+  uint8_t *right_state, size_t right_state_len,         /* written if 0 */
+  const uint8_t *right_memory, size_t right_memory_len,
+  uint8_t selection
+);
+
+/*
+** A data byte read
+**
+** From the one selected chip, as ssd1815b_read() does.  With both selected it
+** is refused: two chips would drive one bus.
+**
+** Answers 0 with the new image in that chip's state; or 1 or 2, as above; or 13
+** if selection is none of 1 to 3; or 14 if it is both; or 6 or 7; and then no
+** state is written.  *byte and *dummy are always written, both 0 on a refusal.
+*/
+uint8_t ssd1815b_wide_read(
+  uint8_t *left_state, size_t left_state_len,           /* written if 0 */
+  const uint8_t *left_memory, size_t left_memory_len,
+  uint8_t *right_state, size_t right_state_len,         /* written if 0 */
+  const uint8_t *right_memory, size_t right_memory_len,
+  uint8_t selection,
+  uint8_t *byte,                                        /* OUT */
+  uint8_t *dummy                                        /* OUT */
+);
+
+/*
+** Recorded bus traffic of a wide terminal
+**
+** As ssd1815b_run(), with one kind of record more:
+**
+**   kind 5   a select record, length 1: 1 selects left, 2 right, 3 both
+**
+** Each run starts with both selected; the reset pin keeps the selection.  The
+** next run starts with both again, whatever this one ended with: to run a long
+** trace in parts, cut it where both are selected, or begin the next part with a
+** select record.  A trace without select records and reads does to both chips
+** what ssd1815b_run() does to one, up to the first byte that either refuses.
+**
+** Answers as ssd1815b_run() does, and:
+**
+**   13        a select record's payload is not one byte of 1 to 3; *offset is
+**             that of the record's first byte, as for 8 and 9
+**   14        a read with both selected; *offset is that of the recorded byte.
+**             A read record of length 0 reads nothing, and is taken
+*/
+uint8_t ssd1815b_wide_run(
+  uint8_t *left_state, size_t left_state_len,           /* read and written */
+  uint8_t *left_memory, size_t left_memory_len,         /* read and written */
+  uint8_t *right_state, size_t right_state_len,         /* read and written */
+  uint8_t *right_memory, size_t right_memory_len,       /* read and written */
+  const uint8_t *trace, size_t trace_len,
+  size_t *offset,                                       /* OUT */
+  size_t *count                                         /* OUT */
+);
+
+/*
+** The wide frame
+**
+** Draws what both halves show into the first 17,160 bytes of frame: row r,
+** place x at 264r + x; places 0 to 131 of each row are the left chip's frame,
+** 132 to 263 the right chip's.
+**
+** Answers 0; or 1 if a state, a memory or frame is too short, or 2 if either
+** image is out of its ranges, and then nothing is written.
+*/
+uint8_t ssd1815b_wide_draw(
+  const uint8_t *left_state, size_t left_state_len,
+  const uint8_t *left_memory, size_t left_memory_len,
+  const uint8_t *right_state, size_t right_state_len,
+  const uint8_t *right_memory, size_t right_memory_len,
+  uint8_t *frame, size_t frame_len                      /* written if 0 */
+);
+
+/*
+** One page of a chip's memory
+**
+** Says where a page lies in the caller's own buffer; nothing is copied.  Its
+** 132 bytes are
+**
+**     (side == SSD1815B_LEFT ? left_memory : right_memory) + place
+**
+** Answers 0 with *place, 132 * page, and *length, 132; or 1 if either memory is
+** shorter than 1,188; or 13 if side is neither SSD1815B_LEFT nor
+** SSD1815B_RIGHT; or 4 if page is above 8; and then *place and *length are 0.
+*/
+uint8_t ssd1815b_wide_page(
+  const uint8_t *left_memory, size_t left_memory_len,
+  const uint8_t *right_memory, size_t right_memory_len,
+  uint8_t side,                               /* SSD1815B_LEFT or _RIGHT */
+  uint8_t page,
+  size_t *place,                                        /* OUT */
+  size_t *length                                        /* OUT: 132, or 0 */
+);
+
+/*
+** A wide frame as text
+**
+** As ssd1815b_list(), of a frame of 17,160 bytes, 264 to a row: the text begins
+** with `frame 264 65`, and runs cross the middle.  Answers 1 if frame is
+** shorter than 17,160 or text shorter than the listing, which a text of
+** SSD1815B_WIDE_TEXT_SIZE bytes never is.
+*/
+uint8_t ssd1815b_wide_list(
+  uint8_t number,
+  size_t offset,
+  const uint8_t *frame, size_t frame_len,
+  uint8_t *text, size_t text_len,                       /* written if 0 */
+  size_t *length                                        /* OUT: bytes of text */
 );
 
 #ifdef __cplusplus
