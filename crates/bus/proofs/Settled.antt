@@ -45,6 +45,7 @@ settled = record {
   «Registers::reset_pin» = λ self. equation _;
   «Registers::write» = λ self memory byte. two-equations _ _;
   «Registers::read» = λ self memory. equation _;
+  «Registers::access» = λ self memory. equation _;
   «Registers::store» = λ self state. equation _;
   «Registers::image» = λ self. equation _;
   «Registers::power_on» = equation _;

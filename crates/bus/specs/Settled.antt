@@ -8,7 +8,7 @@ use Rattle.constants.specs.Settles.{Settles}
 use Rattle.bus.specs.Places.{column, fresh}
 use Rattle.bus.specs.Registers.{imageOf, _with_≔_, powerOn, powerState}
 use Rattle.bus.specs.Memory.{kept}
-use Rattle.bus.specs.Events.{command, write, written, read, resetPin}
+use Rattle.bus.specs.Events.{access, command, write, written, read, resetPin}
 use Rattle.bus.specs.Chip.{commandByte, dataWritten, dataRead, resetPulse}
 use Rattle.bus.specs.Recorded as recorded
 use Rattle.bus.specs.Recorded.{chipOf, replay}
@@ -35,6 +35,7 @@ pub record Settled : Type 0 where
   pub «Registers::reset_pin» : (self : Registers) → Settles (λ (r : Answer). r ≡ resetPin self)
   pub «Registers::write» : (self : Registers) (memory : List ℕ) (byte : ℕ) → Settles (λ (o : Answer × List ℕ). (o .0 ≡ write self (length memory)) × (o .1 ≡ written byte self memory))
   pub «Registers::read» : (self : Registers) (memory : List ℕ) → Settles (λ (r : Answer). r ≡ read self memory)
+  pub «Registers::access» : (self : Registers) (memory : ℕ) → Settles (λ (r : ℕ). r ≡ access self memory)
   pub «Registers::store» : (self : Registers) (state : List ℕ) → Settles (λ (later : List ℕ). later ≡ stored self state)
   pub «Registers::image» : (self : Registers) → Settles (λ (r : List ℕ). r ≡ imageOf self)
   pub «Registers::power_on» : Settles (λ (r : Registers). r ≡ powerOn)

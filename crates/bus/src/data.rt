@@ -76,7 +76,7 @@ impl Registers {
     }
 
     // What a data write or read meets, at a memory of so many bytes: 1 and 2 as far as it uses them, then 6, then 7.
-    fn access(self, memory: usize) -> u8
+    pub fn access(self, memory: usize) -> u8
         ensures { λ r. ⌜ r ≡ access self memory ⌝ }
     {
         if memory < MEMORY_SIZE {

@@ -2,3 +2,9 @@
 pub mod Asking
 -- the page that is handed back
 pub mod Pages
+-- stretches on a pair of machines
+pub mod Stretches
+-- data bytes written are all taken where one is
+pub mod Writes
+-- stretches on the selected chips
+pub mod Selected

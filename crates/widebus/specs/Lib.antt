@@ -5,5 +5,11 @@ pub mod Selection
 pub mod Pair
 -- refusals 1 and 2 for two chips
 pub mod Asked
+-- what an event does to the selected chips
+pub mod Events
+-- the whole outcome of a call
+pub mod WideCalls
+-- a stretch as the code has it
+pub mod WideStretch
 -- the page that is handed back
 pub mod Page

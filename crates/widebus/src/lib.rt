@@ -2,3 +2,4 @@
 pub mod both;
 pub mod page;
 pub mod selection;
+pub mod stretch;
