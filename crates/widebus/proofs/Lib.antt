@@ -8,3 +8,9 @@ pub mod Stretches
 pub mod Writes
 -- stretches on the selected chips
 pub mod Selected
+-- the call of one chip
+pub mod OneChip
+-- the call for the selected chips
+pub mod Conclusions
+-- how the calls of the code end
+pub mod CallCode
