@@ -41,6 +41,12 @@ ends events c s memory h offset = ap (λ r. endingAt offset r) h ∙ sym (are-st
 pub takes : (events : List Recorded) (c : Chip) (s : Stretch) (memory : List ℕ) → stretchOf s memory ≡ stretch replay events c → s .count ≤ length events
 takes events c s memory h = omega (arith, ap (λ r. r .count) h, stretches replay .within events c)
 
+-- the part of a trace from one offset to another
+pub part-slice : (trace : List ℕ) (from to : ℕ) → from ≤ to → to ≤ length trace → take (to - from) (drop from trace) ≡ slice from to trace
+part-slice trace from to order fits =
+    let whole : from + (to - from) ≡ to = omega arith in
+    sym (drop-at (take from trace) (take (to - from) (drop from trace)) from (length-take-le from trace (omega arith))) ∙ ap (drop from) (sym (take-add from (to - from) trace) ∙ rw whole)
+
 -- the code's stretch of the bytes from one offset of a trace to another
 module _ (means : ℕ → Recorded) (trace : List ℕ) (from to : ℕ) (order : from ≤ to) (fits : to ≤ length trace) (c : Chip) (s : Stretch) (memory : List ℕ) (h : stretchOf s memory ≡ stretch replay (map means (take (to - from) (drop from trace))) c) where
   -- it does not go past its end
@@ -51,9 +57,4 @@ module _ (means : ℕ → Recorded) (trace : List ℕ) (from to : ℕ) (order : 
       omega (arith, takes (map means part) c s memory h, length-map part means, size)
 
   pub ends-there : endingOf (record { registers = s .registers; number = s .number; offset = from + s .count }) memory ≡ playEvents theChip (map means (slice from to trace)) from c
-  ends-there = rw (sym same) (ends _ c s memory h from)
-    where
-      same : take (to - from) (drop from trace) ≡ slice from to trace
-      same =
-          let whole : from + (to - from) ≡ to = omega arith in
-          sym (drop-at (take from trace) (take (to - from) (drop from trace)) from (length-take-le from trace (omega arith))) ∙ ap (drop from) (sym (take-add from (to - from) trace) ∙ rw whole)
+  ends-there = rw (sym (part-slice trace from to order fits)) (ends _ c s memory h from)
