@@ -1,30 +1,26 @@
--- Two listings that are equal are of one number, of one offset where the run stopped, and of one frame: read from the left, each piece tells what it is of.
+-- Two listings that are equal are of one width, of one number, of one offset where the run stopped, and of one frame: read from the left, each piece tells what it is of.
 -- Assumes nothing.
 use Prim.Native.Nat.{ℕ, zero, suc, _+_, _*_, _/_, _%_, _^_, _≤_, _<_}
 use mathlib.Core.Path.{_≡_, refl, sym, _∙_, ap, ap₂}
 use mathlib.Core.Bool.{Bool, true, false, false≢true}
 use mathlib.Core.List.{List, [], _∷_, _++_, append-assoc}
 use mathlib.Core.Logic.{⊎-elim}
-use native.Mathlib.Nat.{eq-or-lt-of-le}
+use native.Mathlib.Nat.{eq-or-lt-of-le, mod-lt, div-add-mod', div-lt-iff-lt-mul}
 use native.Mathlib.Omega.{arith}
 use borrow.Author.Tests.{eqb-true, eqb-false, ne-eqb}
 use lib.Dec.{eqb, lit<, lit≤}
 use lib.ListN.{length, length-take, getD, take, drop}
 use lib.Seq.{getD-take, getD-drop, ext-getD}
-use Rattle.constants.specs.Sizes.{width, frameRows}
+use Rattle.constants.specs.Sizes.{frameRows}
 use Rattle.framelisting.specs.Ascii.{ascii}
 use Rattle.framelisting.specs.Decimal.{decimal}
 use Rattle.framelisting.specs.Runs.{Run, lit, anyLit, leading, runsFrom, runs}
-use Rattle.framelisting.specs.Text.{runText, runsText, line, rowOf, lines, frameText, refusedText, listingOf}
+use Rattle.framelisting.specs.Text.{runText, runsText, line, rowOf, lines, frameText, refusedText}
 use Rattle.framelisting.specs.EqualListings.{AsDrawn, EqualListings}
 use Rattle.framelisting.proofs.PlainDecimal.{Stop, number-first, digit-first}
 use Rattle.framelisting.proofs.AlongRow.{leading-length}
 use Rattle.framelisting.proofs.LongestRuns.{runs-are, no-runs}
-use Rattle.framelisting.proofs.LengthsOfText.{taken-nothing}
-
-cancel : (p s t : List ℕ) → p ++ s ≡ p ++ t → s ≡ t
-cancel [] s t e = e
-cancel (b ∷ p) s t e = cancel p s t (ap (drop 1) e)
+use Rattle.framelisting.proofs.LengthsOfText.{header-pieces, taken-nothing}
 
 -- the places of the runs are numbers of the machine
 abbrev Small : List Run → Type 0
@@ -139,19 +135,26 @@ place : (w : ℕ) (frame : List ℕ) (p x : ℕ) → x < w → getD (rowOf w fra
 unfolding rowOf
 place w frame p x h = getD-take w (drop (p * w) frame) x 0 h ∙ getD-drop (p * w) frame x 0
 
--- a frame's text tells the lit places
-header : List ℕ
-header = ascii "frame " ++ decimal width ++ ascii " " ++ decimal frameRows ++ ascii "\n"
+-- a frame's text, piece by piece
+frame-first : (w : ℕ) (frame : List ℕ) → frameText w frameRows frame ≡ ascii "frame " ++ (decimal w ++ (ascii " 65\n" ++ (lines w frame frameRows 0 ++ ascii "end\n")))
+unfolding frameText
+frame-first w frame = rw (header-pieces w) (simp append-assoc)
 
-frame-first : (frame : List ℕ) → frameText width frameRows frame ≡ header ++ (lines width frame frameRows 0 ++ ascii "end\n")
-unfolding frameText header
-frame-first frame = append-assoc header (lines width frame frameRows 0) (ascii "end\n")
+-- and it tells the width and the lit places
+frame-tells : (w v : ℕ) (f g : List ℕ) → w < 2 ^ 64 → v < 2 ^ 64 → frameText w frameRows f ≡ frameText v frameRows g → (w ≡ v) × ((p x : ℕ) → p < frameRows → x < w → lit (getD f (p * w + x) 0) ≡ lit (getD g (p * w + x) 0))
+unfolding ascii
+frame-tells w v f g a b e = (across .0, tells)
+  where
+    across : (w ≡ v) × (ascii " 65\n" ++ (lines w f frameRows 0 ++ ascii "end\n") ≡ ascii " 65\n" ++ (lines v g frameRows 0 ++ ascii "end\n"))
+    across = number-first w v _ _ a b (lit< tt) (lit< tt) (ap (drop 6) (sym (frame-first w f) ∙ e ∙ frame-first v g))
 
-frame-tells : (f g : List ℕ) → frameText width frameRows f ≡ frameText width frameRows g → (p x : ℕ) → p < frameRows → x < width → lit (getD f (p * width + x) 0) ≡ lit (getD g (p * width + x) 0)
-frame-tells f g e p x h k =
-    let rest = cancel header (lines width f frameRows 0 ++ ascii "end\n") (lines width g frameRows 0 ++ ascii "end\n") (sym (frame-first f) ∙ e ∙ frame-first g) in
-    let same = lines-tell width (lit≤ tt) f g frameRows 0 (lit≤ tt) rest p (omega arith) (omega (arith, h)) in
-    rw (← (place width f p x k), ← (place width g p x k), ← (runs-are (rowOf width f p) .exact x), ← (runs-are (rowOf width g p) .exact x), same)
+    rest : lines w f frameRows 0 ++ ascii "end\n" ≡ lines w g frameRows 0 ++ ascii "end\n"
+    rest = ap (drop 4) (rw (← (across .0)) at (across .1))
+
+    tells : (p x : ℕ) → p < frameRows → x < w → lit (getD f (p * w + x) 0) ≡ lit (getD g (p * w + x) 0)
+    tells p x h k =
+        let same = lines-tell w (omega (arith, a)) f g frameRows 0 (lit≤ tt) rest p (omega arith) (omega (arith, h)) in
+        rw (← (place w f p x k), ← (place w g p x k), ← (runs-are (rowOf w f p) .exact x), ← (runs-are (rowOf w g p) .exact x), same)
 
 -- What a stopped run prints, piece by piece.
 refused-first : (number offset : ℕ) (s : List ℕ) → (number ≡ 0 → ⊥) → refusedText number offset ++ s ≡ ascii "refused " ++ (decimal number ++ (ascii " at " ++ (decimal offset ++ (10 ∷ s))))
@@ -185,9 +188,9 @@ module _ (m n o u : ℕ) (s t : List ℕ) (a : m < 2 ^ 64) (b : n < 2 ^ 64) (c :
           let r = stopped-tells (eqb-false m 0 x) (eqb-false n 0 y) e in
           (r .0, λ k. r .1, r .2)
 
-begins : (frame : List ℕ) → getD (frameText width frameRows frame) 0 0 < 114
+begins : (w : ℕ) (frame : List ℕ) → getD (frameText w frameRows frame) 0 0 < 114
 unfolding frameText ascii
-begins frame = lit< tt
+begins w frame = lit< tt
 
 -- places that are 0 or 1 and both lit or both dark are equal
 one-bit : (b c : ℕ) → b ≤ 1 → c ≤ 1 → lit b ≡ lit c → b ≡ c
@@ -198,18 +201,17 @@ one-bit (suc b) zero h k e = absurd (false≢true (sym e))
 one-bit (suc b) (suc c) h k e = omega (arith, h, k)
 
 -- frames as they are drawn that are lit at the same places are equal
-same-places : (f g : List ℕ) → ((p x : ℕ) → p < frameRows → x < width → lit (getD f (p * width + x) 0) ≡ lit (getD g (p * width + x) 0)) → AsDrawn f → AsDrawn g → f ≡ g
-same-places f g places a b = ext-getD 0 f g (a .size ∙ sym (b .size)) at
+same-places : (w : ℕ) (f g : List ℕ) → ((p x : ℕ) → p < frameRows → x < w → lit (getD f (p * w + x) 0) ≡ lit (getD g (p * w + x) 0)) → AsDrawn w f → AsDrawn w g → f ≡ g
+same-places w f g places a b = ext-getD 0 f g (a .size ∙ sym (b .size)) at
   where
     at : (i : ℕ) → i < length f → getD f i 0 ≡ getD g i 0
     at i h =
-        let e : i / width * width + i % width ≡ i = omega arith in
+        let some : 0 < w = omega (arith, h, a .size) in
         one-bit (getD f i 0) (getD g i 0) (a .places i) (b .places i)
-        (rw e at (places (i / width) (i % width) (omega (arith, h, a .size)) (omega arith)))
+        (rw (div-add-mod' i w) at (places (i / w) (i % w) (div-lt-iff-lt-mul some .1 (omega (arith, h, a .size))) (mod-lt i some)))
 
 pub equal-listings : EqualListings
-unfolding listingOf
-equal-listings m n o u f g a b c d e =
-    let r = refused-tells m n o u (frameText width frameRows f) (frameText width frameRows g) a b c d (begins f) (begins g) e in
-    let places = frame-tells f g (r .2) in
-    record { number = r .0; offset = r .1; places = places; frame = same-places f g places }
+equal-listings w v m n o u f g i j a b c d e =
+    let r = refused-tells m n o u (frameText w frameRows f) (frameText v frameRows g) a b c d (begins w f) (begins v g) e in
+    let t = frame-tells w v f g i j (r .2) in
+    record { across = t .0; number = r .0; offset = r .1; places = t .1; frame = λ p q. same-places w f g (t .1) p (rw (← (t .0)) at q) }

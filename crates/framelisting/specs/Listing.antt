@@ -1,12 +1,12 @@
 -- The call on a lent frame and buffer: the whole outcome as one function of what is lent.
-use Prim.Native.Nat.{ℕ}
+use Prim.Native.Nat.{ℕ, _*_}
 use mathlib.Core.Bool.{cond, _||_}
 use mathlib.Core.List.{List, _++_}
 use lib.Dec.{ltb}
 use lib.ListN.{length, drop}
-use Rattle.constants.specs.Sizes.{frameSize}
+use Rattle.constants.specs.Sizes.{width, wideWidth, frameRows}
 use Rattle.constants.specs.Numbers.{tooShort}
-use Rattle.framelisting.specs.Text.{listingOf}
+use Rattle.framelisting.specs.Text.{listingAcross}
 use Rattle.framelisting.specs.declared.Listed.{Listed}
 
 -- What the call answers, and what the buffer holds then.
@@ -21,9 +21,17 @@ outcome answer text = record { answer = answer; text = text }
 unfoldable pub written : List ℕ → List ℕ → Outcome
 written listing text = outcome (Listed.Written (length listing)) (listing ++ drop (length listing) text)
 
--- A frame shorter than 8,580 bytes, or a buffer shorter than the text, is refused, and nothing is written.
-unfoldable pub listed : ℕ → ℕ → List ℕ → List ℕ → Outcome
-listed number offset frame text =
-    cond (ltb (length frame) frameSize || ltb (length text) (length (listingOf number offset frame)))
+-- A frame shorter than 65 rows w wide, or a buffer shorter than the text, is refused, and nothing is written.
+unfoldable pub listedAcross : ℕ → ℕ → ℕ → List ℕ → List ℕ → Outcome
+listedAcross w number offset frame text =
+    cond (ltb (length frame) (frameRows * w) || ltb (length text) (length (listingAcross w number offset frame)))
     (outcome (Listed.Refused tooShort) text)
-    (written (listingOf number offset frame) text)
+    (written (listingAcross w number offset frame) text)
+
+-- One chip's frame, of 8,580 bytes.
+abbrev pub listed : ℕ → ℕ → List ℕ → List ℕ → Outcome
+listed number offset frame text = listedAcross width number offset frame text
+
+-- The wide frame, of 17,160 bytes.
+abbrev pub listedWide : ℕ → ℕ → List ℕ → List ℕ → Outcome
+listedWide number offset frame text = listedAcross wideWidth number offset frame text

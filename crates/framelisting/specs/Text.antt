@@ -1,10 +1,10 @@
--- Document 01's listing: the text for a frame and for a stopped run's number and offset.
+-- Document 01's listing, and document 02's of the wide frame: the text for a frame and for a stopped run's number and offset.
 use Prim.Native.Nat.{ℕ, zero, suc, _*_}
 use mathlib.Core.Bool.{cond}
 use mathlib.Core.List.{List, [], _∷_, _++_}
 use lib.Dec.{eqb}
 use lib.ListN.{take, drop}
-use Rattle.constants.specs.Sizes.{width, frameRows}
+use Rattle.constants.specs.Sizes.{width, wideWidth, frameRows}
 use Rattle.constants.specs.Numbers.{taken}
 use Rattle.framelisting.specs.Ascii.{ascii}
 use Rattle.framelisting.specs.Decimal.{decimal}
@@ -31,16 +31,27 @@ unfoldable pub lines : ℕ → List ℕ → ℕ → ℕ → List ℕ
 lines w frame zero p = []
 lines w frame (suc n) p = line p (rowOf w frame p) ++ lines w frame n (suc p)
 
+-- The line before them: how wide the frame is, and how many rows it has.
+abbrev pub header : ℕ → ℕ → List ℕ
+header w h = ascii "frame " ++ decimal w ++ ascii " " ++ decimal h ++ ascii "\n"
+
 -- A frame w wide and h rows high.
 unfoldable pub frameText : ℕ → ℕ → List ℕ → List ℕ
-frameText w h frame =
-    (ascii "frame " ++ decimal w ++ ascii " " ++ decimal h ++ ascii "\n") ++ lines w frame h 0 ++ ascii "end\n"
+frameText w h frame = header w h ++ lines w frame h 0 ++ ascii "end\n"
 
 -- A run that stopped first prints its number and offset; number 0, taken, prints nothing.
 unfoldable pub refusedText : ℕ → ℕ → List ℕ
 refusedText number offset =
     cond (eqb number taken) [] (ascii "refused " ++ decimal number ++ ascii " at " ++ decimal offset ++ ascii "\n")
 
--- The whole listing.
-unfoldable pub listingOf : ℕ → ℕ → List ℕ → List ℕ
-listingOf number offset frame = refusedText number offset ++ frameText width frameRows frame
+-- The whole listing, with a frame that is w wide.
+abbrev pub listingAcross : ℕ → ℕ → ℕ → List ℕ → List ℕ
+listingAcross w number offset frame = refusedText number offset ++ frameText w frameRows frame
+
+-- With one chip's frame, 132 wide.
+abbrev pub listingOf : ℕ → ℕ → List ℕ → List ℕ
+listingOf number offset frame = listingAcross width number offset frame
+
+-- With the wide frame, 264 wide: a run may cross its middle, since nothing here knows of chips.
+abbrev pub wideListingOf : ℕ → ℕ → List ℕ → List ℕ
+wideListingOf number offset frame = listingAcross wideWidth number offset frame

@@ -1,0 +1,19 @@
+-- `framelisting::list_wide` meets its contract by that of the call below it: 61,728 bytes are enough for any listing of the wide frame.
+-- Assumes nothing.
+use borrow.Author.Needs.{needs}
+use Rattle.framelisting.proofs.list_wide.Statement.{statement}
+use Rattle.framelisting.proofs.list_wide.Tie as tie
+use lib.Dec.{lit<}
+use Rattle.framelisting.proofs.LongestListing.{longest-listing}
+
+list-across-requires : tie.Need-list-across-requires
+list-across-requires c κs = (lit< tt, longest-listing .wide .atMost)
+
+same-length : tie.Need-same-length
+same-length c = search needs
+
+returns : tie.Need-returns
+returns c = search needs
+
+pub list-wide-spec : {M : Type 1} → statement M
+list-wide-spec = tie.close (tie.spec list-across-requires same-length returns)
