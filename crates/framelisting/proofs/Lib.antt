@@ -8,7 +8,7 @@ pub mod PlainDecimal
 pub mod LongestRuns
 -- How long each part of the text is.
 pub mod LengthsOfText
--- No listing is longer than 27,408 bytes, and one is that long.
+-- No listing is longer than 27,408 bytes, or 61,728 with the wide frame, and one is that long.
 pub mod LongestListing
 -- What a listing leaves in a lent buffer.
 pub mod LentBuffers
@@ -16,5 +16,5 @@ pub mod LentBuffers
 pub mod EqualListings
 -- Listings that are worked out.
 pub mod Samples
--- What the call states has one result.
+-- What each call states has one result.
 pub mod Settled

@@ -9,7 +9,7 @@ use Rattle.framelisting.specs.Text.{listingAcross}
 use Rattle.framelisting.specs.Listing.{outcome, written, listedAcross}
 use Rattle.framelisting.specs.declared.Listed.{Listed}
 
--- A frame w wide, of which no listing is longer than so many bytes.
+-- A frame w wide, whose longest listing has so many bytes.
 pub record LentBuffers (w longest number offset : ℕ) (frame text : List ℕ) : Type 0 where
   -- a frame that is too short is refused 1, and the buffer stays as it was
   pub frameShort : length frame < frameRows * w → listedAcross w number offset frame text ≡ outcome (Listed.Refused tooShort) text
@@ -17,7 +17,7 @@ pub record LentBuffers (w longest number offset : ℕ) (frame text : List ℕ) :
   pub textShort : frameRows * w ≤ length frame → length text < length (listingAcross w number offset frame) → listedAcross w number offset frame text ≡ outcome (Listed.Refused tooShort) text
   -- any other buffer has the whole text at its start
   pub bothLong : frameRows * w ≤ length frame → length (listingAcross w number offset frame) ≤ length text → listedAcross w number offset frame text ≡ written (listingAcross w number offset frame) text
-  -- the longest listing's length is enough for any frame, number and offset
+  -- a buffer for the longest listing is enough for any frame, number and offset
   pub alwaysEnough : number < 256 → offset < 2 ^ 64 → frameRows * w ≤ length frame → longest ≤ length text → listedAcross w number offset frame text ≡ written (listingAcross w number offset frame) text
   -- bytes past the text never change
   pub past : drop (length (listingAcross w number offset frame)) (listedAcross w number offset frame text .text) ≡ drop (length (listingAcross w number offset frame)) text

@@ -3,9 +3,9 @@ pub mod Ascii
 pub mod Decimal
 -- the lit places of a row, and their runs
 pub mod Runs
--- document 01's listing as text
+-- the listing as text, of one chip's frame and of the wide one
 pub mod Text
--- the whole outcome of the call
+-- the whole outcome of either call
 pub mod Listing
 -- how the code's own functions put a piece of text
 pub mod Put
@@ -15,11 +15,11 @@ pub mod LongestRuns
 pub mod PlainDecimal
 -- equal listings are of equal frames
 pub mod EqualListings
--- no listing is longer than 27,408 bytes
+-- no listing is longer than 27,408 bytes, or 61,728 with the wide frame
 pub mod LongestListing
 -- what a buffer has then, by its length
 pub mod LentBuffers
 -- listings that are worked out
 pub mod Samples
--- one result for the call's statement
+-- one result for each call's statement
 pub mod Settled

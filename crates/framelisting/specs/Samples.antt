@@ -30,5 +30,5 @@ pub record Samples : Type 0 where
   pub middle : wideListingOf 0 0 (set (set (set (set wideDark 131 1) 132 1) 263 1) 264 1) ≡ ascii "frame 264 65\n0 131-132 263-263\n1 0-0\nend\n"
   -- the last place of the icon line
   pub wideLast : wideListingOf 0 0 (set wideDark 17159 1) ≡ ascii "frame 264 65\n64 263-263\nend\n"
-  -- rows lit whole, and runs over each step in the number of digits
+  -- a row lit whole, and runs over each step in the number of digits
   pub wideRows : wideListingOf 0 0 (replicate (9 * wideWidth) 0 ++ replicate wideWidth 1 ++ replicate 9 0 ++ 1 ∷ 1 ∷ replicate 87 0 ++ 1 ∷ 1 ∷ 1 ∷ replicate (54 * wideWidth + 163) 0) ≡ ascii "frame 264 65\n9 0-263\n10 9-10 98-100\nend\n"
