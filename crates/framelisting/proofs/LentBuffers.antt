@@ -10,9 +10,9 @@ use lib.Dec.{ltb}
 use lib.ListN.{length, drop}
 use lib.Seq.{drop-append-seam}
 use Rattle.constants.specs.Numbers.{tooShort}
-use Rattle.constants.specs.Sizes.{width, wideWidth, frameRows, frameSize, longestListing, longestWideListing}
-use Rattle.framelisting.specs.Text.{listingAcross, listingOf}
-use Rattle.framelisting.specs.Listing.{outcome, written, listedAcross, listed}
+use Rattle.constants.specs.Sizes.{width, wideWidth, frameRows, frameSize, wideFrameSize, longestListing, longestWideListing}
+use Rattle.framelisting.specs.Text.{listingAcross, listingOf, wideListingOf}
+use Rattle.framelisting.specs.Listing.{outcome, written, listedAcross, listed, listedWide}
 use Rattle.framelisting.specs.LongestListing.{AtMost}
 use Rattle.framelisting.specs.LentBuffers.{LentBuffers, OfLentBuffers}
 use Rattle.framelisting.specs.declared.Listed.{Listed}
@@ -60,4 +60,10 @@ of-lent-buffers = record {
 
 -- a buffer of 27,408 bytes is enough for one chip's frame
 pub always-enough : (number offset : ℕ) (frame text : List ℕ) → number < 256 → offset < 2 ^ 64 → frameSize ≤ length frame → longestListing ≤ length text → listed number offset frame text ≡ written (listingOf number offset frame) text
+unfolding listingOf
 always-enough number offset frame text = of-lent-buffers .narrow number offset frame text .alwaysEnough
+
+-- and one of 61,728 for the wide one
+pub always-enough-wide : (number offset : ℕ) (frame text : List ℕ) → number < 256 → offset < 2 ^ 64 → wideFrameSize ≤ length frame → longestWideListing ≤ length text → listedWide number offset frame text ≡ written (wideListingOf number offset frame) text
+unfolding wideListingOf
+always-enough-wide number offset frame text = of-lent-buffers .wide number offset frame text .alwaysEnough

@@ -10,7 +10,7 @@ use Rattle.constants.specs.Sizes.{frameRows}
 use Rattle.framelisting.specs.Ascii.{ascii}
 use Rattle.framelisting.specs.Decimal.{digits, decimal}
 use Rattle.framelisting.specs.Runs.{lit, anyLit, leading, runsFrom, runs}
-use Rattle.framelisting.specs.Text.{runText, runsText, line, rowOf, lines, header, frameText, refusedText, listingAcross}
+use Rattle.framelisting.specs.Text.{runText, runsText, line, rowOf, lines, header, frameText, refusedText, listingAcross, listingOf, wideListingOf}
 use Rattle.framelisting.specs.Samples.{Samples}
 
 -- The lines of n rows from row p on, of a frame that begins with that row: no row is looked for from the frame's start, which takes far longer to compute.
@@ -33,6 +33,7 @@ unfolding frameText walkedListing
 worked w number offset frame e = rw (lines-walked w frame frameRows 0, zero-mul) e
 
 pub samples : Samples
+unfolding listingOf wideListingOf
 samples = record {
   own = worked _ _ _ _ (unfold walkedListing in refl);
   nothing = worked _ _ _ _ (unfold walkedListing in refl);

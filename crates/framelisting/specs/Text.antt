@@ -49,9 +49,9 @@ abbrev pub listingAcross : ℕ → ℕ → ℕ → List ℕ → List ℕ
 listingAcross w number offset frame = refusedText number offset ++ frameText w frameRows frame
 
 -- With one chip's frame, 132 wide.
-abbrev pub listingOf : ℕ → ℕ → List ℕ → List ℕ
+unfoldable pub listingOf : ℕ → ℕ → List ℕ → List ℕ
 listingOf number offset frame = listingAcross width number offset frame
 
 -- With the wide frame, 264 wide: a run may cross its middle, since nothing here knows of chips.
-abbrev pub wideListingOf : ℕ → ℕ → List ℕ → List ℕ
+unfoldable pub wideListingOf : ℕ → ℕ → List ℕ → List ℕ
 wideListingOf number offset frame = listingAcross wideWidth number offset frame
