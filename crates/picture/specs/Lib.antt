@@ -6,6 +6,8 @@ pub mod Rows
 pub mod Frame
 -- the call that draws
 pub mod Draw
+-- the call that draws one row
+pub mod DrawLine
 -- what the call and its frame come to; demand 1 for drawing
 pub mod Drawing
 -- the rules of the frame, for any number of rows in use

@@ -6,6 +6,7 @@ use Rattle.bus.specs.declared.registers.Registers.{Registers}
 use Rattle.picture.specs.Scan.{rowShows}
 use Rattle.picture.specs.Rows.{scanOf}
 use Rattle.picture.specs.Draw.{drawn, draw}
+use Rattle.picture.specs.DrawLine.{drawLine}
 use Rattle.picture.specs.declared.rows.PanelRow.{PanelRow}
 use Rattle.picture.specs.declared.rows.Shown.{Shown}
 use Rattle.constants.specs.Settles.{Settles}
@@ -13,4 +14,6 @@ use Rattle.constants.specs.Settles.{Settles}
 pub record Settled : Type 0 where
   -- number, frame
   pub «draw::draw» : (state memory was : List ℕ) → Settles (λ (o : ℕ × List ℕ). drawn (o .0) (o .1) ≡ draw state memory was)
+  -- the lent part
+  pub «draw::draw_line» : (r : Registers) (memory : List ℕ) (row : PanelRow) (was : List ℕ) → Settles (λ (later : List ℕ). later ≡ drawLine r memory row was)
   pub «rows::row_shows» : (r : Registers) (row : PanelRow) → Settles (λ (shown : Shown). shown ≡ rowShows (scanOf r) row)

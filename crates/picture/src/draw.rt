@@ -1,4 +1,4 @@
-// The call that draws, lent state image, memory and frame.
+// The calls that draw: a whole frame, lent state image, memory and frame; and one row of it.
 ghost use mathlib.Core.Path.{_≡_};
 ghost use mathlib.Core.List.{_++_};
 ghost use Prim.Native.Nat.{_≤_};
@@ -6,6 +6,7 @@ ghost use lib.ListN.{length, drop};
 ghost use Rattle.constants.specs.Sizes.{memorySize, frameSize};
 ghost use Rattle.picture.specs.Frame.{frame};
 ghost use Rattle.picture.specs.Draw.{drawn, draw};
+ghost use Rattle.picture.specs.DrawLine.{drawLine};
 use crate::row::draw_row;
 use crate::rows::PanelRow;
 use bus::image::Asked;
@@ -15,6 +16,8 @@ use constants::refusal::TAKEN;
 use constants::refusal::TOO_SHORT;
 use constants::sizes::FRAME_ROWS;
 use constants::sizes::FRAME_SIZE;
+use constants::sizes::HEIGHT;
+use constants::sizes::MEMORY_SIZE;
 use constants::sizes::WIDTH;
 
 // Draws the frame, or refuses and writes nothing.
@@ -48,4 +51,20 @@ fn draw_rows(registers: Registers, memory: &[u8], places: &mut [u8])
             &mut places[start..end],
         );
     }
+}
+
+// Draws one row of the frame into its own 132 bytes, for a frame that has other places beside them; does nothing where the row is no row of the frame, the memory is too short or the part is not 132 bytes.
+pub fn draw_line(registers: Registers, memory: &[u8], row: PanelRow, places: &mut [u8])
+    ensures { λ _. ⌜ now (places .exit) ≡ drawLine registers (now (memory .entry)) row (now (places .entry)) ⌝ }
+{
+    if row.0 > HEIGHT {
+        return;
+    }
+    if memory.len() < MEMORY_SIZE {
+        return;
+    }
+    if places.len() != WIDTH {
+        return;
+    }
+    draw_row(registers, memory, row, places);
 }
