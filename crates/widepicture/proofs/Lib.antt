@@ -4,3 +4,11 @@ pub mod RowByRow
 pub mod HalfRows
 -- what is asked first
 pub mod Asked
+-- each half is the frame of its chip
+pub mod Halves
+-- what the call comes to; demand 1 for drawing
+pub mod WideDrawing
+-- demand 3 for each half
+pub mod WideDemand3
+-- one outcome for each public call
+pub mod Settled

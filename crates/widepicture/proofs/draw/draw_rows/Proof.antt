@@ -3,12 +3,12 @@
 use Rattle.widepicture.proofs.draw.draw_rows.Statement.{statement}
 use Rattle.widepicture.proofs.draw.draw_rows.Tie as tie
 use mathlib.Core.Path.{_≡_, refl, _∙_}
-use mathlib.Core.List.{List, _++_}
-use Prim.Native.Nat.{ℕ, _+_, _*_, _-_, _≤_}
+use mathlib.Core.List.{_++_}
+use Prim.Native.Nat.{_+_, _*_, _-_, _≤_}
 use native.Mathlib.Omega.{arith}
 use denote.Ref.{now}
 use lib.ListN.{drop}
-use Rattle.constants.specs.Sizes.{width, frameRows, wideWidth}
+use Rattle.constants.specs.Sizes.{frameRows, wideWidth}
 use Rattle.widepicture.specs.WideFrame.{rowByRow, wideFrame}
 use Rattle.widepicture.proofs.HalfRows.{drawnRows, rows-kept, left-kept, rows-turn}
 
