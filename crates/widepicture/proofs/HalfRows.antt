@@ -18,7 +18,7 @@ use Rattle.widebus.specs.declared.both.Both.{Both}
 use Rattle.widebus.specs.declared.selection.Side.{Side}
 use Rattle.widepicture.specs.WideFrame.{rowByRow, sideBySide, firstColumn}
 use Rattle.widepicture.specs.WideDraw.{writtenAt}
-use Rattle.widepicture.proofs.RowByRow.{row-length, side-length, side-kept, written-length, row-written}
+use Rattle.widepicture.proofs.RowByRow.{row-length, side-length, side-kept, row-written}
 
 -- there is room for a half
 pub column-within : (side : Side) → firstColumn side ≤ width
@@ -56,12 +56,6 @@ module _ (registers : Both) (left-memory right-memory was : List ℕ) where
     -- with y rows drawn a frame is as long as before
     pub rows-kept : y ≤ frameRows → length (drawnRows y ++ drop (y * wideWidth) was) ≡ length was
     rows-kept l = side-kept width y (frame (registers .left) left-memory) (frame (registers .right) right-memory) was (left-long l) (right-long l) (omega arith)
-
-    -- and with the left half of the next
-    pub left-kept : y < frameRows → {before after : List ℕ} → before ≡ drawnRows y ++ drop (y * wideWidth) was → after ≡ writtenAt (y * wideWidth + firstColumn Side.Left) (rowOf width y (frame (registers .left) left-memory)) before → wideFrameSize ≤ length after
-    left-kept l {before} {after} p q =
-        rw (q, written-length (y * wideWidth + 0) (rowOf width y (frame (registers .left) left-memory)) before (rw (frame-row-length (registers .left) left-memory y l, p, rows-kept (omega arith)) (omega arith)), p, rows-kept (omega arith))
-        long
 
     -- one row more
     pub rows-turn : y < frameRows → {before middle after : List ℕ} → before ≡ drawnRows y ++ drop (y * wideWidth) was

@@ -72,11 +72,6 @@ side-length w h left right l r = rows-length (w + w) h (λ y. rowOf w y left ++ 
 pub side-kept : (w h : ℕ) (left right was : List ℕ) → h * w ≤ length left → h * w ≤ length right → h * (w + w) ≤ length was → length (sideBySide w h left right ++ drop (h * (w + w)) was) ≡ length was
 side-kept w h left right was l r k = length-append (sideBySide w h left right) (drop (h * (w + w)) was) ∙ rw (side-length w h left right l r, length-drop (h * (w + w)) was) (omega arith)
 
--- a part written leaves a frame as long as before
-pub written-length : (start : ℕ) (part was : List ℕ) → start + length part ≤ length was → length (writtenAt start part was) ≡ length was
-unfolding writtenAt
-written-length start part was l = simp (length-append, length-take, length-drop) (omega arith)
-
 -- a part written after what is done
 pub written-after : (done rest part : List ℕ) (start : ℕ) → length done ≡ start → writtenAt start part (done ++ rest) ≡ done ++ (part ++ drop (length part) rest)
 unfolding writtenAt

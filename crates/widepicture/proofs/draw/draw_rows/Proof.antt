@@ -10,7 +10,7 @@ use denote.Ref.{now}
 use lib.ListN.{drop}
 use Rattle.constants.specs.Sizes.{frameRows, wideWidth}
 use Rattle.widepicture.specs.WideFrame.{rowByRow, wideFrame}
-use Rattle.widepicture.proofs.HalfRows.{drawnRows, rows-kept, left-kept, rows-turn}
+use Rattle.widepicture.proofs.HalfRows.{drawnRows, rows-kept, rows-turn}
 
 abbrev Inv-loop : tie.InvT-loop
 Inv-loop registers left-memory right-memory places₀ y₀ places y = (y ≤ frameRows) × (places ≡ drawnRows registers left-memory right-memory places₀ y ++ drop (y * wideWidth) places₀)
@@ -32,7 +32,7 @@ draw-half-requires-2 : tie.Need-draw-half-requires-2 Inv-loop μ-loop
 draw-half-requires-2 c κs =
     let a = c .before .before .before .before .before .before .before .before .before .before .args in
     let loop = c .before .before .before .before .before .before .loop in
-    (omega arith, omega arith, left-kept (a .registers) (now (a .left-memory)) (now (a .right-memory)) (now (a .places)) (loop .y) (omega arith) (omega arith) (loop .inv .1) (c .before .before .before .draw-half .ensures))
+    (omega arith, omega arith, rw (c .before .before .before .draw-half .kept .1 .1 .1 .1 .0, loop .inv .1, rows-kept (a .registers) (now (a .left-memory)) (now (a .right-memory)) (now (a .places)) (loop .y) (omega arith) (omega arith)) (omega arith))
 
 add-y : tie.Need-add-y Inv-loop μ-loop
 add-y c = omega arith
