@@ -68,9 +68,14 @@ beside-length w h left right l r y k =
 pub side-length : (w h : ℕ) (left right : List ℕ) → h * w ≤ length left → h * w ≤ length right → length (sideBySide w h left right) ≡ h * (w + w)
 side-length w h left right l r = rows-length (w + w) h (λ y. rowOf w y left ++ rowOf w y right) (beside-length w h left right l r)
 
--- a frame with h rows drawn is as long as before
-pub side-kept : (w h : ℕ) (left right was : List ℕ) → h * w ≤ length left → h * w ≤ length right → h * (w + w) ≤ length was → length (sideBySide w h left right ++ drop (h * (w + w)) was) ≡ length was
-side-kept w h left right was l r k = length-append (sideBySide w h left right) (drop (h * (w + w)) was) ∙ rw (side-length w h left right l r, length-drop (h * (w + w)) was) (omega arith)
+-- a part written leaves a frame as long as before, and leaves what follows it
+pub written-length : (start : ℕ) (part was : List ℕ) → start + length part ≤ length was → length (writtenAt start part was) ≡ length was
+unfolding writtenAt
+written-length start part was l = simp (length-append, length-take, length-drop) (omega arith)
+
+pub written-front : (start : ℕ) (part front rest : List ℕ) → start + length part ≤ length front → writtenAt start part (front ++ rest) ≡ writtenAt start part front ++ rest
+unfolding writtenAt
+written-front start part front rest l = rw (take-append-le start front rest (omega arith), drop-append-le (start + length part) front rest l) (simp append-assoc)
 
 -- a part written after what is done
 pub written-after : (done rest part : List ℕ) (start : ℕ) → length done ≡ start → writtenAt start part (done ++ rest) ≡ done ++ (part ++ drop (length part) rest)

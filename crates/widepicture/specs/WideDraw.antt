@@ -1,11 +1,12 @@
 -- The call that draws the wide frame: its whole outcome as one function of what is lent.
-use Prim.Native.Nat.{ℕ, _+_}
+use Prim.Native.Nat.{ℕ, zero, suc, _+_, _*_}
 use mathlib.Core.Bool.{cond}
 use mathlib.Core.List.{List, _++_}
 use lib.Dec.{ltb}
 use lib.ListN.{length, take, drop}
 use Rattle.constants.specs.Numbers.{taken, tooShort}
-use Rattle.constants.specs.Sizes.{wideFrameSize}
+use Rattle.constants.specs.Sizes.{width, wideWidth, wideFrameSize}
+use Rattle.picture.specs.Frame.{rowOf}
 use Rattle.picture.specs.Draw.{Drawn, drawn}
 use Rattle.widebus.specs.Pair.{Pair, Lent, chipsOf}
 use Rattle.widebus.specs.Asked.{askedBoth}
@@ -24,3 +25,8 @@ drawWide all was = cond (ltb (length was) wideFrameSize) (drawn tooShort was) (d
 -- A frame with a part of it written from a place on, and all else as it was.
 unfoldable pub writtenAt : ℕ → List ℕ → List ℕ → List ℕ
 writtenAt start part was = take start was ++ (part ++ drop (start + length part) was)
+
+-- The first h rows of a chip's frame written into a wide frame, each from the same place of its row on.
+unfoldable pub rowsWritten : ℕ → ℕ → List ℕ → List ℕ → List ℕ
+rowsWritten first zero own was = was
+rowsWritten first (suc h) own was = writtenAt (h * wideWidth + first) (rowOf width h own) (rowsWritten first h own was)

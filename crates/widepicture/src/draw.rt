@@ -1,14 +1,13 @@
 // The call that draws the wide frame, lent states and memories of both chips and a frame.
 ghost use mathlib.Core.Path.{_≡_};
-ghost use mathlib.Core.List.{_++_};
-ghost use Prim.Native.Nat.{_+_, _*_, _≤_, _<_};
-ghost use lib.ListN.{length, drop};
-ghost use Rattle.constants.specs.Sizes.{width, memorySize, frameRows, wideWidth, wideFrameSize};
-ghost use Rattle.picture.specs.Frame.{frame, rowOf};
+ghost use Prim.Native.Nat.{_≤_};
+ghost use lib.ListN.{length};
+ghost use Rattle.constants.specs.Sizes.{memorySize, frameRows, wideFrameSize};
+ghost use Rattle.picture.specs.Frame.{frame};
 ghost use Rattle.picture.specs.Draw.{drawn};
-ghost use Rattle.widebus.specs.Pair.{chipsOf, bothLent};
-ghost use Rattle.widepicture.specs.WideFrame.{wideFrame, firstColumn};
-ghost use Rattle.widepicture.specs.WideDraw.{writtenAt, drawWide};
+ghost use Rattle.widebus.specs.Pair.{bothLent};
+ghost use Rattle.widepicture.specs.WideFrame.{firstColumn};
+ghost use Rattle.widepicture.specs.WideDraw.{drawWide, rowsWritten};
 use bus::registers::Registers;
 use constants::refusal::TAKEN;
 use constants::refusal::TOO_SHORT;
@@ -18,7 +17,6 @@ use constants::sizes::WIDE_WIDTH;
 use constants::sizes::WIDTH;
 use picture::draw::draw_line;
 use picture::rows::PanelRow;
-use widebus::both::Both;
 use widebus::both::BothAsked;
 use widebus::both::ask;
 use widebus::selection::Side;
@@ -38,39 +36,31 @@ pub fn draw(
     }
     match ask(left_state, left_memory, right_state, right_memory) {
         BothAsked::Found(registers) => {
-            draw_rows(registers, left_memory, right_memory, frame);
+            draw_half(Side::Left, registers.left, left_memory, frame);
+            draw_half(Side::Right, registers.right, right_memory, frame);
             TAKEN
         }
         BothAsked::Refused(number) => number,
     }
 }
 
-// Draws each row: the left chip's, then the right chip's.
-fn draw_rows(registers: Both, left_memory: &[u8], right_memory: &[u8], places: &mut [u8])
-    requires { ⌜ (memorySize ≤ length (now «left_memory»)) × (memorySize ≤ length (now «right_memory»)) × (wideFrameSize ≤ length (now places)) ⌝ }
-    ensures { λ _. ⌜ now (places .exit) ≡ wideFrame (chipsOf registers (now («left_memory» .entry)) (now («right_memory» .entry))) ++ drop wideFrameSize (now (places .entry)) ⌝ }
-{
-    for y in 0..FRAME_ROWS {
-        draw_half(Side::Left, registers.left, left_memory, y, places);
-        draw_half(Side::Right, registers.right, right_memory, y, places);
-    }
-}
-
-// Draws a row of one chip into its half of the row.
-fn draw_half(side: Side, registers: Registers, memory: &[u8], y: usize, places: &mut [u8])
-    requires { ⌜ (y < frameRows) × (memorySize ≤ length (now memory)) × (wideFrameSize ≤ length (now places)) ⌝ }
-    ensures { λ _. ⌜ now (places .exit) ≡ writtenAt (y * wideWidth + firstColumn side) (rowOf width y (frame registers (now (memory .entry)))) (now (places .entry)) ⌝ }
+// Draws each row of one chip into its half of a wide row. A loop for each chip is what keeps the wide frame near twice the time of one.
+fn draw_half(side: Side, registers: Registers, memory: &[u8], places: &mut [u8])
+    requires { ⌜ (memorySize ≤ length (now memory)) × (wideFrameSize ≤ length (now places)) ⌝ }
+    ensures { λ _. ⌜ now (places .exit) ≡ rowsWritten (firstColumn side) frameRows (frame registers (now (memory .entry))) (now (places .entry)) ⌝ }
 {
     let first = first_column(side);
-    let row = y * WIDE_WIDTH;
-    let start = row + first;
-    let end = start + WIDTH;
-    draw_line(
-        registers,
-        memory,
-        PanelRow(y as u8),
-        &mut places[start..end],
-    );
+    for y in 0..FRAME_ROWS {
+        let row = y * WIDE_WIDTH;
+        let start = row + first;
+        let end = start + WIDTH;
+        draw_line(
+            registers,
+            memory,
+            PanelRow(y as u8),
+            &mut places[start..end],
+        );
+    }
 }
 
 // The place of a row at which a chip's half begins.
