@@ -15,11 +15,5 @@ pub extern "C" fn ssd1815b_wide_draw(
 ) -> u8
     ensures { λ r. ⌜ drawn r (now (frame .exit)) ≡ drawWide (bothLent (now («left_state» .entry)) (now («left_memory» .entry)) (now («right_state» .entry)) (now («right_memory» .entry))) (now (frame .entry)) ⌝ }
 {
-    widepicture::draw::draw(
-        left_state,
-        left_memory,
-        right_state,
-        right_memory,
-        frame,
-    )
+    widepicture::draw::draw(left_state, left_memory, right_state, right_memory, frame)
 }

@@ -11,9 +11,9 @@ use widebus::selection::Side;
 
 // The part's place in that side's memory and its length go to where the host wants them, 0 both where it is refused.
 #[no_mangle]
-pub extern "C" fn ssd1815b_wide_page(
-    left_memory: &[u8],
-    right_memory: &[u8],
+pub extern "C" fn ssd1815b_wide_page<'a>(
+    left_memory: &'a [u8],
+    right_memory: &'a [u8],
     side: u8,
     page: u8,
     place: &mut usize,
@@ -39,10 +39,10 @@ pub extern "C" fn ssd1815b_wide_page(
 }
 
 // The page of one of the two sides.
-fn located(
+fn located<'a>(
     side: Side,
-    left: &[u8],
-    right: &[u8],
+    left: &'a [u8],
+    right: &'a [u8],
     page: u8,
     place: &mut usize,
     length: &mut usize,

@@ -17,13 +17,7 @@ pub extern "C" fn ssd1815b_wide_run(
 ) -> u8
     ensures { λ r. ⌜ wideRan (stopOf r (now (offset .exit)) (now (count .exit))) (bothLent (now («left_state» .exit)) (now («left_memory» .exit)) (now («right_state» .exit)) (now («right_memory» .exit))) ≡ wideRun (bothLent (now («left_state» .entry)) (now («left_memory» .entry)) (now («right_state» .entry)) (now («right_memory» .entry))) (now (bytes .entry)) ⌝ }
 {
-    let stop = widetrace::run::run(
-        left_state,
-        left_memory,
-        right_state,
-        right_memory,
-        bytes,
-    );
+    let stop = widetrace::run::run(left_state, left_memory, right_state, right_memory, bytes);
     *offset = stop.offset;
     *count = stop.count;
     stop.number
