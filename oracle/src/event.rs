@@ -159,12 +159,41 @@ pub fn lent<'a>(
     }
 }
 
+/// The same parts of buffers that are only read.
+///
+/// # Errors
+/// 1 if either is too short.
+pub fn lent_to_read<'a>(
+    state: &'a [u8],
+    memory: &'a [u8],
+) -> Result<(&'a Image, &'a Memory), Refusal> {
+    match (
+        state.first_chunk::<IMAGE_LENGTH>(),
+        memory.first_chunk::<MEMORY_LENGTH>(),
+    ) {
+        (Some(image), Some(memory)) => Ok((image, memory)),
+        _ => Err(Refusal::LentTooShort),
+    }
+}
+
 /// The registers of an image.
 ///
 /// # Errors
 /// 2 if the image is out of its ranges.
 pub fn asked(image: &Image) -> Result<Registers, Refusal> {
     Registers::from_image(image).ok_or(Refusal::ImageOutOfRange)
+}
+
+/// The registers that a single event meets.
+///
+/// # Errors
+/// 2 if the image is out of its ranges, but at the reset pin.
+pub fn asked_at(event: Event, image: &Image) -> Result<Registers, Refusal> {
+    match event {
+        // The reset pin does not ask what the image was.
+        Event::Reset => Ok(Registers::POWER_ON),
+        Event::Command(_) | Event::Write(_) | Event::Read => asked(image),
+    }
 }
 
 /// The call of a single event on lent state and memory. A refused event
@@ -188,11 +217,7 @@ pub fn call(state: &mut [u8], memory: &mut [u8], event: Event) -> Answer {
 
 fn call_or_refusal(state: &mut [u8], memory: &mut [u8], event: Event) -> Result<Taken, Refusal> {
     let (image, memory) = lent(state, memory)?;
-    let mut registers = match event {
-        // The reset pin does not ask what the image was.
-        Event::Reset => Registers::POWER_ON,
-        Event::Command(_) | Event::Write(_) | Event::Read => asked(image)?,
-    };
+    let mut registers = asked_at(event, image)?;
     let taken = meaning(registers, memory, event)?;
     taken.leave_in(&mut registers, memory);
     *image = registers.image();

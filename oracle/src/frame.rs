@@ -1,9 +1,9 @@
 //! The frame on the glass: which bit shows where.
 
-use crate::event::asked;
-use crate::memory::{self, COLUMNS, MEMORY_LENGTH, Memory};
+use crate::event::{asked, lent_to_read};
+use crate::memory::{self, COLUMNS, Memory};
 use crate::refusal::{Refusal, TAKEN};
-use crate::registers::{IMAGE_LENGTH, Registers};
+use crate::registers::Registers;
 
 /// Panel rows of dots.
 pub const DOT_ROWS: usize = 64;
@@ -114,13 +114,8 @@ pub fn call(state: &[u8], memory: &[u8], frame: &mut [u8]) -> u8 {
 }
 
 fn call_or_refusal(state: &[u8], memory: &[u8], frame: &mut [u8]) -> Result<(), Refusal> {
-    let (Some(image), Some(memory), Some(frame)) = (
-        state.first_chunk::<IMAGE_LENGTH>(),
-        memory.first_chunk::<MEMORY_LENGTH>(),
-        frame.first_chunk_mut::<FRAME_LENGTH>(),
-    ) else {
-        return Err(Refusal::LentTooShort);
-    };
+    let (image, memory) = lent_to_read(state, memory)?;
+    let frame = frame.first_chunk_mut().ok_or(Refusal::LentTooShort)?;
     draw(asked(image)?, memory, frame);
     Ok(())
 }

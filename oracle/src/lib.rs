@@ -1,10 +1,10 @@
-//! The SSD1815B as document 01 states it, with Orders 1 to 3 of document 02,
+//! The SSD1815B as document 01 states it, with Orders 1 to 4 of document 02,
 //! written from documents 00, 01 and 02 alone, to be compared with a model
 //! written by other people.
 //!
 //! The model: [`registers`], [`command`], [`memory`], [`event`], [`frame`],
-//! [`start`], [`trace`], [`listing`], [`compare`], each answering with the
-//! numbers of [`refusal`].
+//! [`start`], [`trace`], [`listing`], [`compare`], and two chips side by side,
+//! [`wide`], each answering with the numbers of [`refusal`].
 //! The comparing: [`random`], [`generate`], [`sweep`], [`cases`], [`format`],
 //! [`coverage`], [`show`]. For a person: the script of events typed, [`play`],
 //! and where the screens of two traces differ, [`differ`].
@@ -30,3 +30,4 @@ pub mod stream;
 pub mod sweep;
 pub mod text;
 pub mod trace;
+pub mod wide;

@@ -6,7 +6,9 @@ use crate::frame::{self, FRAME_LENGTH, FRAME_ROWS, Frame};
 use crate::memory::COLUMNS;
 use crate::refusal::TAKEN;
 use crate::start::Start;
-use crate::trace;
+use crate::trace::{self, RunAnswer};
+use crate::wide;
+use crate::wide::frame::{WIDE_COLUMNS, WIDE_FRAME_LENGTH, WideFrame};
 
 /// The longest trace that is read.
 pub const LONGEST_TRACE: usize = 65_536;
@@ -14,12 +16,32 @@ pub const LONGEST_TRACE: usize = 65_536;
 /// What the listing program prints for a trace, begun with this start.
 #[must_use]
 pub fn listing(start: Start, trace: &[u8]) -> String {
+    listed(trace, || {
+        let (registers, memory, answer) = trace::run_from(start, trace);
+        let mut frame = [0; FRAME_LENGTH];
+        frame::draw(registers, &memory, &mut frame);
+        (answer, frame_text(&frame))
+    })
+}
+
+/// What it prints for a wide trace, both chips begun with this start.
+#[must_use]
+pub fn wide_listing(start: Start, trace: &[u8]) -> String {
+    listed(trace, || {
+        let (registers, memories, answer) = wide::trace::run_from(start, trace);
+        let mut frame = [0; WIDE_FRAME_LENGTH];
+        wide::frame::draw(registers, memories.each_ref(), &mut frame);
+        (answer, wide_frame_text(&frame))
+    })
+}
+
+/// The listing of a trace that is not too long: how its run ended, and the
+/// lines of the frame it leaves.
+fn listed(trace: &[u8], run: impl Fn() -> (RunAnswer, String)) -> String {
     if trace.len() > LONGEST_TRACE {
         return "input too long\n".to_string();
     }
-    let (registers, memory, answer) = trace::run_from(start, trace);
-    let mut frame = [0; FRAME_LENGTH];
-    frame::draw(registers, &memory, &mut frame);
+    let (answer, frame_lines) = run();
     let mut text = String::new();
     if answer.number != TAKEN {
         line(
@@ -27,15 +49,26 @@ pub fn listing(start: Start, trace: &[u8]) -> String {
             format_args!("refused {} at {}", answer.number, answer.offset),
         );
     }
-    text + &frame_text(&frame)
+    text + &frame_lines
 }
 
 /// The lines of a frame: its size, its rows with lit places, its end.
 #[must_use]
 pub fn frame_text(frame: &Frame) -> String {
+    rows_text(COLUMNS, frame)
+}
+
+/// The same lines of a wide frame.
+#[must_use]
+pub fn wide_frame_text(frame: &WideFrame) -> String {
+    rows_text(WIDE_COLUMNS, frame)
+}
+
+/// The lines of rows of this width.
+fn rows_text(width: usize, frame: &[u8]) -> String {
     let mut text = String::new();
-    line(&mut text, format_args!("frame {COLUMNS} {FRAME_ROWS}"));
-    for (row, dots) in frame.chunks_exact(COLUMNS).enumerate() {
+    line(&mut text, format_args!("frame {width} {FRAME_ROWS}"));
+    for (row, dots) in frame.chunks_exact(width).enumerate() {
         let runs = lit_runs(dots);
         if !runs.is_empty() {
             line(&mut text, format_args!("{row} {}", runs.join(" ")));

@@ -8,7 +8,7 @@ use oracle::coverage::Coverage;
 use oracle::differ::{differing_frames, differing_memories};
 use oracle::format::{Reader, Writer};
 use oracle::frame::{self, FRAME_LENGTH};
-use oracle::listing::{LONGEST_TRACE, frame_text, listing};
+use oracle::listing::{LONGEST_TRACE, frame_text, listing, wide_listing};
 use oracle::play::{play, script};
 use oracle::refusal::TAKEN;
 use oracle::show::{image_text, memory_text, run_answer_text, show};
@@ -18,12 +18,12 @@ use oracle::text::from_hex;
 use oracle::trace;
 
 const HELP: &str = "\
-oracle: the SSD1815B as document 01 states it, with Orders 1 to 3 of document
+oracle: the SSD1815B as document 01 states it, with Orders 1 to 4 of document
 02, to compare another model with
 
 usage:
-  oracle list [--upright] < trace
-      the listing of a trace
+  oracle list [--wide] [--upright] < trace
+      the listing of a trace; with --wide of a wide trace, for two chips
   oracle play [--state HEX | --upright] [--memory FILE] < script
       plays events, one to a line: `command AF`, `write 03`, `read`, `reset`;
       answers `number byte dummy` for each, then the state and the memory
@@ -54,7 +54,8 @@ counts: --singles N   cases of one event
         --starts N    start calls
 list, play, run, frame and differ begin as Order 3 has it: at power-on, but
 with column direction 1 and row direction 1, and with zero memory. --upright
-asks for the old start: power-on with zero memory. --state is the 23 bytes of
+asks for the old start: power-on with zero memory; with --wide both chips have
+the start. --state is the 23 bytes of
 an image in hexadecimal (another length is refused by the model, not here), and
 leaves nothing to --upright. --memory is a file of 1,188 bytes.
 ";
@@ -103,7 +104,7 @@ fn obey(arguments: &[String]) -> Result<(), Failure> {
         return print(HELP.as_bytes());
     }
     match command.as_str() {
-        "list" => list(&Options::read(rest, &[], &[UPRIGHT])?),
+        "list" => list(&Options::read(rest, &[], &[WIDE, UPRIGHT])?),
         "play" => play_script(&Options::read(rest, &LENT_OPTIONS, &[UPRIGHT])?),
         "run" => run_trace(&Options::read(rest, &LENT_OPTIONS, &[UPRIGHT])?),
         "frame" => draw_frame(&Options::read(rest, &LENT_OPTIONS, &[UPRIGHT])?),
@@ -117,6 +118,9 @@ fn obey(arguments: &[String]) -> Result<(), Failure> {
 
 /// The flag that names the old start.
 const UPRIGHT: &str = "--upright";
+
+/// The flag of the wide terminal.
+const WIDE: &str = "--wide";
 
 /// What can be lent to the model.
 const LENT_OPTIONS: [&str; 2] = ["--state", "--memory"];
@@ -269,6 +273,11 @@ fn list(options: &Options) -> Result<(), Failure> {
         .lock()
         .take(one_too_many)
         .read_to_end(&mut trace)?;
+    let listing = if options.flag(WIDE) {
+        wide_listing
+    } else {
+        listing
+    };
     print(listing(options.start(), &trace).as_bytes())
 }
 

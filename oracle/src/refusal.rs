@@ -1,4 +1,4 @@
-//! The numbers given: 0 for taken, 1 to 12 for the refusals.
+//! The numbers given: 0 for taken, 1 to 14 for the refusals.
 
 /// The number of an event, run, drawing or comparison that was taken.
 pub const TAKEN: u8 = 0;
@@ -12,7 +12,7 @@ pub enum Refusal {
     ImageOutOfRange,
     /// 3: a command byte outside the table, B9-BF apart.
     OutsideTheTable,
-    /// 4: B9-BF name no page.
+    /// 4: B9-BF name no page, and no page above 8 can be asked for.
     NoSuchPage,
     /// 5: n of D3 or D4 not allowed.
     NNotAllowed,
@@ -30,6 +30,10 @@ pub enum Refusal {
     ListTooSmall,
     /// 12: a frame byte is above 1.
     FrameByteAbove1,
+    /// 13: a selection is not one byte of 1 to 3.
+    WrongSelection,
+    /// 14: a read with both chips selected.
+    ReadOfBoth,
 }
 
 impl Refusal {
@@ -49,6 +53,8 @@ impl Refusal {
             Refusal::ReadDiffers => 10,
             Refusal::ListTooSmall => 11,
             Refusal::FrameByteAbove1 => 12,
+            Refusal::WrongSelection => 13,
+            Refusal::ReadOfBoth => 14,
         }
     }
 }

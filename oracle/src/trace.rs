@@ -52,12 +52,33 @@ pub struct RunAnswer {
     pub count: usize,
 }
 
-/// The record that begins a part of the trace, which is not empty.
+impl RunAnswer {
+    /// The answer of a run that is refused before its first header.
+    #[must_use]
+    pub fn refused_at_once(refusal: Refusal) -> RunAnswer {
+        RunAnswer {
+            number: refusal.number(),
+            offset: 0,
+            count: 0,
+        }
+    }
+}
+
+/// What stops a run at a record that is all there.
+#[derive(Clone, Copy, PartialEq, Eq, Debug)]
+pub enum Stop {
+    /// The header is refused.
+    AtHeader(Refusal),
+    /// The payload byte at this place is refused.
+    AtByte(usize, Refusal),
+}
+
+/// Kind and payload of the record that begins a part of the trace, which is
+/// not empty.
 ///
 /// # Errors
-/// 8 if the header or the payload is not all there, else 9 if no record has
-/// such a header.
-pub fn first_record(rest: &[u8]) -> Result<Record<'_>, Refusal> {
+/// 8 if the header or the payload is not all there.
+pub fn first_parts(rest: &[u8]) -> Result<(u16, &[u8]), Refusal> {
     let Some((&[length_low, length_high, kind_low, kind_high], after)) =
         rest.split_first_chunk::<HEADER_LENGTH>()
     else {
@@ -67,7 +88,15 @@ pub fn first_record(rest: &[u8]) -> Result<Record<'_>, Refusal> {
     let Some(payload) = after.get(..length) else {
         return Err(Refusal::TraceCut);
     };
-    match u16::from_le_bytes([kind_low, kind_high]) {
+    Ok((u16::from_le_bytes([kind_low, kind_high]), payload))
+}
+
+/// The record of a kind and a payload.
+///
+/// # Errors
+/// 9 if no record has such a header.
+pub fn record_of(kind: u16, payload: &[u8]) -> Result<Record<'_>, Refusal> {
+    match kind {
         1 => Ok(Record::Bytes(Payload::Commands, payload)),
         2 => Ok(Record::Bytes(Payload::Written, payload)),
         3 => Ok(Record::Bytes(Payload::Read, payload)),
@@ -97,18 +126,13 @@ pub fn obey(
 /// The call of a run on lent state and memory. It stops at the first refused
 /// event or header, and what came before stands.
 pub fn call(state: &mut [u8], memory: &mut [u8], trace: &[u8]) -> RunAnswer {
-    let refused_at_once = |refusal: Refusal| RunAnswer {
-        number: refusal.number(),
-        offset: 0,
-        count: 0,
-    };
     let (image, memory) = match lent(state, memory) {
         Ok(parts) => parts,
-        Err(refusal) => return refused_at_once(refusal),
+        Err(refusal) => return RunAnswer::refused_at_once(refusal),
     };
     let mut registers = match asked(image) {
         Ok(registers) => registers,
-        Err(refusal) => return refused_at_once(refusal),
+        Err(refusal) => return RunAnswer::refused_at_once(refusal),
     };
     let answer = run(&mut registers, memory, trace, &mut |_, _| ());
     *image = registers.image();
@@ -135,32 +159,53 @@ pub fn run_watched(
     (registers, memory, answer)
 }
 
-/// Obeys a record: how many bytes of its payload are taken, and what refuses
-/// the next, if any does.
-fn obey_record(
-    registers: &mut Registers,
-    memory: &mut Memory,
-    record: Record,
-    watch: &mut dyn FnMut(Registers, Event),
-) -> (usize, Option<Refusal>) {
-    let (payload, bytes) = match record {
-        Record::Bytes(payload, bytes) => (payload, bytes),
-        Record::ResetPin => {
-            watch(*registers, Event::Reset);
-            *registers = Registers::POWER_ON;
-            return (0, None);
-        }
-    };
+/// Obeys the bytes of a payload one by one.
+///
+/// # Errors
+/// The first byte that is refused.
+pub fn each_byte(
+    bytes: &[u8],
+    obey_byte: &mut dyn FnMut(u8) -> Result<(), Refusal>,
+) -> Result<(), Stop> {
     for (place, &byte) in bytes.iter().enumerate() {
-        match obey(*registers, memory, payload, byte) {
-            Ok(taken) => {
-                watch(*registers, payload.event(byte));
-                taken.leave_in(registers, memory);
-            }
-            Err(refusal) => return (place, Some(refusal)),
-        }
+        obey_byte(byte).map_err(|refusal| Stop::AtByte(place, refusal))?;
     }
-    (bytes.len(), None)
+    Ok(())
+}
+
+/// Obeys the records of a trace one by one, each told by its kind and payload,
+/// up to the first stop.
+pub fn each_record(
+    trace: &[u8],
+    obey_record: &mut dyn FnMut(u16, &[u8]) -> Result<(), Stop>,
+) -> RunAnswer {
+    let mut offset = 0;
+    let mut count = 0;
+    while offset < trace.len() {
+        let stopped = |refusal: Refusal, offset: usize| RunAnswer {
+            number: refusal.number(),
+            offset,
+            count,
+        };
+        let (kind, payload) = match first_parts(&trace[offset..]) {
+            Ok(parts) => parts,
+            Err(refusal) => return stopped(refusal, offset),
+        };
+        match obey_record(kind, payload) {
+            Ok(()) => {}
+            Err(Stop::AtHeader(refusal)) => return stopped(refusal, offset),
+            Err(Stop::AtByte(place, refusal)) => {
+                return stopped(refusal, offset + HEADER_LENGTH + place);
+            }
+        }
+        offset += HEADER_LENGTH + payload.len();
+        count += 1;
+    }
+    RunAnswer {
+        number: TAKEN,
+        offset,
+        count,
+    }
 }
 
 /// The run over legal registers and memory; each event that is taken is told,
@@ -171,29 +216,19 @@ pub fn run(
     trace: &[u8],
     watch: &mut dyn FnMut(Registers, Event),
 ) -> RunAnswer {
-    let mut offset = 0;
-    let mut count = 0;
-    while offset < trace.len() {
-        let stopped = |refusal: Refusal, offset: usize| RunAnswer {
-            number: refusal.number(),
-            offset,
-            count,
-        };
-        let record = match first_record(&trace[offset..]) {
-            Ok(record) => record,
-            Err(refusal) => return stopped(refusal, offset),
-        };
-        offset += HEADER_LENGTH;
-        let (bytes_taken, refusal) = obey_record(registers, memory, record, watch);
-        offset += bytes_taken;
-        if let Some(refusal) = refusal {
-            return stopped(refusal, offset);
+    each_record(trace, &mut |kind, payload| {
+        match record_of(kind, payload).map_err(Stop::AtHeader)? {
+            Record::Bytes(payload, bytes) => each_byte(bytes, &mut |byte| {
+                let taken = obey(*registers, memory, payload, byte)?;
+                watch(*registers, payload.event(byte));
+                taken.leave_in(registers, memory);
+                Ok(())
+            }),
+            Record::ResetPin => {
+                watch(*registers, Event::Reset);
+                *registers = Registers::POWER_ON;
+                Ok(())
+            }
         }
-        count += 1;
-    }
-    RunAnswer {
-        number: TAKEN,
-        offset,
-        count,
-    }
+    })
 }

@@ -14,7 +14,7 @@ use crate::listing::LONGEST_TRACE;
 use crate::memory::{COLUMNS, ICON_PAGE, LAST_COLUMN, MEMORY_LENGTH, place};
 use crate::refusal::TAKEN;
 use crate::registers::{Awaited, FIELDS, IMAGE_LENGTH, Image, Registers};
-use crate::trace::{HEADER_LENGTH, Payload, Record, first_record};
+use crate::trace::{HEADER_LENGTH, Payload, Record, first_parts, record_of};
 use bands::BandCoverage;
 use compared::ComparedCoverage;
 use starts::StartCoverage;
@@ -611,15 +611,10 @@ impl Coverage {
         if run.trace.is_empty() {
             situations.hit_label("empty trace");
         }
-        let mut place = 0;
-        for _ in 0..run.answer.count {
-            let record = first_record(&run.trace[place..]).expect("a record that was done");
-            let length = match record {
-                Record::ResetPin => 0,
-                Record::Bytes(_, bytes) => bytes.len(),
-            };
+        let (done, place) = records_done(&run.trace, run.answer.count);
+        for (kind, payload) in done {
+            let record = record_of(kind, payload).expect("a record that was done");
             see_record_done(situations, record);
-            place += HEADER_LENGTH + length;
         }
         let rest = &run.trace[place..];
         match (run.answer.number, rest) {
@@ -723,6 +718,18 @@ fn index_of(code: Awaited) -> usize {
         .iter()
         .position(|known| *known == code)
         .expect("every code is in the list")
+}
+
+/// Kind and payload of each record that was done, and where the next begins.
+fn records_done(trace: &[u8], count: usize) -> (Vec<(u16, &[u8])>, usize) {
+    let mut place = 0;
+    let mut done = Vec::new();
+    for _ in 0..count {
+        let (kind, payload) = first_parts(&trace[place..]).expect("a record that was done");
+        place += HEADER_LENGTH + payload.len();
+        done.push((kind, payload));
+    }
+    (done, place)
 }
 
 fn see_record_done(situations: &mut Group, record: Record) {
