@@ -8,7 +8,7 @@ use crate::refusal::TAKEN;
 use crate::start::Start;
 use crate::trace::{self, RunAnswer};
 use crate::wide;
-use crate::wide::frame::{WIDE_COLUMNS, WIDE_FRAME_LENGTH, WideFrame};
+use crate::wide::frame::WIDE_COLUMNS;
 
 /// The longest trace that is read.
 pub const LONGEST_TRACE: usize = 65_536;
@@ -29,8 +29,7 @@ pub fn listing(start: Start, trace: &[u8]) -> String {
 pub fn wide_listing(start: Start, trace: &[u8]) -> String {
     listed(trace, || {
         let (registers, memories, answer) = wide::trace::run_from(start, trace);
-        let mut frame = [0; WIDE_FRAME_LENGTH];
-        wide::frame::draw(registers, memories.each_ref(), &mut frame);
+        let frame = wide::frame::drawn(registers, memories.each_ref());
         (answer, wide_frame_text(&frame))
     })
 }
@@ -60,7 +59,7 @@ pub fn frame_text(frame: &Frame) -> String {
 
 /// The same lines of a wide frame.
 #[must_use]
-pub fn wide_frame_text(frame: &WideFrame) -> String {
+pub fn wide_frame_text(frame: &[u8]) -> String {
     rows_text(WIDE_COLUMNS, frame)
 }
 

@@ -173,12 +173,11 @@ pub fn each_byte(
     Ok(())
 }
 
-/// Obeys the records of a trace one by one, each told by its kind and payload,
-/// up to the first stop.
-pub fn each_record(
-    trace: &[u8],
-    obey_record: &mut dyn FnMut(u16, &[u8]) -> Result<(), Stop>,
-) -> RunAnswer {
+/// Obeys a record of a kind and a payload.
+pub type ObeyRecord<'a> = dyn FnMut(u16, &[u8]) -> Result<(), Stop> + 'a;
+
+/// Obeys the records of a trace one by one, up to the first stop.
+pub fn each_record(trace: &[u8], obey_record: &mut ObeyRecord) -> RunAnswer {
     let mut offset = 0;
     let mut count = 0;
     while offset < trace.len() {
@@ -216,19 +215,19 @@ pub fn run(
     trace: &[u8],
     watch: &mut dyn FnMut(Registers, Event),
 ) -> RunAnswer {
-    each_record(trace, &mut |kind, payload| {
-        match record_of(kind, payload).map_err(Stop::AtHeader)? {
-            Record::Bytes(payload, bytes) => each_byte(bytes, &mut |byte| {
-                let taken = obey(*registers, memory, payload, byte)?;
-                watch(*registers, payload.event(byte));
-                taken.leave_in(registers, memory);
-                Ok(())
-            }),
-            Record::ResetPin => {
-                watch(*registers, Event::Reset);
-                *registers = Registers::POWER_ON;
-                Ok(())
-            }
+    each_record(trace, &mut |kind, payload| match record_of(kind, payload)
+        .map_err(Stop::AtHeader)?
+    {
+        Record::Bytes(payload, bytes) => each_byte(bytes, &mut |byte| {
+            let taken = obey(*registers, memory, payload, byte)?;
+            watch(*registers, payload.event(byte));
+            taken.leave_in(registers, memory);
+            Ok(())
+        }),
+        Record::ResetPin => {
+            watch(*registers, Event::Reset);
+            *registers = Registers::POWER_ON;
+            Ok(())
         }
     })
 }

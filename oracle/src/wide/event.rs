@@ -18,6 +18,7 @@ pub struct WideAnswer {
 
 /// The call of a single event on the chips that a byte selects. A refused
 /// event leaves all four buffers untouched.
+#[must_use]
 pub fn call(pair: [Lent; 2], selection: u8, event: Event) -> WideAnswer {
     match call_or_refusal(pair, selection, event) {
         Ok(taken) => {

@@ -37,6 +37,7 @@ pub fn wide_record_of(kind: u16, payload: &[u8]) -> Result<WideRecord<'_>, Refus
 
 /// The call of a run on the buffers of both chips. It stops at the first
 /// refused event or header, and what came before stands.
+#[must_use]
 pub fn call(pair: [Lent; 2], trace: &[u8]) -> RunAnswer {
     match asked_pair(pair) {
         Ok((images, mut chips)) => {
@@ -83,15 +84,16 @@ pub fn run_from(start: Start, trace: &[u8]) -> ([Registers; 2], [Memory; 2], Run
 /// The run over two chips.
 pub fn run(chips: &mut Chips, trace: &[u8]) -> RunAnswer {
     let mut selection = FIRST_SELECTION;
-    each_record(trace, &mut |kind, payload| {
-        match wide_record_of(kind, payload).map_err(Stop::AtHeader)? {
+    each_record(
+        trace,
+        &mut |kind, payload| match wide_record_of(kind, payload).map_err(Stop::AtHeader)? {
             WideRecord::Select(selected) => {
                 selection = selected;
                 Ok(())
             }
             WideRecord::ForSelected(record) => obey_record(chips, selection, record),
-        }
-    })
+        },
+    )
 }
 
 /// Obeys a record in each selected chip.
