@@ -16,4 +16,7 @@ exec "$oracle" cases --seed "$seed" \
   --runs $((5000 * times)) --draws $((27000 * times)) \
   --listings $((500 * times)) \
   --compared-frames $((280 * times)) --compared-memories $((1300 * times)) \
-  --starts $((400 * times))
+  --starts $((400 * times)) \
+  --wide-singles $((33500 * times)) --wide-runs $((1000 * times)) \
+  --wide-draws $((200 * times)) --pages $((200 * times)) \
+  --wide-listings $((100 * times))

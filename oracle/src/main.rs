@@ -52,6 +52,11 @@ counts: --singles N   cases of one event
         --compared-frames N    pairs of frames compared
         --compared-memories N  pairs of memories compared
         --starts N    start calls
+        --wide-singles N       cases of one event for two chips
+        --wide-runs N          wide trace runs
+        --wide-draws N         wide drawings
+        --pages N              page calls
+        --wide-listings N      wide listings
 list, play, run, frame and differ begin as Order 3 has it: at power-on, but
 with column direction 1 and row direction 1, and with zero memory. --upright
 asks for the old start: power-on with zero memory; with --wide both chips have
@@ -125,7 +130,7 @@ const WIDE: &str = "--wide";
 /// What can be lent to the model.
 const LENT_OPTIONS: [&str; 2] = ["--state", "--memory"];
 
-const PLAN_OPTIONS: [&str; 9] = [
+const PLAN_OPTIONS: [&str; 14] = [
     "--seed",
     "--singles",
     "--events",
@@ -135,6 +140,11 @@ const PLAN_OPTIONS: [&str; 9] = [
     "--compared-frames",
     "--compared-memories",
     "--starts",
+    "--wide-singles",
+    "--wide-runs",
+    "--wide-draws",
+    "--pages",
+    "--wide-listings",
 ];
 
 const PLAN_FLAGS: [&str; 2] = ["--no-sweep", "--summary"];
@@ -245,6 +255,11 @@ impl Options {
             compared_frames: self.count("--compared-frames", usual.compared_frames)?,
             compared_memories: self.count("--compared-memories", usual.compared_memories)?,
             starts: self.count("--starts", usual.starts)?,
+            wide_singles: self.count("--wide-singles", usual.wide_singles)?,
+            wide_runs: self.count("--wide-runs", usual.wide_runs)?,
+            wide_draws: self.count("--wide-draws", usual.wide_draws)?,
+            pages: self.count("--pages", usual.pages)?,
+            wide_listings: self.count("--wide-listings", usual.wide_listings)?,
         })
     }
 }

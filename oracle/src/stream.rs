@@ -1,15 +1,17 @@
 //! The whole stream of cases: the sweep of the base, then random cases of each
 //! of its kinds; then the same for the comparisons of Order 1; then the sweep
 //! of the bands of Order 2, whose random cases are the base's; then Order 3's
-//! sweep of listings, whose random cases are the base's too, and last of all
-//! the start calls, swept and random.
+//! sweep of listings, whose random cases are the base's too, and the start
+//! calls, swept and random; last of all Order 4's wide terminal, swept and random.
 
 use std::io;
 
 use crate::cases::Case;
-use crate::generate;
+use crate::generate::{self, wide};
 use crate::random::Random;
-use crate::sweep::{Sink, sweep, sweep_of_bands, sweep_of_comparisons, sweep_of_starts};
+use crate::sweep::{
+    Sink, sweep, sweep_of_bands, sweep_of_comparisons, sweep_of_starts, sweep_of_wide,
+};
 
 /// How many cases of each kind to make, and from what seed.
 #[derive(Clone, Copy, PartialEq, Eq, Debug)]
@@ -30,6 +32,13 @@ pub struct Plan {
     pub compared_memories: usize,
     /// Start calls.
     pub starts: usize,
+    /// Cases of a single event of the wide terminal.
+    pub wide_singles: usize,
+    pub wide_runs: usize,
+    pub wide_draws: usize,
+    /// Pages asked for.
+    pub pages: usize,
+    pub wide_listings: usize,
 }
 
 impl Plan {
@@ -47,6 +56,11 @@ impl Plan {
             compared_frames: 280,
             compared_memories: 1_300,
             starts: 400,
+            wide_singles: 4_000,
+            wide_runs: 1_000,
+            wide_draws: 200,
+            pages: 200,
+            wide_listings: 100,
         }
     }
 }
@@ -87,11 +101,41 @@ pub fn each_case(plan: &Plan, sink: &mut Sink) -> io::Result<()> {
     if plan.sweep {
         sweep_of_bands(sink)?;
     }
-    each_start(plan, sink)
+    each_start(plan, sink)?;
+    each_wide(plan, sink)
 }
 
-/// The cases of Order 3. They come after all others, which so keep their
+/// The cases of Order 4. They come after all others, which so keep their
 /// places in the stream.
+fn each_wide(plan: &Plan, sink: &mut Sink) -> io::Result<()> {
+    if plan.sweep {
+        sweep_of_wide(sink)?;
+    }
+    let mut random = Random::new(plan.seed, 11);
+    for _ in 0..plan.wide_singles {
+        sink(Case::WideSingle(wide::wide_single(&mut random)))?;
+    }
+    let mut random = Random::new(plan.seed, 12);
+    for _ in 0..plan.wide_runs {
+        sink(Case::WideRun(wide::wide_run(&mut random)))?;
+    }
+    let mut random = Random::new(plan.seed, 13);
+    for _ in 0..plan.wide_draws {
+        sink(Case::WideDraw(wide::wide_draw(&mut random)))?;
+    }
+    let mut random = Random::new(plan.seed, 14);
+    for _ in 0..plan.pages {
+        sink(Case::PageCall(wide::page_call(&mut random)))?;
+    }
+    let mut random = Random::new(plan.seed, 15);
+    for _ in 0..plan.wide_listings {
+        sink(Case::WideListing(wide::wide_listing(&mut random)))?;
+    }
+    Ok(())
+}
+
+/// The cases of Order 3. They come after those of the base and of Orders 1 and
+/// 2, which so keep their places in the stream.
 fn each_start(plan: &Plan, sink: &mut Sink) -> io::Result<()> {
     if plan.sweep {
         sweep_of_starts(sink)?;

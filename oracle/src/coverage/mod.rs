@@ -4,6 +4,7 @@ mod bands;
 mod compared;
 mod start_calls;
 mod starts;
+mod wide;
 
 use std::fmt;
 
@@ -18,6 +19,7 @@ use crate::trace::{HEADER_LENGTH, Payload, Record, first_parts, record_of};
 use bands::BandCoverage;
 use compared::ComparedCoverage;
 use starts::StartCoverage;
+use wide::WideCoverage;
 
 /// Counts of things of one sort.
 #[derive(Clone, PartialEq, Eq, Debug)]
@@ -40,12 +42,20 @@ impl Group {
         }
     }
 
-    /// The numbers 0 to 12, of which only these can be answered.
+    /// The numbers 0 to 14, of which only these can be answered.
     fn numbers(name: &'static str, possible: &[u8]) -> Group {
         Group {
-            possible: (0..=12).map(|number| possible.contains(&number)).collect(),
-            ..Group::new(name, 0..=12)
+            possible: (0..=14).map(|number| possible.contains(&number)).collect(),
+            ..Group::new(name, 0..=14)
         }
+    }
+
+    /// The same group, of which the labels that end so cannot be reached.
+    fn without(mut self, ending: &str) -> Group {
+        for (label, possible) in self.labels.iter().zip(&mut self.possible) {
+            *possible &= !label.ends_with(ending);
+        }
+        self
     }
 
     fn hex_bytes(name: &'static str) -> Group {
@@ -254,6 +264,7 @@ pub struct Coverage {
     compared: ComparedCoverage,
     bands: BandCoverage,
     starts: StartCoverage,
+    wide: WideCoverage,
 }
 
 impl Default for Coverage {
@@ -284,6 +295,11 @@ impl Coverage {
                     "compared frames",
                     "compared memories",
                     "start call",
+                    "wide single",
+                    "wide run",
+                    "wide draw",
+                    "page call",
+                    "wide listing",
                 ],
             ),
             command_numbers: Group::numbers("numbers of commands", &[0, 1, 2, 3, 4, 5]),
@@ -337,6 +353,7 @@ impl Coverage {
             compared: ComparedCoverage::new(),
             bands: BandCoverage::new(),
             starts: StartCoverage::new(),
+            wide: WideCoverage::new(),
         }
     }
 
@@ -379,6 +396,7 @@ impl Coverage {
         groups.extend(self.compared.groups());
         groups.extend(self.bands.groups());
         groups.extend(self.starts.groups());
+        groups.extend(self.wide.groups());
         groups
     }
 
@@ -407,6 +425,26 @@ impl Coverage {
             Case::StartCall(start_call) => {
                 self.cases.hit_label("start call");
                 self.starts.see_call(start_call);
+            }
+            Case::WideSingle(single) => {
+                self.cases.hit_label("wide single");
+                self.wide.see_single(single);
+            }
+            Case::WideRun(run) => {
+                self.cases.hit_label("wide run");
+                self.wide.see_run(run);
+            }
+            Case::WideDraw(draw) => {
+                self.cases.hit_label("wide draw");
+                self.wide.see_draw(draw);
+            }
+            Case::PageCall(call) => {
+                self.cases.hit_label("page call");
+                self.wide.see_page(call);
+            }
+            Case::WideListing(listing) => {
+                self.cases.hit_label("wide listing");
+                self.wide.see_listing(listing);
             }
         }
     }
@@ -681,19 +719,14 @@ impl Coverage {
         if listing.trace.len() == LONGEST_TRACE {
             self.listing_situations.hit_label("input as long as may be");
         }
-        let refused = listing.text.strip_prefix("refused ");
-        let number = refused.map_or(0, |rest| {
-            let digits = rest.split(' ').next().unwrap_or("");
-            digits.parse::<u8>().expect("a refusal has a number")
-        });
+        let number = refused_number(&listing.text);
         self.listing_numbers.hit(number);
         let all_dark = listing.text.ends_with("frame 132 65\nend\n");
-        self.listing_situations
-            .hit_label(match (all_dark, refused) {
-                (true, _) => "all dark",
-                (false, None) => "lit places",
-                (false, Some(_)) => "refused, lit places",
-            });
+        self.listing_situations.hit_label(match (all_dark, number) {
+            (true, _) => "all dark",
+            (false, TAKEN) => "lit places",
+            (false, _) => "refused, lit places",
+        });
         let registers = self.starts.see_run(listing);
         if registers.display_on {
             self.bands.see_listing(registers);
@@ -711,6 +744,14 @@ impl fmt::Display for Coverage {
         }
         Ok(())
     }
+}
+
+/// The number that a listing prints, or that of a run that was not refused.
+fn refused_number(text: &str) -> u8 {
+    text.strip_prefix("refused ").map_or(TAKEN, |rest| {
+        let digits = rest.split(' ').next().unwrap_or("");
+        digits.parse().expect("a refusal has a number")
+    })
 }
 
 fn index_of(code: Awaited) -> usize {

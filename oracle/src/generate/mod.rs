@@ -7,6 +7,8 @@ pub mod memory_pairs;
 pub mod starts;
 pub mod states;
 pub mod traces;
+pub mod wide;
+pub mod wide_traces;
 
 use crate::cases::{Comparison, Draw, Listing, Run, Sequence, Single, StartCall};
 use crate::compare::{self, FRAME_ENTRY, MEMORY_ENTRY};
@@ -145,13 +147,19 @@ pub fn draw(random: &mut Random) -> Draw {
 /// A listing from either start.
 #[must_use]
 pub fn listing(random: &mut Random) -> Listing {
-    let mut trace = traces::drawing_trace(random);
+    let trace = traces::drawing_trace(random);
+    let trace = lengthened_or_not(random, trace);
+    Listing::new(random.pick(&Start::ALL), trace)
+}
+
+/// The trace, now and then as long as may be or longer.
+fn lengthened_or_not(random: &mut Random, mut trace: Vec<u8>) -> Vec<u8> {
     match random.below(50) {
         0 => trace.resize(LONGEST_TRACE + random.between(1, 300), 0),
         1 => traces::lengthen(&mut trace, LONGEST_TRACE),
         _ => {}
     }
-    Listing::new(random.pick(&Start::ALL), trace)
+    trace
 }
 
 /// Lengths of lists around what so many entries need.

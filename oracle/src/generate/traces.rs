@@ -14,7 +14,10 @@ pub fn trace(random: &mut Random, registers: Registers, memory: &Memory) -> Vec<
     if random.one_in(60) {
         return garbage(random);
     }
-    let mut maker = Maker::new(registers, memory);
+    let mut maker = Maker::new(OneChip {
+        registers,
+        memory: *memory,
+    });
     if random.one_in(150) {
         maker.push_many_written(random);
     }
@@ -31,7 +34,10 @@ pub fn trace(random: &mut Random, registers: Registers, memory: &Memory) -> Vec<
 /// directions, in which alone the starts differ.
 #[must_use]
 pub fn drawing_trace(random: &mut Random) -> Vec<u8> {
-    let mut maker = Maker::new(Registers::POWER_ON, &ZERO_MEMORY);
+    let mut maker = Maker::new(OneChip {
+        registers: Registers::POWER_ON,
+        memory: ZERO_MEMORY,
+    });
     maker.push_now_and_then_a_reset(random);
     if !random.one_in(10) {
         maker.push_commands(&picture_commands(random));
@@ -62,7 +68,7 @@ pub fn lengthen(trace: &mut Vec<u8>, length: usize) {
 }
 
 /// Commands that bring about random settings of the picture.
-fn picture_commands(random: &mut Random) -> Vec<u8> {
+pub(super) fn picture_commands(random: &mut Random) -> Vec<u8> {
     let wanted = states::drawn_registers(random);
     let mut commands = vec![
         0xAE | u8::from(wanted.display_on),
@@ -87,8 +93,18 @@ fn picture_commands(random: &mut Random) -> Vec<u8> {
     commands
 }
 
+/// The bytes of a record drawn by lot; none is the reset pin.
+pub(super) fn any_payload(random: &mut Random) -> Option<Payload> {
+    match random.below(20) {
+        0 => None,
+        1..=8 => Some(Payload::Commands),
+        9..=14 => Some(Payload::Written),
+        _ => Some(Payload::Read),
+    }
+}
+
 /// Any bytes at all.
-fn garbage(random: &mut Random) -> Vec<u8> {
+pub(super) fn garbage(random: &mut Random) -> Vec<u8> {
     let mut trace = vec![0; random.below(40)];
     random.fill(&mut trace);
     if random.flag() {
@@ -100,20 +116,64 @@ fn garbage(random: &mut Random) -> Vec<u8> {
     trace
 }
 
-/// A trace in the making, and where obeying it has led.
-struct Maker {
+/// What a trace is made for.
+pub(super) trait Machine {
+    /// Kinds of records to put in the place of right ones.
+    const WRONG_KINDS: &'static [u16];
+
+    /// A chip that the next byte goes to.
+    fn chip(&self, random: &mut Random) -> (Registers, &Memory);
+
+    /// The effect of the reset pin.
+    fn reset(&mut self);
+
+    /// Whether the byte is taken; then its effect stands.
+    fn obey(&mut self, payload: Payload, byte: u8) -> bool;
+}
+
+/// One chip.
+struct OneChip {
     registers: Registers,
     memory: Memory,
-    trace: Vec<u8>,
+}
+
+impl Machine for OneChip {
+    /// The low byte alone of some would be a kind.
+    const WRONG_KINDS: &'static [u16] = &[
+        0, 5, 6, 0x0100, 0x0101, 0x0102, 0x0203, 0x0104, 0x8001, 0xFFFF,
+    ];
+
+    fn chip(&self, _: &mut Random) -> (Registers, &Memory) {
+        (self.registers, &self.memory)
+    }
+
+    fn reset(&mut self) {
+        self.registers = Registers::POWER_ON;
+    }
+
+    fn obey(&mut self, payload: Payload, byte: u8) -> bool {
+        match obey(self.registers, &self.memory, payload, byte) {
+            Ok(taken) => {
+                taken.leave_in(&mut self.registers, &mut self.memory);
+                true
+            }
+            Err(_) => false,
+        }
+    }
+}
+
+/// A trace in the making, and what obeying it has led to.
+pub(super) struct Maker<M: Machine> {
+    pub machine: M,
+    pub trace: Vec<u8>,
     /// Where each record begins.
     records: Vec<usize>,
 }
 
-impl Maker {
-    fn new(registers: Registers, memory: &Memory) -> Maker {
+impl<M: Machine> Maker<M> {
+    pub fn new(machine: M) -> Maker<M> {
         Maker {
-            registers,
-            memory: *memory,
+            machine,
             trace: Vec::new(),
             records: Vec::new(),
         }
@@ -121,18 +181,22 @@ impl Maker {
 
     /// Adds a record of any kind.
     fn push_record(&mut self, random: &mut Random) {
-        match random.below(20) {
-            0 => self.push_reset(),
-            1..=8 => self.push_bytes(random, Payload::Commands),
-            9..=14 => self.push_bytes(random, Payload::Written),
-            _ => self.push_bytes(random, Payload::Read),
+        let payload = any_payload(random);
+        self.push_record_of(random, payload);
+    }
+
+    /// Adds a record of this payload, or of the reset pin.
+    pub fn push_record_of(&mut self, random: &mut Random, payload: Option<Payload>) {
+        match payload {
+            None => self.push_reset(),
+            Some(payload) => self.push_bytes(random, payload),
         }
     }
 
     /// Adds a record of the reset pin.
     fn push_reset(&mut self) {
         self.push_header(0, 4);
-        self.registers = Registers::POWER_ON;
+        self.machine.reset();
     }
 
     /// Adds, one time in eight, a record of the reset pin or of E2.
@@ -145,10 +209,10 @@ impl Maker {
     }
 
     /// Adds a record of just these commands.
-    fn push_commands(&mut self, commands: &[u8]) {
+    pub fn push_commands(&mut self, commands: &[u8]) {
         self.push_header(commands.len(), 1);
         for &byte in commands {
-            self.obey(Payload::Commands, byte);
+            self.machine.obey(Payload::Commands, byte);
             self.trace.push(byte);
         }
     }
@@ -160,7 +224,7 @@ impl Maker {
         random.fill(&mut bytes);
         self.push_header(bytes.len(), 2);
         for byte in bytes {
-            self.obey(Payload::Written, byte);
+            self.machine.obey(Payload::Written, byte);
             self.trace.push(byte);
         }
     }
@@ -179,7 +243,7 @@ impl Maker {
                 Payload::Commands => random.one_in(30),
                 Payload::Written | Payload::Read => random.one_in(3),
             };
-            if self.obey(payload, byte) || kept {
+            if self.machine.obey(payload, byte) || kept {
                 bytes.push(byte);
             } else if payload != Payload::Commands {
                 break;
@@ -196,29 +260,19 @@ impl Maker {
 
     /// A payload byte; for reads mostly the right one.
     fn byte_for(&self, random: &mut Random, payload: Payload) -> u8 {
+        let (registers, memory) = self.machine.chip(random);
         match payload {
-            Payload::Commands => events::command_byte(random, self.registers),
+            Payload::Commands => events::command_byte(random, registers),
             Payload::Written => random.byte(),
             Payload::Read if random.one_in(60) => random.byte(),
-            Payload::Read => match meaning(self.registers, &self.memory, Event::Read) {
+            Payload::Read => match meaning(registers, memory, Event::Read) {
                 Ok(taken) if !taken.dummy => taken.byte,
                 _ => random.byte(),
             },
         }
     }
 
-    /// Whether the byte is taken; then its effect stands.
-    fn obey(&mut self, payload: Payload, byte: u8) -> bool {
-        match obey(self.registers, &self.memory, payload, byte) {
-            Ok(taken) => {
-                taken.leave_in(&mut self.registers, &mut self.memory);
-                true
-            }
-            Err(_) => false,
-        }
-    }
-
-    fn push_header(&mut self, length: usize, kind: u16) {
+    pub fn push_header(&mut self, length: usize, kind: u16) {
         self.records.push(self.trace.len());
         let length = u16::try_from(length).expect("payloads are short");
         self.trace.extend(length.to_le_bytes());
@@ -226,7 +280,7 @@ impl Maker {
     }
 
     /// Spoils the trace in one way.
-    fn damage(&mut self, random: &mut Random) {
+    pub fn damage(&mut self, random: &mut Random) {
         let end = self.trace.len();
         match random.below(10) {
             0 | 1 => self.trace.truncate(random.below(end + 1)),
@@ -240,11 +294,11 @@ impl Maker {
             }
             5 => {
                 // A wrong kind, and its payload past the end.
-                self.push_header(random.between(2, 300), random.pick(&WRONG_KINDS));
+                self.push_header(random.between(2, 300), random.pick(M::WRONG_KINDS));
                 self.push_garbage(random, 0, 1);
             }
             6 => self.change_header(random, |random, _, kind| {
-                *kind = random.pick(&WRONG_KINDS);
+                *kind = random.pick(M::WRONG_KINDS);
             }),
             7 => self.change_header(random, |random, length, _| {
                 *length = random.pick(&[
@@ -295,8 +349,3 @@ impl Maker {
         header[2..].copy_from_slice(&kind.to_le_bytes());
     }
 }
-
-/// Kinds no record has; the low byte alone of some would be a kind.
-const WRONG_KINDS: [u16; 10] = [
-    0, 5, 6, 0x0100, 0x0101, 0x0102, 0x0203, 0x0104, 0x8001, 0xFFFF,
-];

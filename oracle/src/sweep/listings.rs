@@ -42,7 +42,7 @@ const ROWS: [[u8; 5]; 2] = [
 ];
 
 /// What can settle a direction, and E2 as an n, which cannot.
-const TURNS: [&[u8]; 7] = [
+pub const TURNS: [&[u8]; 7] = [
     &COLUMNS[0],
     &COLUMNS[1],
     &ROWS[0],
@@ -155,7 +155,7 @@ fn icons(give: &mut Give) -> io::Result<()> {
 
 /// Records that are refused, with each number of a run and in each way, after
 /// the picture and before it.
-const REFUSED: [&[u8]; 13] = [
+pub const REFUSED: [&[u8]; 13] = [
     &[0x01, 0x00, 0x01, 0x00, 0x80],
     &[0x01, 0x00, 0x01, 0x00, 0xB9],
     &[0x02, 0x00, 0x01, 0x00, 0xD3, 0x40],

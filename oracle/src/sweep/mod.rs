@@ -7,6 +7,7 @@ mod compared_memories;
 mod listings;
 mod records;
 mod start_calls;
+mod wide;
 
 use std::io;
 
@@ -62,6 +63,14 @@ pub fn sweep_of_bands(sink: &mut Sink) -> io::Result<()> {
 pub fn sweep_of_starts(sink: &mut Sink) -> io::Result<()> {
     listings::listings(sink)?;
     start_calls::start_calls(sink)
+}
+
+/// Gives every case of Order 4's sweep to the sink.
+///
+/// # Errors
+/// Those of the sink.
+pub fn sweep_of_wide(sink: &mut Sink) -> io::Result<()> {
+    wide::wide(sink)
 }
 
 /// Registers of which each differs from power-on.

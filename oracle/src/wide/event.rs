@@ -2,7 +2,7 @@
 
 use crate::event::{Event, Stored, Taken, asked_at, meaning};
 use crate::refusal::{Refusal, TAKEN};
-use crate::wide::{Chip, Lent, Selection, leave_in_chips, lent_pair, obey_selected};
+use crate::wide::{Lent, Selection, leave_in_chips, lent_chips, obey_selected};
 
 /// The answer of an event call on a pair of chips.
 #[derive(Clone, Copy, PartialEq, Eq, Debug)]
@@ -45,24 +45,13 @@ fn call_or_refusal(
     selection: u8,
     event: Event,
 ) -> Result<[Option<Taken>; 2], Refusal> {
-    let [(left_image, left_memory), (right_image, right_memory)] = lent_pair(pair)?;
-    let mut chips = [
-        Chip {
-            registers: asked_at(event, left_image)?,
-            memory: left_memory,
-        },
-        Chip {
-            registers: asked_at(event, right_image)?,
-            memory: right_memory,
-        },
-    ];
+    let (images, mut chips) = lent_chips(pair, |image| asked_at(event, image))?;
     let selection = Selection::from_byte(selection)?;
     let taken = obey_selected(&chips, selection, event, |registers, memory| {
         meaning(registers, memory, event)
     })?;
     leave_in_chips(taken, &mut chips);
     // The image of a chip not selected may be illegal, and stays.
-    let images = [left_image, right_image];
     for (image, taken) in images.into_iter().zip(taken) {
         if let Some(taken) = taken {
             *image = taken.registers.image();

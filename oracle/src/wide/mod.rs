@@ -93,16 +93,28 @@ pub struct Chip<'a> {
 /// The left chip and the right.
 pub type Chips<'a> = [Chip<'a>; 2];
 
-/// The parts of the lent buffers the model uses, of the left chip and of the
-/// right.
-type PairOfParts<'a> = [(&'a mut Image, &'a mut Memory); 2];
-
-/// The parts of all four lent buffers.
-fn lent_pair([left, right]: [Lent<'_>; 2]) -> Result<PairOfParts<'_>, Refusal> {
-    Ok([
-        lent(left.state, left.memory)?,
-        lent(right.state, right.memory)?,
-    ])
+/// The images in the four lent buffers, and the chips they stand for, each
+/// image asked in the same way.
+///
+/// # Errors
+/// 1 if any buffer is too short, else what asking an image gives.
+fn lent_chips(
+    [left, right]: [Lent<'_>; 2],
+    ask: impl Fn(&Image) -> Result<Registers, Refusal>,
+) -> Result<([&mut Image; 2], Chips<'_>), Refusal> {
+    let (left_image, left_memory) = lent(left.state, left.memory)?;
+    let (right_image, right_memory) = lent(right.state, right.memory)?;
+    let chips = [
+        Chip {
+            registers: ask(left_image)?,
+            memory: left_memory,
+        },
+        Chip {
+            registers: ask(right_image)?,
+            memory: right_memory,
+        },
+    ];
+    Ok(([left_image, right_image], chips))
 }
 
 /// What an event leaves in each selected chip, with what it does to one of

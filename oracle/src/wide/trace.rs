@@ -3,10 +3,10 @@
 use crate::event::{Event, Taken, asked, meaning};
 use crate::memory::Memory;
 use crate::refusal::Refusal;
-use crate::registers::{Image, Registers};
+use crate::registers::Registers;
 use crate::start::{Start, ZERO_MEMORY};
 use crate::trace::{Record, RunAnswer, Stop, each_byte, each_record, obey, record_of};
-use crate::wide::{Chip, Chips, Lent, Selection, leave_in_chips, lent_pair, obey_selected};
+use crate::wide::{Chip, Chips, Lent, Selection, leave_in_chips, lent_chips, obey_selected};
 
 /// The kind of the records that select.
 pub const SELECT_KIND: u16 = 5;
@@ -39,7 +39,7 @@ pub fn wide_record_of(kind: u16, payload: &[u8]) -> Result<WideRecord<'_>, Refus
 /// refused event or header, and what came before stands.
 #[must_use]
 pub fn call(pair: [Lent; 2], trace: &[u8]) -> RunAnswer {
-    match asked_pair(pair) {
+    match lent_chips(pair, asked) {
         Ok((images, mut chips)) => {
             let answer = run(&mut chips, trace);
             for (image, chip) in images.into_iter().zip(chips) {
@@ -49,22 +49,6 @@ pub fn call(pair: [Lent; 2], trace: &[u8]) -> RunAnswer {
         }
         Err(refusal) => RunAnswer::refused_at_once(refusal),
     }
-}
-
-/// Both images, and the chips they stand for.
-fn asked_pair(pair: [Lent<'_>; 2]) -> Result<([&mut Image; 2], Chips<'_>), Refusal> {
-    let [(left_image, left_memory), (right_image, right_memory)] = lent_pair(pair)?;
-    let chips = [
-        Chip {
-            registers: asked(left_image)?,
-            memory: left_memory,
-        },
-        Chip {
-            registers: asked(right_image)?,
-            memory: right_memory,
-        },
-    ];
-    Ok(([left_image, right_image], chips))
 }
 
 /// The run with both chips begun with a start: the registers and the memories

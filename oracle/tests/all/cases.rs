@@ -3,6 +3,7 @@
 use std::collections::HashSet;
 use std::io;
 
+use oracle::cases::wide::{Buffers, WideSingle};
 use oracle::cases::{Case, Comparison, list_pattern, pattern};
 use oracle::compare::{self, Compared};
 use oracle::coverage::Coverage;
@@ -10,7 +11,7 @@ use oracle::event::{self, Answer, Event};
 use oracle::format::{LONGEST_BODY, Reader, Writer};
 use oracle::start::{self, Start};
 use oracle::stream::{Plan, each_case};
-use oracle::{cases, frame, listing, trace};
+use oracle::{cases, frame, listing, trace, wide};
 
 use crate::rig::{POWER_ON, UPSIDE_DOWN};
 
@@ -26,6 +27,11 @@ fn small(seed: u64) -> Plan {
         compared_frames: 60,
         compared_memories: 120,
         starts: 80,
+        wide_singles: 200,
+        wide_runs: 100,
+        wide_draws: 30,
+        pages: 60,
+        wide_listings: 40,
     }
 }
 
@@ -42,7 +48,36 @@ fn only_the_sweep() -> Plan {
         compared_frames: 0,
         compared_memories: 0,
         starts: 0,
+        wide_singles: 0,
+        wide_runs: 0,
+        wide_draws: 0,
+        pages: 0,
+        wide_listings: 0,
     }
+}
+
+/// The plan without the cases of the wide terminal that are not of the sweep.
+fn without_wide(plan: Plan) -> Plan {
+    Plan {
+        wide_singles: 0,
+        wide_runs: 0,
+        wide_draws: 0,
+        pages: 0,
+        wide_listings: 0,
+        ..plan
+    }
+}
+
+/// Whether a case is the wide terminal's.
+fn is_wide(case: &Case) -> bool {
+    matches!(
+        case,
+        Case::WideSingle(_)
+            | Case::WideRun(_)
+            | Case::WideDraw(_)
+            | Case::PageCall(_)
+            | Case::WideListing(_)
+    )
 }
 
 fn stream_of(plan: &Plan) -> Vec<u8> {
@@ -162,7 +197,7 @@ fn the_bytes_of_a_single_event() {
     let length = u32::try_from(body.len()).unwrap();
     let expected = [
         &b"1815CASE"[..],
-        &[3, 0, 0, 0],
+        &[4, 0, 0, 0],
         &[2, 1, 0, 0, 0, 0, 0, 0],
         &[1],
         &length.to_le_bytes(),
@@ -396,7 +431,7 @@ fn comparisons_come_after_all_cases_of_the_base() {
         compared_frames: 0,
         compared_memories: 0,
         starts: 0,
-        ..small(4)
+        ..without_wide(small(4))
     };
     let cases = cases_of(&base);
     assert!(cases_of(&small(4))[..cases.len()] == cases);
@@ -478,7 +513,58 @@ fn the_outcomes_are_those_of_the_calls() {
                 assert!(number == 0 || (&state, &memory) == (&case.state, &case.memory));
                 assert!((state, memory) == (case.state_after, case.memory_after));
             }
+            Case::WideSingle(case) => is_as_called_wide(&case),
+            Case::WideRun(case) => {
+                let mut pair = case.pair.clone();
+                let answer = wide::trace::call(pair.each_mut().map(Buffers::lend), &case.trace);
+                assert!((answer, pair) == (case.answer, case.pair_after));
+            }
+            Case::WideDraw(case) => {
+                let mut drawn = pattern(case.frame_length, case.fill);
+                let pair = case.pair.each_ref();
+                let pair = pair.map(|buffers| (&buffers.state[..], &buffers.memory[..]));
+                assert_eq!(wide::frame::call(pair, &mut drawn), case.number);
+                let mut expected = pattern(case.frame_length, case.fill);
+                if let Some(frame) = case.frame {
+                    expected[..17_160].copy_from_slice(&frame);
+                }
+                assert!(drawn == expected);
+            }
+            Case::PageCall(case) => {
+                let [left, right] = &case.memories;
+                let answer = wide::page::call(left, right, case.side, case.page);
+                let memory = [left, right][case.side.index()];
+                assert_eq!(answer.number, case.number);
+                assert_eq!(answer.part, &memory[case.place..case.place + case.length]);
+            }
+            Case::WideListing(case) => {
+                assert_eq!(listing::wide_listing(case.start, &case.trace), case.text);
+            }
         }
+    }
+}
+
+/// The states are those of the call, and the memories are changed where the
+/// case says and nowhere else.
+fn is_as_called_wide(case: &WideSingle) {
+    let mut pair = case.pair.clone();
+    let answer = wide::event::call(
+        pair.each_mut().map(Buffers::lend),
+        case.selection,
+        case.event,
+    );
+    assert_eq!(answer, case.answer);
+    let mut expected = case.pair.clone();
+    for side in [0, 1] {
+        expected[side].state.clone_from(&case.states_after[side]);
+        if let Some(stored) = answer.stored[side] {
+            expected[side].memory[stored.place] = stored.byte;
+        }
+    }
+    assert!(pair == expected);
+    if answer.number != 0 {
+        assert_eq!((answer.byte, answer.dummy), (0, false));
+        assert!(pair == case.pair);
     }
 }
 
@@ -501,7 +587,8 @@ fn is_as_called<const ENTRY: usize>(
 }
 
 /// The random cases alone reach everything that is counted but the bands of
-/// single Ms, document 01's own trace, and a trace from both starts.
+/// single Ms, document 01's own trace, a trace from both starts, and wide traces
+/// of more than 65,535 bytes.
 #[test]
 fn nearly_all_is_reached_without_the_sweep() {
     let plan = Plan {
@@ -515,18 +602,25 @@ fn nearly_all_is_reached_without_the_sweep() {
         compared_frames: 3_000,
         compared_memories: 6_000,
         starts: 6_000,
+        wide_singles: 60_000,
+        wide_runs: 15_000,
+        wide_draws: 8_000,
+        pages: 5_000,
+        wide_listings: 3_000,
     };
     let mut faults = faults_of(&plan);
     faults.retain(|fault| {
         !(fault.starts_with("bands ") && fault.contains(", M: ")
             || fault.contains("document 01's trace")
-            || fault.starts_with("listings of one trace from both starts: "))
+            || fault.starts_with("listings of one trace from both starts: ")
+            || fault.starts_with("wide runs past offset 65,535: "))
     });
     assert_eq!(faults, Vec::<String>::new());
 }
 
 /// The sweep alone reaches every class of comparisons, every place of the band,
-/// all that is counted of start calls and all of listings, whatever the seed.
+/// all that is counted of start calls, all of listings and all of the wide
+/// terminal, whatever the seed.
 #[test]
 fn the_sweep_reaches_all_that_the_orders_brought() {
     let mut faults = faults_of(&only_the_sweep());
@@ -538,6 +632,10 @@ fn the_sweep_reaches_all_that_the_orders_brought() {
         "listings ",
         "situations of listings",
         "numbers of listings",
+        "wide ",
+        "page calls",
+        "numbers of wide ",
+        "numbers of page calls",
     ];
     faults.retain(|fault| brought.iter().any(|name| fault.starts_with(name)));
     assert_eq!(faults, Vec::<String>::new());
@@ -589,8 +687,9 @@ fn bands_come_after_the_comparisons() {
 /// then from the old, and after them the start calls. What came before lists
 /// from the old start.
 #[test]
-fn listings_from_both_starts_and_start_calls_come_last() {
-    let cases = cases_of(&only_the_sweep());
+fn listings_from_both_starts_and_start_calls_come_after_the_bands() {
+    let mut cases = cases_of(&only_the_sweep());
+    cases.retain(|case| !is_wide(case));
     let (before, since) = parted_after(&cases, |case| matches!(case, Case::Draw(_)));
     let (listed_bands, rest) = since.split_at(2 * 64);
     for case in before.iter().chain(listed_bands) {
@@ -618,15 +717,16 @@ fn listings_from_both_starts_and_start_calls_come_last() {
     }
 }
 
-/// The random cases of Order 3 come last, and nothing else moves for them.
+/// The random cases of Order 3 come after all but the wide terminal's, and
+/// nothing else moves for them.
 #[test]
-fn random_start_calls_come_after_all_other_cases() {
+fn random_start_calls_come_after_all_cases_but_the_wide() {
     let no_starts = Plan {
         starts: 0,
-        ..small(6)
+        ..without_wide(small(6))
     };
     let others = cases_of(&no_starts);
-    let cases = cases_of(&small(6));
+    let cases = cases_of(&without_wide(small(6)));
     assert!(cases[..others.len()] == others);
     assert_eq!(cases.len(), others.len() + 80);
     let of_start = |start: Start| {

@@ -176,11 +176,21 @@ fn cases_are_shown() {
         "1",
         "--starts",
         "1",
+        "--wide-singles",
+        "1",
+        "--wide-runs",
+        "1",
+        "--wide-draws",
+        "1",
+        "--pages",
+        "1",
+        "--wide-listings",
+        "1",
     ];
     let arguments = [&["cases"][..], &counts].concat();
     let stream = oracle(&arguments, b"");
     assert!(stream.status.success());
-    let text = text_of(&["show", "--from", "2", "--count", "10"], &stream.stdout);
+    let text = text_of(&["show", "--from", "2", "--count", "20"], &stream.stdout);
     for part in [
         "case 2: single event\n",
         "case 3: sequence of 5 events\n",
@@ -190,26 +200,35 @@ fn cases_are_shown() {
         "case 7: frame compared with frame\n",
         "case 8: memory compared with memory\n",
         "case 9: start call\nstart up",
+        "case 10: wide single event\nleft state ",
+        "case 11: wide run\nleft state ",
+        "case 12: wide draw\nleft state ",
+        "case 13: page call\nleft memory ",
+        "case 14: wide listing\nstart up",
     ] {
         assert!(text.contains(part), "{part}");
     }
     assert!(!text.contains("case 1:"));
     let arguments = [&["coverage"][..], &counts].concat();
-    assert!(text_of(&arguments, b"").contains("cases: 8 of 8"));
+    assert!(text_of(&arguments, b"").contains("cases: 13 of 13"));
     let summary = [&["cases", "--summary"][..], &counts].concat();
     let output = oracle(&summary, b"");
     assert_eq!(output.stdout, stream.stdout);
     assert!(
         String::from_utf8(output.stderr)
             .unwrap()
-            .contains("cases: 8 of 8")
+            .contains("cases: 13 of 13")
     );
 }
 
 /// Of sixteen random listings and start calls some have each of the starts.
 #[test]
 fn starts_are_shown_in_words() {
-    for (kind, counted) in [("listing", "--listings"), ("start call", "--starts")] {
+    for (kind, counted) in [
+        ("listing", "--listings"),
+        ("start call", "--starts"),
+        ("wide listing", "--wide-listings"),
+    ] {
         let mut arguments = vec!["cases", "--seed", "4", "--no-sweep"];
         for count in [
             "--singles",
@@ -220,6 +239,11 @@ fn starts_are_shown_in_words() {
             "--compared-frames",
             "--compared-memories",
             "--starts",
+            "--wide-singles",
+            "--wide-runs",
+            "--wide-draws",
+            "--pages",
+            "--wide-listings",
         ] {
             arguments.extend([count, if count == counted { "16" } else { "0" }]);
         }
@@ -392,6 +416,15 @@ fn wrong_usage_is_told_with_status_2() {
         &["list", "--upright", "--upright"],
         &["list", "--state", "00"],
         &["list", "--upside-down"],
+        &["list", "--wide", "--wide"],
+        &["list", "--wide", "left"],
+        &["play", "--wide"],
+        &["run", "--wide"],
+        &["frame", "--wide"],
+        &["differ", "--wide", "one", "two"],
+        &["cases", "--seed", "1", "--wide"],
+        &["cases", "--seed", "1", "--wide-runs", "x"],
+        &["cases", "--seed", "1", "--pages"],
         &["play", "--state", "00", "--upright"],
         &["run", "--upright", "--state", "00"],
         &["frame", "--upright", "--state", ""],

@@ -1,5 +1,7 @@
 //! Test cases: inputs, with the outcome the model gives for them.
 
+pub mod wide;
+
 use crate::compare::{self, Compared, FRAME_ENTRY, MEMORY_ENTRY};
 use crate::event::{self, Answer, Event};
 use crate::frame::{self, FRAME_LENGTH};
@@ -9,6 +11,7 @@ use crate::refusal::TAKEN;
 use crate::registers::Image;
 use crate::start::{self, Start};
 use crate::trace::{self, RunAnswer};
+use wide::{PageCall, WideDraw, WideRun, WideSingle};
 
 /// One event on lent buffers of any length.
 #[derive(Clone, PartialEq, Eq, Debug)]
@@ -176,6 +179,13 @@ impl Listing {
         let text = listing::listing(start, &trace);
         Listing { start, trace, text }
     }
+
+    /// The case of this start and wide trace.
+    #[must_use]
+    pub fn wide(start: Start, trace: Vec<u8>) -> Listing {
+        let text = listing::wide_listing(start, &trace);
+        Listing { start, trace, text }
+    }
 }
 
 /// A start call on lent buffers of any length.
@@ -283,10 +293,15 @@ pub enum Case {
     ComparedFrames(Comparison<FRAME_ENTRY>),
     ComparedMemories(Comparison<MEMORY_ENTRY>),
     StartCall(StartCall),
+    WideSingle(WideSingle),
+    WideRun(WideRun),
+    WideDraw(WideDraw),
+    PageCall(PageCall),
+    WideListing(Listing),
 }
 
 impl Case {
-    /// How many single events the case has, alone or in a sequence.
+    /// How many single events of one chip the case has, alone or in a sequence.
     #[must_use]
     pub fn events(&self) -> u64 {
         match self {
@@ -297,7 +312,12 @@ impl Case {
             | Case::Listing(_)
             | Case::ComparedFrames(_)
             | Case::ComparedMemories(_)
-            | Case::StartCall(_) => 0,
+            | Case::StartCall(_)
+            | Case::WideSingle(_)
+            | Case::WideRun(_)
+            | Case::WideDraw(_)
+            | Case::PageCall(_)
+            | Case::WideListing(_) => 0,
         }
     }
 }

@@ -1,10 +1,12 @@
 //! A case as text, for a person who looks into a difference.
 
+mod wide;
+
 use std::fmt::Write;
 
 use crate::cases::{Case, Comparison, Draw, Listing, Run, Sequence, Single, StartCall};
 use crate::differ::{bytes_text, runs_text};
-use crate::event::{Answer, Event};
+use crate::event::{Answer, Event, Stored};
 use crate::listing::frame_text;
 use crate::start::Start;
 use crate::text::{fnv1a, hex};
@@ -18,10 +20,15 @@ pub fn show(case: &Case) -> String {
         Case::Sequence(sequence) => show_sequence(sequence),
         Case::Run(run) => show_run(run),
         Case::Draw(draw) => show_draw(draw),
-        Case::Listing(listing) => show_listing(listing),
+        Case::Listing(listing) => show_listing("listing", listing),
         Case::ComparedFrames(frames) => show_comparison("frame", frames, runs_text),
         Case::ComparedMemories(memories) => show_comparison("memory", memories, bytes_text),
         Case::StartCall(start_call) => show_start_call(start_call),
+        Case::WideSingle(single) => wide::show_single(single),
+        Case::WideRun(run) => wide::show_run(run),
+        Case::WideDraw(draw) => wide::show_draw(draw),
+        Case::PageCall(page_call) => wide::show_page_call(page_call),
+        Case::WideListing(listing) => show_listing("wide listing", listing),
     }
 }
 
@@ -39,12 +46,11 @@ pub fn event_text(event: Event) -> String {
 /// Number, byte and whether dummy.
 #[must_use]
 pub fn answer_text(answer: Answer) -> String {
-    format!(
-        "{} {:02X} {}",
-        answer.number,
-        answer.byte,
-        u8::from(answer.dummy)
-    )
+    numbers_text(answer.number, answer.byte, answer.dummy)
+}
+
+fn numbers_text(number: u8, byte: u8, dummy: bool) -> String {
+    format!("{number} {byte:02X} {}", u8::from(dummy))
 }
 
 /// Number, offset and count of a run.
@@ -65,10 +71,8 @@ pub fn memory_text(name: &str, memory: &[u8]) -> String {
     format!("{name} {} bytes {:016X}\n", memory.len(), fnv1a(memory))
 }
 
-fn stored_text(answer: Answer) -> String {
-    answer.stored.map_or(String::new(), |stored| {
-        format!(" stored {:02X} at {}", stored.byte, stored.place)
-    })
+fn stored_text(stored: Stored) -> String {
+    format!(" stored {:02X} at {}", stored.byte, stored.place)
 }
 
 fn show_single(single: &Single) -> String {
@@ -78,7 +82,7 @@ fn show_single(single: &Single) -> String {
         memory_text("memory", &single.memory),
         event_text(single.event),
         answer_text(single.answer),
-        stored_text(single.answer),
+        single.answer.stored.map_or(String::new(), stored_text),
         image_text("state after", &single.state_after),
     )
 }
@@ -96,7 +100,7 @@ fn show_sequence(sequence: &Sequence) -> String {
             "{index}: {} -> {}{} state after {}",
             event_text(step.event),
             answer_text(step.answer),
-            stored_text(step.answer),
+            step.answer.stored.map_or(String::new(), stored_text),
             hex(&step.image_after),
         )
         .expect("a String takes all text");
@@ -132,9 +136,9 @@ fn show_draw(draw: &Draw) -> String {
     )
 }
 
-fn show_listing(listing: &Listing) -> String {
+fn show_listing(kind: &str, listing: &Listing) -> String {
     format!(
-        "listing\n{}{}{}",
+        "{kind}\n{}{}{}",
         start_text(listing.start),
         image_text("trace", &listing.trace),
         listing.text,

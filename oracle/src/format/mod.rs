@@ -1,5 +1,7 @@
 //! The binary stream of cases. README.md states the same format for others.
 
+mod wide;
+
 use std::io::{self, Read, Write};
 
 use crate::cases::{Case, Comparison, Draw, Listing, Run, Sequence, Single, StartCall, Step};
@@ -15,7 +17,7 @@ use crate::trace::RunAnswer;
 pub const MAGIC: [u8; 8] = *b"1815CASE";
 
 /// The version of this format.
-pub const VERSION: u32 = 3;
+pub const VERSION: u32 = 4;
 
 /// No body is longer.
 pub const LONGEST_BODY: usize = 300_000;
@@ -29,6 +31,11 @@ const TAG_LISTING: u8 = 5;
 const TAG_COMPARED_FRAMES: u8 = 6;
 const TAG_COMPARED_MEMORIES: u8 = 7;
 const TAG_START_CALL: u8 = 8;
+const TAG_WIDE_SINGLE: u8 = 9;
+const TAG_WIDE_RUN: u8 = 10;
+const TAG_WIDE_DRAW: u8 = 11;
+const TAG_PAGE_CALL: u8 = 12;
+const TAG_WIDE_LISTING: u8 = 13;
 
 /// Writes a stream: the header, the cases, the end.
 pub struct Writer<W: Write> {
@@ -61,10 +68,10 @@ impl<W: Write> Writer<W> {
     /// Those of the output.
     pub fn write(&mut self, case: &Case) -> io::Result<()> {
         self.body.clear();
-        let tag = put_case(&mut self.body, case);
+        put_case(&mut self.body, case);
         self.cases += 1;
         self.events += case.events();
-        self.write_body(tag)
+        self.write_body(tag_of(case))
     }
 
     /// Ends the stream.
@@ -98,40 +105,38 @@ fn u32_of(number: usize) -> [u8; 4] {
         .to_le_bytes()
 }
 
-fn put_case(body: &mut Vec<u8>, case: &Case) -> u8 {
+fn tag_of(case: &Case) -> u8 {
     match case {
-        Case::Single(single) => {
-            put_single(body, single);
-            TAG_SINGLE
-        }
-        Case::Sequence(sequence) => {
-            put_sequence(body, sequence);
-            TAG_SEQUENCE
-        }
-        Case::Run(run) => {
-            put_run(body, run);
-            TAG_RUN
-        }
-        Case::Draw(draw) => {
-            put_draw(body, draw);
-            TAG_DRAW
-        }
-        Case::Listing(listing) => {
-            put_listing(body, listing);
-            TAG_LISTING
-        }
-        Case::ComparedFrames(comparison) => {
-            put_comparison(body, comparison);
-            TAG_COMPARED_FRAMES
-        }
-        Case::ComparedMemories(comparison) => {
-            put_comparison(body, comparison);
-            TAG_COMPARED_MEMORIES
-        }
-        Case::StartCall(start_call) => {
-            put_start_call(body, start_call);
-            TAG_START_CALL
-        }
+        Case::Single(_) => TAG_SINGLE,
+        Case::Sequence(_) => TAG_SEQUENCE,
+        Case::Run(_) => TAG_RUN,
+        Case::Draw(_) => TAG_DRAW,
+        Case::Listing(_) => TAG_LISTING,
+        Case::ComparedFrames(_) => TAG_COMPARED_FRAMES,
+        Case::ComparedMemories(_) => TAG_COMPARED_MEMORIES,
+        Case::StartCall(_) => TAG_START_CALL,
+        Case::WideSingle(_) => TAG_WIDE_SINGLE,
+        Case::WideRun(_) => TAG_WIDE_RUN,
+        Case::WideDraw(_) => TAG_WIDE_DRAW,
+        Case::PageCall(_) => TAG_PAGE_CALL,
+        Case::WideListing(_) => TAG_WIDE_LISTING,
+    }
+}
+
+fn put_case(body: &mut Vec<u8>, case: &Case) {
+    match case {
+        Case::Single(single) => put_single(body, single),
+        Case::Sequence(sequence) => put_sequence(body, sequence),
+        Case::Run(run) => put_run(body, run),
+        Case::Draw(draw) => put_draw(body, draw),
+        Case::Listing(listing) | Case::WideListing(listing) => put_listing(body, listing),
+        Case::ComparedFrames(comparison) => put_comparison(body, comparison),
+        Case::ComparedMemories(comparison) => put_comparison(body, comparison),
+        Case::StartCall(start_call) => put_start_call(body, start_call),
+        Case::WideSingle(single) => wide::put_single(body, single),
+        Case::WideRun(run) => wide::put_run(body, run),
+        Case::WideDraw(draw) => wide::put_draw(body, draw),
+        Case::PageCall(page_call) => wide::put_page_call(body, page_call),
     }
 }
 
@@ -161,11 +166,15 @@ fn put_run(body: &mut Vec<u8>, run: &Run) {
     put_lent(body, &run.state);
     put_lent(body, &run.memory);
     put_long(body, &run.trace);
-    body.push(run.answer.number);
-    body.extend(u32_of(run.answer.offset));
-    body.extend(u32_of(run.answer.count));
+    put_run_answer(body, run.answer);
     body.extend(&run.state_after);
     body.extend(&run.memory_after);
+}
+
+fn put_run_answer(body: &mut Vec<u8>, answer: RunAnswer) {
+    body.push(answer.number);
+    body.extend(u32_of(answer.offset));
+    body.extend(u32_of(answer.count));
 }
 
 fn put_draw(body: &mut Vec<u8>, draw: &Draw) {
@@ -436,6 +445,11 @@ impl Body<'_> {
             TAG_COMPARED_FRAMES => Ok(Case::ComparedFrames(self.comparison()?)),
             TAG_COMPARED_MEMORIES => Ok(Case::ComparedMemories(self.comparison()?)),
             TAG_START_CALL => Ok(Case::StartCall(self.start_call()?)),
+            TAG_WIDE_SINGLE => Ok(Case::WideSingle(self.wide_single()?)),
+            TAG_WIDE_RUN => Ok(Case::WideRun(self.wide_run()?)),
+            TAG_WIDE_DRAW => Ok(Case::WideDraw(self.wide_draw()?)),
+            TAG_PAGE_CALL => Ok(Case::PageCall(self.page_call()?)),
+            TAG_WIDE_LISTING => Ok(Case::WideListing(self.listing()?)),
             _ => Err(wrong("no such tag")),
         }
     }
@@ -475,11 +489,7 @@ impl Body<'_> {
         let state = self.lent()?;
         let memory = self.lent()?;
         let trace = self.long()?;
-        let answer = RunAnswer {
-            number: self.u8()?,
-            offset: self.u32()?,
-            count: self.u32()?,
-        };
+        let answer = self.run_answer()?;
         let state_after = self.bytes(state.len())?;
         let memory_after = self.bytes(memory.len())?;
         Ok(Run {
@@ -489,6 +499,14 @@ impl Body<'_> {
             answer,
             state_after,
             memory_after,
+        })
+    }
+
+    fn run_answer(&mut self) -> io::Result<RunAnswer> {
+        Ok(RunAnswer {
+            number: self.u8()?,
+            offset: self.u32()?,
+            count: self.u32()?,
         })
     }
 

@@ -1,0 +1,334 @@
+//! Counts of what the wide terminal has reached.
+
+mod events;
+mod pairs;
+mod runs;
+
+use super::starts::STARTS;
+use super::{DIRECTIONS, Group, direction, mixture, mixtures, refused_number};
+use crate::cases::Listing;
+use crate::cases::wide::{PageCall, WideDraw, WideRun, WideSingle};
+use crate::event::Event;
+use crate::generate::MEMORY_LENGTHS;
+use crate::generate::wide::WIDE_FRAME_LENGTHS;
+use crate::listing::LONGEST_TRACE;
+use crate::memory::{COLUMNS, ICON_PAGE, LAST_COLUMN, MEMORY_LENGTH};
+use crate::refusal::TAKEN;
+use crate::registers::Registers;
+use crate::wide::frame::WIDE_FRAME_LENGTH;
+use crate::wide::{Selection, Side};
+use events::WideEventCoverage;
+use pairs::{IMAGES, PairCoverage, images_of, is_short};
+use runs::WideRunCoverage;
+
+/// The two chips.
+const SIDES: [&str; 2] = ["left", "right"];
+
+/// The selections, in the order of their bytes.
+const SELECTIONS: [&str; 3] = ["left selected", "right selected", "both selected"];
+
+/// The selection in words.
+fn selection_name(selection: Selection) -> &'static str {
+    SELECTIONS[usize::from(selection.byte() - 1)]
+}
+
+/// The event in a word.
+fn event_name(event: Event) -> &'static str {
+    match event {
+        Event::Command(_) => "command",
+        Event::Write(_) => "write",
+        Event::Read => "read",
+        Event::Reset => "reset pin",
+    }
+}
+
+/// Who of the selected chips can refuse.
+const REFUSING: [&str; 6] = [
+    "left selected, it refuses",
+    "right selected, it refuses",
+    "both selected, the left refuses",
+    "both selected, the right refuses",
+    "both selected, both refuse alike",
+    "both selected, both refuse, not alike",
+];
+
+/// Who refuses, by the number that each chip would give.
+fn refusing(selection: Selection, numbers: [u8; 2]) -> Option<&'static str> {
+    let [left_alone, right_alone, left, right, alike, not_alike] = REFUSING;
+    match (selection, numbers) {
+        (Selection::Left, [TAKEN, _])
+        | (Selection::Right, [_, TAKEN])
+        | (Selection::Both, [TAKEN, TAKEN]) => None,
+        (Selection::Left, _) => Some(left_alone),
+        (Selection::Right, _) => Some(right_alone),
+        (Selection::Both, [_, TAKEN]) => Some(left),
+        (Selection::Both, [TAKEN, _]) => Some(right),
+        (Selection::Both, [first, second]) if first == second => Some(alike),
+        (Selection::Both, _) => Some(not_alike),
+    }
+}
+
+/// What can be in the way of data.
+const IN_THE_WAY: [&str; 3] = ["nothing", "code awaited", "column above 131"];
+
+/// Whether the next read is the dummy read.
+const FRESH: [&str; 2] = ["fresh 0", "fresh 1"];
+
+/// What these registers have in the way of data.
+fn in_the_way(registers: Registers) -> &'static str {
+    let [nothing, code, column] = IN_THE_WAY;
+    if registers.awaited.is_some() {
+        code
+    } else if registers.column > LAST_COLUMN {
+        column
+    } else {
+        nothing
+    }
+}
+
+/// What each chip has in the way of a read of both.
+fn reads_of_both(name: &'static str) -> Group {
+    Group::new(name, mixtures(&[&SIDES, &IN_THE_WAY, &FRESH]))
+}
+
+/// Counts what a read of both meets in each chip.
+fn see_read_of_both(group: &mut Group, registers: [Registers; 2]) {
+    for (side, registers) in SIDES.iter().zip(registers) {
+        let fresh = FRESH[usize::from(registers.fresh)];
+        group.hit_label(&mixture(&[side, in_the_way(registers), fresh]));
+    }
+}
+
+/// What a wide listing can be.
+const LISTINGS: [&str; 8] = [
+    "all dark",
+    "left half lit alone",
+    "right half lit alone",
+    "both halves lit",
+    "a run over the middle",
+    "refused, lit places",
+    "input as long as may be",
+    "input too long",
+];
+
+/// The numbers of runs that are printed.
+const LISTED_NUMBERS: [&str; 11] = ["0", "3", "4", "5", "6", "7", "8", "9", "10", "13", "14"];
+
+/// The counts of the wide terminal.
+#[derive(Clone, PartialEq, Eq, Debug)]
+pub struct WideCoverage {
+    events: WideEventCoverage,
+    runs: WideRunCoverage,
+    draw_numbers: Group,
+    draw_pairs: PairCoverage,
+    draw_frames: Group,
+    draw_refusals: Group,
+    draw_displays: Group,
+    draw_directions: Group,
+    page_numbers: Group,
+    pages: Group,
+    page_lengths: Group,
+    page_refusals: Group,
+    listing_numbers: Group,
+    listings: Group,
+}
+
+impl WideCoverage {
+    /// Nothing reached yet.
+    pub fn new() -> WideCoverage {
+        let displays = [["left off", "left on"], ["right off", "right on"]];
+        let pages: Vec<String> = (0..=ICON_PAGE).map(|page| page.to_string()).collect();
+        let pages: Vec<&str> = pages.iter().map(String::as_str).collect();
+        let lengths = MEMORY_LENGTHS.map(|length| length.to_string());
+        let lengths = lengths.each_ref().map(String::as_str);
+        WideCoverage {
+            events: WideEventCoverage::new(),
+            runs: WideRunCoverage::new(),
+            draw_numbers: Group::numbers("numbers of wide draws", &[0, 1, 2]),
+            draw_pairs: PairCoverage::new([
+                "wide draws, lengths",
+                "wide draws, too short",
+                "wide draws, images",
+            ]),
+            draw_frames: Group::new("wide draws, frame lengths", WIDE_FRAME_LENGTHS),
+            draw_refusals: Group::new(
+                "wide draws, refusals together",
+                mixtures(&[&FRAMES, &OTHERS, &IMAGES]),
+            ),
+            draw_displays: Group::new(
+                "wide draws, displays",
+                mixtures(&displays.each_ref().map(<[&str; 2]>::as_slice)),
+            ),
+            draw_directions: Group::new(
+                "wide draws, directions",
+                mixtures(&[&DIRECTIONS, &DIRECTIONS]),
+            ),
+            page_numbers: Group::numbers("numbers of page calls", &[0, 1, 4]),
+            pages: Group::new("page calls taken", mixtures(&[&SIDES, &pages])),
+            page_lengths: Group::new(
+                "page calls, lengths",
+                mixtures(&[&SIDES, &lengths, &lengths]),
+            ),
+            page_refusals: Group::new(
+                "page calls, refusals",
+                mixtures(&[&SIDES, &MEMORIES, &ABOVE_8]),
+            )
+            .without(&mixture(&[MEMORIES[0], ABOVE_8[0]])),
+            listing_numbers: Group::new(
+                "numbers of wide listings",
+                mixtures(&[&STARTS, &LISTED_NUMBERS]),
+            ),
+            listings: Group::new("wide listings", mixtures(&[&STARTS, &LISTINGS])),
+        }
+    }
+
+    /// Every group.
+    pub fn groups(&self) -> Vec<&Group> {
+        let mut groups = self.events.groups();
+        groups.extend(self.runs.groups());
+        groups.push(&self.draw_numbers);
+        groups.extend(self.draw_pairs.groups());
+        groups.extend([
+            &self.draw_frames,
+            &self.draw_refusals,
+            &self.draw_displays,
+            &self.draw_directions,
+            &self.page_numbers,
+            &self.pages,
+            &self.page_lengths,
+            &self.page_refusals,
+            &self.listing_numbers,
+            &self.listings,
+        ]);
+        groups
+    }
+
+    /// Counts what a single event reaches.
+    pub fn see_single(&mut self, single: &WideSingle) {
+        self.events.see(single);
+    }
+
+    /// Counts what a run reaches.
+    pub fn see_run(&mut self, run: &WideRun) {
+        self.runs.see(run);
+    }
+
+    /// Counts what a drawing reaches.
+    pub fn see_draw(&mut self, draw: &WideDraw) {
+        self.draw_numbers.hit(draw.number);
+        self.draw_pairs.see(&draw.pair);
+        self.draw_frames.hit_number(draw.frame_length);
+        self.draw_refusals.hit_label(&mixture(&[
+            FRAMES[usize::from(draw.frame_length < WIDE_FRAME_LENGTH)],
+            OTHERS[usize::from(is_short(&draw.pair).contains(&true))],
+            images_of(&draw.pair),
+        ]));
+        if draw.number != TAKEN {
+            return;
+        }
+        let [left, right] = draw.pair.each_ref().map(|buffers| {
+            let image = buffers.state.first_chunk();
+            Registers::from_image(image.expect("a drawing that was taken"))
+                .expect("a drawing that was taken")
+        });
+        let display = 2 * usize::from(left.display_on) + usize::from(right.display_on);
+        self.draw_displays.hit(display);
+        if left.display_on && right.display_on {
+            self.draw_directions
+                .hit(DIRECTIONS.len() * direction(left) + direction(right));
+        }
+    }
+
+    /// Counts what a page call reaches.
+    pub fn see_page(&mut self, call: &PageCall) {
+        let side = SIDES[call.side.index()];
+        self.page_numbers.hit(call.number);
+        let [left, right] = call.memories.each_ref().map(Vec::len);
+        self.page_lengths
+            .hit_label(&mixture(&[side, &left.to_string(), &right.to_string()]));
+        if call.number == TAKEN {
+            self.pages
+                .hit_label(&mixture(&[side, &call.page.to_string()]));
+            return;
+        }
+        let short = usize::from(left < MEMORY_LENGTH) + 2 * usize::from(right < MEMORY_LENGTH);
+        let [within, nine, above, last] = ABOVE_8;
+        let page = match call.page {
+            0..=ICON_PAGE => within,
+            9 => nine,
+            0xFF => last,
+            _ => above,
+        };
+        self.page_refusals
+            .hit_label(&mixture(&[side, MEMORIES[short], page]));
+    }
+
+    /// Counts what a listing reaches.
+    pub fn see_listing(&mut self, listing: &Listing) {
+        let [dark, left, right, both, middle, refused, longest, too_long] = LISTINGS;
+        let start = listing.start.name();
+        let mut hit = |situation: &str| self.listings.hit_label(&mixture(&[start, situation]));
+        if listing.trace.len() > LONGEST_TRACE {
+            hit(too_long);
+            return;
+        }
+        if listing.trace.len() == LONGEST_TRACE {
+            hit(longest);
+        }
+        let number = refused_number(&listing.text);
+        let runs = lit_runs(&listing.text);
+        hit(match Side::ALL.map(|side| is_lit(&runs, side)) {
+            [false, false] => dark,
+            [true, false] => left,
+            [false, true] => right,
+            [true, true] => both,
+        });
+        if runs
+            .iter()
+            .any(|[first, last]| *first < COLUMNS && *last >= COLUMNS)
+        {
+            hit(middle);
+        }
+        if number != TAKEN && !runs.is_empty() {
+            hit(refused);
+        }
+        self.listing_numbers
+            .hit_label(&mixture(&[start, &number.to_string()]));
+    }
+}
+
+/// Whether the frame of a drawing is long enough.
+const FRAMES: [&str; 2] = ["frame long enough", "frame too short"];
+
+/// Whether the other buffers of a drawing are.
+const OTHERS: [&str; 2] = ["others long enough", "others too short"];
+
+/// Which memories of a page call are too short.
+const MEMORIES: [&str; 4] = [
+    "neither too short",
+    "the left too short",
+    "the right too short",
+    "both too short",
+];
+
+/// The pages that can be asked for and the others.
+const ABOVE_8: [&str; 4] = ["page up to 8", "page 9", "page 10 to 254", "page 255"];
+
+/// First and last place of each run of lit places, whatever its row.
+fn lit_runs(text: &str) -> Vec<[usize; 2]> {
+    let rows = text.lines().filter(|line| line.contains('-'));
+    rows.flat_map(|line| line.split(' ').skip(1))
+        .map(|run| {
+            let places = run.split_once('-').expect("a run has two places");
+            [places.0, places.1].map(|place| place.parse().expect("a place is a number"))
+        })
+        .collect()
+}
+
+/// Whether a run is in the half of this side, or in both.
+fn is_lit(runs: &[[usize; 2]], side: Side) -> bool {
+    runs.iter().any(|[first, last]| match side {
+        Side::Left => *first < COLUMNS,
+        Side::Right => *last >= COLUMNS,
+    })
+}
