@@ -15,7 +15,7 @@ use oracle::{cases, frame, listing, trace, wide};
 
 use crate::rig::{POWER_ON, UPSIDE_DOWN};
 
-fn small(seed: u64) -> Plan {
+pub fn small(seed: u64) -> Plan {
     Plan {
         seed,
         sweep: false,
@@ -36,7 +36,7 @@ fn small(seed: u64) -> Plan {
 }
 
 /// The cases that are the same for every seed, and no others.
-fn only_the_sweep() -> Plan {
+pub fn only_the_sweep() -> Plan {
     Plan {
         seed: 0,
         sweep: true,
@@ -57,7 +57,7 @@ fn only_the_sweep() -> Plan {
 }
 
 /// The plan without the cases of the wide terminal that are not of the sweep.
-fn without_wide(plan: Plan) -> Plan {
+pub fn without_wide(plan: Plan) -> Plan {
     Plan {
         wide_singles: 0,
         wide_runs: 0,
@@ -69,7 +69,7 @@ fn without_wide(plan: Plan) -> Plan {
 }
 
 /// Whether a case is the wide terminal's.
-fn is_wide(case: &Case) -> bool {
+pub fn is_wide(case: &Case) -> bool {
     matches!(
         case,
         Case::WideSingle(_)
@@ -88,7 +88,7 @@ fn stream_of(plan: &Plan) -> Vec<u8> {
     stream
 }
 
-fn cases_of(plan: &Plan) -> Vec<Case> {
+pub fn cases_of(plan: &Plan) -> Vec<Case> {
     let mut cases = Vec::new();
     each_case(plan, &mut |case| {
         cases.push(case);
@@ -260,12 +260,18 @@ fn the_bytes_of_a_sequence() {
     assert!(stream[25..25 + body.len()] == body);
 }
 
-/// The tag and the body of a case.
-fn body_of(case: &Case) -> (u8, Vec<u8>) {
+/// A stream of one case.
+pub fn stream_of_case(case: &Case) -> Vec<u8> {
     let mut stream = Vec::new();
     let mut writer = Writer::begin(&mut stream, 0).unwrap();
     writer.write(case).unwrap();
     writer.end().unwrap();
+    stream
+}
+
+/// The tag and the body of a case.
+pub fn body_of(case: &Case) -> (u8, Vec<u8>) {
+    let stream = stream_of_case(case);
     // Without the header of 20, tag and length, and the end of 21.
     (stream[20], stream[25..stream.len() - 21].to_vec())
 }
@@ -360,10 +366,7 @@ fn a_start_that_is_none_is_noticed() {
             Vec::new(),
         )),
     ] {
-        let mut stream = Vec::new();
-        let mut writer = Writer::begin(&mut stream, 0).unwrap();
-        writer.write(&case).unwrap();
-        writer.end().unwrap();
+        let mut stream = stream_of_case(&case);
         // After the header of 20, tag and length.
         assert_eq!(stream[25], 1);
         let first = |stream: &[u8]| Reader::begin(stream).unwrap().next_case();

@@ -15,3 +15,8 @@ mod rig;
 mod samples;
 mod start;
 mod trace;
+mod wide_events;
+mod wide_picture;
+mod wide_rig;
+mod wide_runs;
+mod wide_stream;

@@ -51,6 +51,43 @@ fn list_prints_the_listing() {
     );
 }
 
+/// Document 01's trace to both chips, with the left selected alone, and what
+/// one chip refuses.
+#[test]
+fn list_prints_the_wide_listing() {
+    let to_the_left = [&[0x01, 0x00, 0x05, 0x00, 0x01][..], &DOCUMENT_TRACE].concat();
+    for (arguments, trace, expected) in [
+        (
+            &["list", "--wide"][..],
+            &DOCUMENT_TRACE[..],
+            "frame 264 65\n62 131-131 263-263\n63 130-131 262-263\nend\n",
+        ),
+        (
+            &["list", "--wide", "--upright"],
+            &DOCUMENT_TRACE,
+            "frame 264 65\n0 0-1 132-133\n1 0-0 132-132\nend\n",
+        ),
+        (
+            &["list", "--upright", "--wide"],
+            &to_the_left,
+            "frame 264 65\n0 0-1\n1 0-0\nend\n",
+        ),
+        (
+            &["list", "--upright"],
+            &to_the_left,
+            "refused 9 at 0\nframe 132 65\nend\n",
+        ),
+        (
+            &["list", "--wide"],
+            &[0x01, 0x00, 0x03, 0x00, 0x00],
+            "refused 14 at 4\nframe 264 65\nend\n",
+        ),
+        (&["list", "--wide"], &[0; 65_537], "input too long\n"),
+    ] {
+        assert_eq!(text_of(arguments, trace), expected, "{arguments:?}");
+    }
+}
+
 #[test]
 fn play_answers_each_event_and_tells_what_is_left() {
     let script = b"command 05 E0 # two events\n\nread\nwrite 3C\nread\nread\ncommand B9\n";
