@@ -227,6 +227,23 @@ const LISTING_SITUATIONS: [&str; 5] = [
     "input too long",
 ];
 
+/// The kinds of cases.
+const KINDS: [&str; 13] = [
+    "single",
+    "sequence",
+    "run",
+    "draw",
+    "listing",
+    "compared frames",
+    "compared memories",
+    "start call",
+    "wide single",
+    "wide run",
+    "wide draw",
+    "page call",
+    "wide listing",
+];
+
 /// All the counts.
 #[derive(Clone, PartialEq, Eq, Debug)]
 pub struct Coverage {
@@ -284,24 +301,7 @@ impl Coverage {
             ["write", "read"].map(|event| format!("{:02X}, {event}", code.code()))
         });
         Coverage {
-            cases: Group::new(
-                "cases",
-                [
-                    "single",
-                    "sequence",
-                    "run",
-                    "draw",
-                    "listing",
-                    "compared frames",
-                    "compared memories",
-                    "start call",
-                    "wide single",
-                    "wide run",
-                    "wide draw",
-                    "page call",
-                    "wide listing",
-                ],
-            ),
+            cases: Group::new("cases", KINDS),
             command_numbers: Group::numbers("numbers of commands", &[0, 1, 2, 3, 4, 5]),
             write_numbers: Group::numbers("numbers of writes", &[0, 1, 2, 6, 7]),
             read_numbers: Group::numbers("numbers of reads", &[0, 1, 2, 6, 7]),
@@ -408,56 +408,31 @@ impl Coverage {
 
     /// Counts what a case reaches.
     pub fn see(&mut self, case: &Case) {
+        self.cases.hit_label(kind_of(case));
         match case {
             Case::Single(single) => self.see_single(single),
             Case::Sequence(sequence) => self.see_sequence(sequence),
             Case::Run(run) => self.see_run(run),
             Case::Draw(draw) => self.see_draw(draw),
             Case::Listing(listing) => self.see_listing(listing),
-            Case::ComparedFrames(frames) => {
-                self.cases.hit_label("compared frames");
-                self.compared.see_frames(frames);
-            }
-            Case::ComparedMemories(memories) => {
-                self.cases.hit_label("compared memories");
-                self.compared.see_memories(memories);
-            }
-            Case::StartCall(start_call) => {
-                self.cases.hit_label("start call");
-                self.starts.see_call(start_call);
-            }
-            Case::WideSingle(single) => {
-                self.cases.hit_label("wide single");
-                self.wide.see_single(single);
-            }
-            Case::WideRun(run) => {
-                self.cases.hit_label("wide run");
-                self.wide.see_run(run);
-            }
-            Case::WideDraw(draw) => {
-                self.cases.hit_label("wide draw");
-                self.wide.see_draw(draw);
-            }
-            Case::PageCall(call) => {
-                self.cases.hit_label("page call");
-                self.wide.see_page(call);
-            }
-            Case::WideListing(listing) => {
-                self.cases.hit_label("wide listing");
-                self.wide.see_listing(listing);
-            }
+            Case::ComparedFrames(frames) => self.compared.see_frames(frames),
+            Case::ComparedMemories(memories) => self.compared.see_memories(memories),
+            Case::StartCall(start_call) => self.starts.see_call(start_call),
+            Case::WideSingle(single) => self.wide.see_single(single),
+            Case::WideRun(run) => self.wide.see_run(run),
+            Case::WideDraw(draw) => self.wide.see_draw(draw),
+            Case::PageCall(page_call) => self.wide.see_page(page_call),
+            Case::WideListing(listing) => self.wide.see_listing(listing),
         }
     }
 
     fn see_single(&mut self, single: &Single) {
-        self.cases.hit_label("single");
         self.state_lengths.hit_number(single.state.len());
         self.memory_lengths.hit_number(single.memory.len());
         self.see_event(&single.state, &single.memory, single.event, single.answer);
     }
 
     fn see_sequence(&mut self, sequence: &Sequence) {
-        self.cases.hit_label("sequence");
         let mut image = sequence.image;
         let mut memory = sequence.memory;
         for step in &sequence.steps {
@@ -640,7 +615,6 @@ impl Coverage {
     }
 
     fn see_run(&mut self, run: &Run) {
-        self.cases.hit_label("run");
         self.run_numbers.hit(run.answer.number);
         if matches!(run.answer.number, 1 | 2) {
             return;
@@ -683,7 +657,6 @@ impl Coverage {
     }
 
     fn see_draw(&mut self, draw: &Draw) {
-        self.cases.hit_label("draw");
         self.draw_numbers.hit(draw.number);
         self.frame_lengths.hit_number(draw.frame_length);
         if draw.number != TAKEN {
@@ -710,7 +683,6 @@ impl Coverage {
     }
 
     fn see_listing(&mut self, listing: &Listing) {
-        self.cases.hit_label("listing");
         self.starts.see_pair(listing);
         if listing.trace.len() > LONGEST_TRACE {
             self.listing_situations.hit_label("input too long");
@@ -759,6 +731,25 @@ fn index_of(code: Awaited) -> usize {
         .iter()
         .position(|known| *known == code)
         .expect("every code is in the list")
+}
+
+/// The kind of a case.
+fn kind_of(case: &Case) -> &'static str {
+    KINDS[match case {
+        Case::Single(_) => 0,
+        Case::Sequence(_) => 1,
+        Case::Run(_) => 2,
+        Case::Draw(_) => 3,
+        Case::Listing(_) => 4,
+        Case::ComparedFrames(_) => 5,
+        Case::ComparedMemories(_) => 6,
+        Case::StartCall(_) => 7,
+        Case::WideSingle(_) => 8,
+        Case::WideRun(_) => 9,
+        Case::WideDraw(_) => 10,
+        Case::PageCall(_) => 11,
+        Case::WideListing(_) => 12,
+    }]
 }
 
 /// Kind and payload of each record that was done, and where the next begins.

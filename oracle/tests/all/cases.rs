@@ -3,7 +3,6 @@
 use std::collections::HashSet;
 use std::io;
 
-use oracle::cases::wide::{Buffers, WideSingle};
 use oracle::cases::{Case, Comparison, list_pattern, pattern};
 use oracle::compare::{self, Compared};
 use oracle::coverage::Coverage;
@@ -11,9 +10,10 @@ use oracle::event::{self, Answer, Event};
 use oracle::format::{LONGEST_BODY, Reader, Writer};
 use oracle::start::{self, Start};
 use oracle::stream::{Plan, each_case};
-use oracle::{cases, frame, listing, trace, wide};
+use oracle::{cases, frame, listing, trace};
 
 use crate::rig::{POWER_ON, UPSIDE_DOWN};
+use crate::wide_stream::is_as_called_wide;
 
 pub fn small(seed: u64) -> Plan {
     Plan {
@@ -516,58 +516,8 @@ fn the_outcomes_are_those_of_the_calls() {
                 assert!(number == 0 || (&state, &memory) == (&case.state, &case.memory));
                 assert!((state, memory) == (case.state_after, case.memory_after));
             }
-            Case::WideSingle(case) => is_as_called_wide(&case),
-            Case::WideRun(case) => {
-                let mut pair = case.pair.clone();
-                let answer = wide::trace::call(pair.each_mut().map(Buffers::lend), &case.trace);
-                assert!((answer, pair) == (case.answer, case.pair_after));
-            }
-            Case::WideDraw(case) => {
-                let mut drawn = pattern(case.frame_length, case.fill);
-                let pair = case.pair.each_ref();
-                let pair = pair.map(|buffers| (&buffers.state[..], &buffers.memory[..]));
-                assert_eq!(wide::frame::call(pair, &mut drawn), case.number);
-                let mut expected = pattern(case.frame_length, case.fill);
-                if let Some(frame) = case.frame {
-                    expected[..17_160].copy_from_slice(&frame);
-                }
-                assert!(drawn == expected);
-            }
-            Case::PageCall(case) => {
-                let [left, right] = &case.memories;
-                let answer = wide::page::call(left, right, case.side, case.page);
-                let memory = [left, right][case.side.index()];
-                assert_eq!(answer.number, case.number);
-                assert_eq!(answer.part, &memory[case.place..case.place + case.length]);
-            }
-            Case::WideListing(case) => {
-                assert_eq!(listing::wide_listing(case.start, &case.trace), case.text);
-            }
+            case => is_as_called_wide(&case),
         }
-    }
-}
-
-/// The states are those of the call, and the memories are changed where the
-/// case says and nowhere else.
-fn is_as_called_wide(case: &WideSingle) {
-    let mut pair = case.pair.clone();
-    let answer = wide::event::call(
-        pair.each_mut().map(Buffers::lend),
-        case.selection,
-        case.event,
-    );
-    assert_eq!(answer, case.answer);
-    let mut expected = case.pair.clone();
-    for side in [0, 1] {
-        expected[side].state.clone_from(&case.states_after[side]);
-        if let Some(stored) = answer.stored[side] {
-            expected[side].memory[stored.place] = stored.byte;
-        }
-    }
-    assert!(pair == expected);
-    if answer.number != 0 {
-        assert_eq!((answer.byte, answer.dummy), (0, false));
-        assert!(pair == case.pair);
     }
 }
 

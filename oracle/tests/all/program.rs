@@ -82,7 +82,7 @@ fn list_prints_the_wide_listing() {
             &[0x01, 0x00, 0x03, 0x00, 0x00],
             "refused 14 at 4\nframe 264 65\nend\n",
         ),
-        (&["list", "--wide"], &[0; 65_537], "input too long\n"),
+        (&["list", "--wide"], &vec![0; 65_537], "input too long\n"),
     ] {
         assert_eq!(text_of(arguments, trace), expected, "{arguments:?}");
     }

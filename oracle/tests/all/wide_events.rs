@@ -102,14 +102,17 @@ fn a_read_of_both_is_14_and_moves_no_fresh() {
     }
 }
 
+/// The left's commands, the right's, an event, and its numbers with the left
+/// selected, the right, and both.
+type Row = (&'static [u8], &'static [u8], Event, [u8; 3]);
+
 /// "If any selected chip refuses, neither changes, and the number is the left's
-/// where both refuse": the left's commands, the right's, the event, and the
-/// numbers with the left selected, the right, and both.
+/// where both refuse."
 #[test]
 fn neither_changes_where_any_selected_chip_refuses() {
     // Column 143; 81, D3 and D4 await their n.
     const ABOVE: &[u8] = &[0x0F, 0x18];
-    let table: [(&[u8], &[u8], Event, [u8; 3]); 14] = [
+    let table: [Row; 14] = [
         (&[0x81], &[], Write(0x01), [6, 0, 6]),
         (&[], &[0x81], Write(0x01), [0, 6, 6]),
         (ABOVE, &[], Write(0x01), [7, 0, 7]),

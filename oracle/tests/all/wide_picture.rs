@@ -262,11 +262,8 @@ fn a_run_may_cross_the_middle() {
         "frame 264 65\n63 0-1 263-263\nend\n"
     );
     // Everything lit is one run a row.
-    let mut expected = "frame 264 65\n".to_string();
-    for row in 0..65 {
-        expected += &format!("{row} 0-263\n");
-    }
-    expected += "end\n";
+    let rows: Vec<String> = (0..65).map(|row| format!("{row} 0-263\n")).collect();
+    let expected = format!("frame 264 65\n{}end\n", rows.concat());
     for start in Start::ALL {
         assert_eq!(wide_listing(start, &record(1, &[0xAF, 0xA5])), expected);
     }

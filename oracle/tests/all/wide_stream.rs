@@ -1,13 +1,14 @@
 //! The wide terminal's cases in the stream, taken apart by README.md.
 
 use oracle::cases::wide::{Buffers, PageCall, Pair, WideDraw, WideRun, WideSingle};
-use oracle::cases::{Case, Listing};
+use oracle::cases::{Case, Listing, pattern};
 use oracle::coverage::Coverage;
 use oracle::event::Event;
 use oracle::format::Reader;
+use oracle::listing::wide_listing;
 use oracle::start::Start;
 use oracle::stream::Plan;
-use oracle::wide::Side;
+use oracle::wide::{self, Side};
 
 use crate::cases::{
     body_of, cases_of, is_wide, only_the_sweep, small, stream_of_case, without_wide,
@@ -38,8 +39,67 @@ fn pair_bytes() -> Vec<u8> {
     .concat()
 }
 
+/// What a case of the wide terminal says is what the calls give when asked
+/// again.
+pub fn is_as_called_wide(case: &Case) {
+    match case {
+        Case::WideSingle(case) => single_is_as_called(case),
+        Case::WideRun(case) => {
+            let mut pair = case.pair.clone();
+            let answer = wide::trace::call(pair.each_mut().map(Buffers::lend), &case.trace);
+            assert!((answer, &pair) == (case.answer, &case.pair_after));
+        }
+        Case::WideDraw(case) => {
+            let mut drawn = pattern(case.frame_length, case.fill);
+            let pair = case.pair.each_ref();
+            let pair = pair.map(|buffers| (&buffers.state[..], &buffers.memory[..]));
+            assert_eq!(wide::frame::call(pair, &mut drawn), case.number);
+            let mut expected = pattern(case.frame_length, case.fill);
+            if let Some(frame) = &case.frame {
+                expected[..17_160].copy_from_slice(frame);
+            }
+            assert!(drawn == expected);
+        }
+        Case::PageCall(case) => {
+            let [left, right] = &case.memories;
+            let answer = wide::page::call(left, right, case.side, case.page);
+            let memory = [left, right][case.side.index()];
+            assert_eq!(answer.number, case.number);
+            assert_eq!(answer.part, &memory[case.place..case.place + case.length]);
+        }
+        Case::WideListing(case) => {
+            assert_eq!(wide_listing(case.start, &case.trace), case.text);
+        }
+        _ => panic!("a case of the wide terminal is due"),
+    }
+}
+
+/// The states are those of the call, and the memories are changed where the
+/// case says and nowhere else.
+fn single_is_as_called(case: &WideSingle) {
+    let mut pair = case.pair.clone();
+    let answer = wide::event::call(
+        pair.each_mut().map(Buffers::lend),
+        case.selection,
+        case.event,
+    );
+    assert_eq!(answer, case.answer);
+    let mut expected = case.pair.clone();
+    for side in [0, 1] {
+        expected[side].state.clone_from(&case.states_after[side]);
+        if let Some(stored) = answer.stored[side] {
+            expected[side].memory[stored.place] = stored.byte;
+        }
+    }
+    assert!(pair == expected);
+    if answer.number != 0 {
+        assert_eq!((answer.byte, answer.dummy), (0, false));
+        assert!(pair == case.pair);
+    }
+}
+
 #[test]
-fn the_bytes_of_wide_single_events() {
+fn the_bytes_of_wide_writes() {
     let mut written = POWER_ON;
     written[1] = 1;
     let to_the_left = [1, 0, 0, 0x77];
@@ -61,7 +121,11 @@ fn the_bytes_of_wide_single_events() {
         .concat();
         assert!(body_of(&Case::WideSingle(case)) == (9, expected));
     }
-    // The dummy read of the right; a selection that is none; a short state.
+}
+
+/// The dummy read of the right, a selection that is none, and short buffers.
+#[test]
+fn the_bytes_of_other_wide_single_events() {
     let mut read = POWER_ON;
     read[22] = 0;
     let case = WideSingle::new(2, Event::Read, pair());

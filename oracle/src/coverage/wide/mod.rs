@@ -1,6 +1,7 @@
 //! Counts of what the wide terminal has reached.
 
 mod events;
+mod pages;
 mod pairs;
 mod runs;
 
@@ -9,15 +10,15 @@ use super::{DIRECTIONS, Group, direction, mixture, mixtures, refused_number};
 use crate::cases::Listing;
 use crate::cases::wide::{PageCall, WideDraw, WideRun, WideSingle};
 use crate::event::Event;
-use crate::generate::MEMORY_LENGTHS;
 use crate::generate::wide::WIDE_FRAME_LENGTHS;
 use crate::listing::LONGEST_TRACE;
-use crate::memory::{COLUMNS, ICON_PAGE, LAST_COLUMN, MEMORY_LENGTH};
+use crate::memory::{COLUMNS, LAST_COLUMN};
 use crate::refusal::TAKEN;
 use crate::registers::Registers;
 use crate::wide::frame::WIDE_FRAME_LENGTH;
 use crate::wide::{Selection, Side};
 use events::WideEventCoverage;
+use pages::PageCoverage;
 use pairs::{IMAGES, PairCoverage, images_of, is_short};
 use runs::WideRunCoverage;
 
@@ -125,10 +126,7 @@ pub struct WideCoverage {
     draw_refusals: Group,
     draw_displays: Group,
     draw_directions: Group,
-    page_numbers: Group,
-    pages: Group,
-    page_lengths: Group,
-    page_refusals: Group,
+    pages: PageCoverage,
     listing_numbers: Group,
     listings: Group,
 }
@@ -137,10 +135,6 @@ impl WideCoverage {
     /// Nothing reached yet.
     pub fn new() -> WideCoverage {
         let displays = [["left off", "left on"], ["right off", "right on"]];
-        let pages: Vec<String> = (0..=ICON_PAGE).map(|page| page.to_string()).collect();
-        let pages: Vec<&str> = pages.iter().map(String::as_str).collect();
-        let lengths = MEMORY_LENGTHS.map(|length| length.to_string());
-        let lengths = lengths.each_ref().map(String::as_str);
         WideCoverage {
             events: WideEventCoverage::new(),
             runs: WideRunCoverage::new(),
@@ -163,17 +157,7 @@ impl WideCoverage {
                 "wide draws, directions",
                 mixtures(&[&DIRECTIONS, &DIRECTIONS]),
             ),
-            page_numbers: Group::numbers("numbers of page calls", &[0, 1, 4]),
-            pages: Group::new("page calls taken", mixtures(&[&SIDES, &pages])),
-            page_lengths: Group::new(
-                "page calls, lengths",
-                mixtures(&[&SIDES, &lengths, &lengths]),
-            ),
-            page_refusals: Group::new(
-                "page calls, refusals",
-                mixtures(&[&SIDES, &MEMORIES, &ABOVE_8]),
-            )
-            .without(&mixture(&[MEMORIES[0], ABOVE_8[0]])),
+            pages: PageCoverage::new(),
             listing_numbers: Group::new(
                 "numbers of wide listings",
                 mixtures(&[&STARTS, &LISTED_NUMBERS]),
@@ -193,13 +177,9 @@ impl WideCoverage {
             &self.draw_refusals,
             &self.draw_displays,
             &self.draw_directions,
-            &self.page_numbers,
-            &self.pages,
-            &self.page_lengths,
-            &self.page_refusals,
-            &self.listing_numbers,
-            &self.listings,
         ]);
+        groups.extend(self.pages.groups());
+        groups.extend([&self.listing_numbers, &self.listings]);
         groups
     }
 
@@ -241,26 +221,7 @@ impl WideCoverage {
 
     /// Counts what a page call reaches.
     pub fn see_page(&mut self, call: &PageCall) {
-        let side = SIDES[call.side.index()];
-        self.page_numbers.hit(call.number);
-        let [left, right] = call.memories.each_ref().map(Vec::len);
-        self.page_lengths
-            .hit_label(&mixture(&[side, &left.to_string(), &right.to_string()]));
-        if call.number == TAKEN {
-            self.pages
-                .hit_label(&mixture(&[side, &call.page.to_string()]));
-            return;
-        }
-        let short = usize::from(left < MEMORY_LENGTH) + 2 * usize::from(right < MEMORY_LENGTH);
-        let [within, nine, above, last] = ABOVE_8;
-        let page = match call.page {
-            0..=ICON_PAGE => within,
-            9 => nine,
-            0xFF => last,
-            _ => above,
-        };
-        self.page_refusals
-            .hit_label(&mixture(&[side, MEMORIES[short], page]));
+        self.pages.see(call);
     }
 
     /// Counts what a listing reaches.
@@ -302,17 +263,6 @@ const FRAMES: [&str; 2] = ["frame long enough", "frame too short"];
 
 /// Whether the other buffers of a drawing are.
 const OTHERS: [&str; 2] = ["others long enough", "others too short"];
-
-/// Which memories of a page call are too short.
-const MEMORIES: [&str; 4] = [
-    "neither too short",
-    "the left too short",
-    "the right too short",
-    "both too short",
-];
-
-/// The pages that can be asked for and the others.
-const ABOVE_8: [&str; 4] = ["page up to 8", "page 9", "page 10 to 254", "page 255"];
 
 /// First and last place of each run of lit places, whatever its row.
 fn lit_runs(text: &str) -> Vec<[usize; 2]> {
