@@ -15,3 +15,11 @@
 #define plain_list ssd1815b_list
 #define plain_compare_frames ssd1815b_compare_frames
 #define plain_compare_memories ssd1815b_compare_memories
+#define plain_wide_command ssd1815b_wide_command
+#define plain_wide_write ssd1815b_wide_write
+#define plain_wide_read ssd1815b_wide_read
+#define plain_wide_reset ssd1815b_wide_reset
+#define plain_wide_run ssd1815b_wide_run
+#define plain_wide_draw ssd1815b_wide_draw
+#define plain_wide_page ssd1815b_wide_page
+#define plain_wide_list ssd1815b_wide_list

@@ -1,6 +1,6 @@
 /*
-** The rules of document 01 in plain C, written by hand as firmware would be:
-** straightforward, one function to a rule, nothing proved.  The bench holds
+** The rules of documents 01 and 02 in plain C, written by hand as firmware would
+** be: straightforward, one function to a rule, nothing proved.  The bench holds
 ** the proved library beside it, and the C tests compare it with the oracle
 ** like the library, so what is measured is right.
 **
@@ -39,7 +39,9 @@ enum {
   STATE_SIZE = SSD1815B_STATE_SIZE,
   MEMORY_SIZE = SSD1815B_MEMORY_SIZE,
   FRAME_SIZE = SSD1815B_FRAME_SIZE,
+  WIDE_FRAME_SIZE = SSD1815B_WIDE_FRAME_SIZE,
   COLUMNS = SSD1815B_COLUMNS,
+  WIDE_COLUMNS = SSD1815B_WIDE_COLUMNS,
   ROWS = SSD1815B_ROWS,
   ICON_PAGE = SSD1815B_ICON_PAGE,
   ICON_ROW = SSD1815B_ICON_ROW
@@ -243,16 +245,21 @@ static void move_on(uint8_t *state)
                                                          : state[COLUMN] + 1);
 }
 
-static uint8_t write(uint8_t *state, uint8_t *memory, uint8_t byte)
+/* A write of which 6 and 7 are asked. */
+static void store(uint8_t *state, uint8_t *memory, uint8_t byte)
 {
-  uint8_t number = access(state);
-  if (number != SSD1815B_TAKEN) {
-    return number;
-  }
   memory[place(state)] = state[PAGE] == ICON_PAGE ? byte & 1 : byte;
   state[FRESH] = 1;
   move_on(state);
-  return SSD1815B_TAKEN;
+}
+
+static uint8_t write(uint8_t *state, uint8_t *memory, uint8_t byte)
+{
+  uint8_t number = access(state);
+  if (number == SSD1815B_TAKEN) {
+    store(state, memory, byte);
+  }
+  return number;
 }
 
 /* What a read that is not the dummy read answers. */
@@ -270,6 +277,22 @@ static void read(uint8_t *state)
   } else if (state[MODIFY] == 0) {
     move_on(state);
   }
+}
+
+/* A read by itself, with what it answers. */
+static uint8_t read_out(uint8_t *state, const uint8_t *memory, uint8_t *byte,
+                        uint8_t *dummy)
+{
+  uint8_t number = access(state);
+  if (number != SSD1815B_TAKEN) {
+    return number;
+  }
+  *dummy = state[FRESH];
+  if (state[FRESH] == 0) {
+    *byte = fetch(state, memory);
+  }
+  read(state);
+  return SSD1815B_TAKEN;
 }
 
 /* ---- starting and the four event calls ---- */
@@ -317,18 +340,8 @@ uint8_t plain_read(uint8_t *state, size_t state_len, const uint8_t *memory,
   *byte = 0;
   *dummy = 0;
   uint8_t number = asked(state, state_len, memory_len);
-  if (number == SSD1815B_TAKEN) {
-    number = access(state);
-  }
-  if (number != SSD1815B_TAKEN) {
-    return number;
-  }
-  *dummy = state[FRESH];
-  if (state[FRESH] == 0) {
-    *byte = fetch(state, memory);
-  }
-  read(state);
-  return SSD1815B_TAKEN;
+  return number != SSD1815B_TAKEN ? number
+                                  : read_out(state, memory, byte, dummy);
 }
 
 uint8_t plain_reset(uint8_t *state, size_t state_len, const uint8_t *memory,
@@ -371,6 +384,16 @@ uint8_t plain_record(const uint8_t *trace, size_t trace_len, size_t at,
   }
   *kind = two_bytes(trace + at + 2);
   *next = at + HEADER_SIZE + two_bytes(trace + at);
+  return SSD1815B_TAKEN;
+}
+
+/* A whole record's kind: 0, or 9. */
+static uint8_t judge(size_t kind, size_t length)
+{
+  if (kind < COMMANDS || kind > RESET_PIN
+      || (kind == RESET_PIN && length > 0)) {
+    return SSD1815B_KIND_UNKNOWN;
+  }
   return SSD1815B_TAKEN;
 }
 
@@ -437,9 +460,8 @@ uint8_t plain_run(uint8_t *state, size_t state_len, uint8_t *memory,
     }
     size_t length = two_bytes(trace + at);
     size_t kind = two_bytes(trace + at + 2);
-    if (kind < COMMANDS || kind > RESET_PIN
-        || (kind == RESET_PIN && length > 0)) {
-      number = SSD1815B_KIND_UNKNOWN;
+    number = judge(kind, length);
+    if (number != SSD1815B_TAKEN) {
       break;
     }
     const uint8_t *payload = trace + at + HEADER_SIZE;
@@ -500,6 +522,26 @@ static void draw_ram_row(uint8_t *row, const uint8_t *state,
            state[REVERSE] == 1);
 }
 
+/* What a display that is on shows, each row so many places after the one before
+** it. */
+static void draw_rows(uint8_t *frame, size_t width, const uint8_t *state,
+                      const uint8_t *memory)
+{
+  unsigned in_use = state[MULTIPLEX] + 1u;
+  unsigned above = (ROWS - in_use) / 2;
+  for (unsigned p = 0; p < ROWS; p++) {
+    uint8_t *row = frame + p * width;
+    unsigned com = (p + state[OFFSET] + ROWS - above) % ROWS;
+    if (com >= in_use) {
+      memset(row, 0, COLUMNS);
+    } else {
+      unsigned k = state[ROW_DIRECTION] == 1 ? in_use - 1 - com : com;
+      draw_ram_row(row, state, memory, (state[START_LINE] + k) % ROWS);
+    }
+  }
+  draw_ram_row(frame + ICON_ROW * width, state, memory, ICON_ROW);
+}
+
 uint8_t plain_draw(const uint8_t *state, size_t state_len,
                    const uint8_t *memory, size_t memory_len, uint8_t *frame,
                    size_t frame_len)
@@ -513,21 +555,9 @@ uint8_t plain_draw(const uint8_t *state, size_t state_len,
   }
   if (state[DISPLAY_ON] == 0) {
     memset(frame, 0, FRAME_SIZE);
-    return SSD1815B_TAKEN;
+  } else {
+    draw_rows(frame, COLUMNS, state, memory);
   }
-  unsigned in_use = state[MULTIPLEX] + 1u;
-  unsigned above = (ROWS - in_use) / 2;
-  for (unsigned p = 0; p < ROWS; p++) {
-    uint8_t *row = frame + (size_t)p * COLUMNS;
-    unsigned com = (p + state[OFFSET] + ROWS - above) % ROWS;
-    if (com >= in_use) {
-      memset(row, 0, COLUMNS);
-    } else {
-      unsigned k = state[ROW_DIRECTION] == 1 ? in_use - 1 - com : com;
-      draw_ram_row(row, state, memory, (state[START_LINE] + k) % ROWS);
-    }
-  }
-  draw_ram_row(frame + (size_t)ICON_ROW * COLUMNS, state, memory, ICON_ROW);
   return SSD1815B_TAKEN;
 }
 
@@ -554,15 +584,16 @@ static uint8_t *put_number(uint8_t *to, size_t value)
   return to;
 }
 
-static uint8_t *put_row(uint8_t *to, const uint8_t *row, size_t number)
+static uint8_t *put_row(uint8_t *to, const uint8_t *row, size_t width,
+                        size_t number)
 {
   bool begun = false;
-  for (size_t x = 0; x < COLUMNS; x++) {
+  for (size_t x = 0; x < width; x++) {
     if (row[x] == 0) {
       continue;
     }
     size_t first = x;
-    while (x + 1 < COLUMNS && row[x + 1] != 0) {
+    while (x + 1 < width && row[x + 1] != 0) {
       x++;
     }
     if (!begun) {
@@ -582,7 +613,7 @@ static uint8_t *put_row(uint8_t *to, const uint8_t *row, size_t number)
 
 /* The listing into a text that is long enough for any; its length. */
 static size_t put_listing(uint8_t *text, uint8_t number, size_t offset,
-                          const uint8_t *frame)
+                          const uint8_t *frame, size_t width)
 {
   uint8_t *to = text;
   if (number != SSD1815B_TAKEN) {
@@ -592,12 +623,33 @@ static size_t put_listing(uint8_t *text, uint8_t number, size_t offset,
     to = put_number(to, offset);
     *to++ = '\n';
   }
-  to = put_text(to, "frame 132 65\n");
+  to = put_text(to, "frame ");
+  to = put_number(to, width);
+  to = put_text(to, " 65\n");
   for (size_t row = 0; row <= ICON_ROW; row++) {
-    to = put_row(to, frame + row * COLUMNS, row);
+    to = put_row(to, frame + row * width, width, row);
   }
   to = put_text(to, "end\n");
   return (size_t)(to - text);
+}
+
+/* The listing into any text, where one of `enough` bytes holds every listing. */
+static uint8_t list(uint8_t number, size_t offset, const uint8_t *frame,
+                    size_t width, uint8_t *text, size_t text_len,
+                    size_t enough, size_t *length)
+{
+  if (text_len >= enough) {
+    *length = put_listing(text, number, offset, frame, width);
+    return SSD1815B_TAKEN;
+  }
+  uint8_t room[SSD1815B_WIDE_TEXT_SIZE];
+  size_t needed = put_listing(room, number, offset, frame, width);
+  if (text_len < needed) {
+    return SSD1815B_TOO_SHORT;
+  }
+  memcpy(text, room, needed);
+  *length = needed;
+  return SSD1815B_TAKEN;
 }
 
 uint8_t plain_list(uint8_t number, size_t offset, const uint8_t *frame,
@@ -608,18 +660,8 @@ uint8_t plain_list(uint8_t number, size_t offset, const uint8_t *frame,
   if (frame_len < FRAME_SIZE) {
     return SSD1815B_TOO_SHORT;
   }
-  if (text_len >= SSD1815B_TEXT_SIZE) {
-    *length = put_listing(text, number, offset, frame);
-    return SSD1815B_TAKEN;
-  }
-  uint8_t room[SSD1815B_TEXT_SIZE];
-  size_t needed = put_listing(room, number, offset, frame);
-  if (text_len < needed) {
-    return SSD1815B_TOO_SHORT;
-  }
-  memcpy(text, room, needed);
-  *length = needed;
-  return SSD1815B_TAKEN;
+  return list(number, offset, frame, COLUMNS, text, text_len,
+              SSD1815B_TEXT_SIZE, length);
 }
 
 /* ---- where two frames differ ---- */
@@ -815,4 +857,364 @@ uint8_t plain_compare_memories(const uint8_t *first, size_t first_len,
   }
   *count = put_all_bytes(list, first, second);
   return SSD1815B_TAKEN;
+}
+
+/* ---- the wide terminal: what is lent, and the selection ---- */
+
+enum { LEFT = SSD1815B_LEFT, RIGHT = SSD1815B_RIGHT, BOTH = SSD1815B_BOTH };
+
+/* Whether something lent of two chips is too short. */
+static bool either_too_short(size_t left_state_len, size_t left_memory_len,
+                             size_t right_state_len, size_t right_memory_len)
+{
+  return too_short(left_state_len, left_memory_len)
+         || too_short(right_state_len, right_memory_len);
+}
+
+/* What is lent of two chips: 0, or 1 or 2. */
+static uint8_t wide_asked(const uint8_t *left_state, size_t left_state_len,
+                          size_t left_memory_len, const uint8_t *right_state,
+                          size_t right_state_len, size_t right_memory_len)
+{
+  if (either_too_short(left_state_len, left_memory_len, right_state_len,
+                       right_memory_len)) {
+    return SSD1815B_TOO_SHORT;
+  }
+  return legal(left_state) && legal(right_state) ? SSD1815B_TAKEN
+                                                 : SSD1815B_OUT_OF_RANGE;
+}
+
+/* Whether a byte selects left, right or both. */
+static bool selects(uint8_t selection)
+{
+  return selection >= LEFT && selection <= BOTH;
+}
+
+/* ---- events for both chips: neither changes unless both take them ---- */
+
+static uint8_t command_both(uint8_t *left, uint8_t *right, uint8_t byte)
+{
+  uint8_t before[STATE_SIZE];
+  memcpy(before, left, STATE_SIZE);
+  uint8_t number = command(left, byte);
+  if (number != SSD1815B_TAKEN) {
+    return number;
+  }
+  number = command(right, byte);
+  if (number != SSD1815B_TAKEN) {
+    memcpy(left, before, STATE_SIZE);
+  }
+  return number;
+}
+
+static uint8_t write_both(uint8_t *left_state, uint8_t *left_memory,
+                          uint8_t *right_state, uint8_t *right_memory,
+                          uint8_t byte)
+{
+  uint8_t number = access(left_state);
+  if (number == SSD1815B_TAKEN) {
+    number = access(right_state);
+  }
+  if (number == SSD1815B_TAKEN) {
+    store(left_state, left_memory, byte);
+    store(right_state, right_memory, byte);
+  }
+  return number;
+}
+
+/* ---- the four wide event calls ---- */
+
+uint8_t plain_wide_command(uint8_t *left_state, size_t left_state_len,
+                           const uint8_t *left_memory, size_t left_memory_len,
+                           uint8_t *right_state, size_t right_state_len,
+                           const uint8_t *right_memory,
+                           size_t right_memory_len, uint8_t selection,
+                           uint8_t byte)
+{
+  (void)left_memory;
+  (void)right_memory;
+  uint8_t number = wide_asked(left_state, left_state_len, left_memory_len,
+                              right_state, right_state_len, right_memory_len);
+  if (number != SSD1815B_TAKEN) {
+    return number;
+  }
+  switch (selection) {
+  case LEFT:
+    return command(left_state, byte);
+  case RIGHT:
+    return command(right_state, byte);
+  case BOTH:
+    return command_both(left_state, right_state, byte);
+  default:
+    return SSD1815B_NO_SELECTION;
+  }
+}
+
+uint8_t plain_wide_write(uint8_t *left_state, size_t left_state_len,
+                         uint8_t *left_memory, size_t left_memory_len,
+                         uint8_t *right_state, size_t right_state_len,
+                         uint8_t *right_memory, size_t right_memory_len,
+                         uint8_t selection, uint8_t byte)
+{
+  uint8_t number = wide_asked(left_state, left_state_len, left_memory_len,
+                              right_state, right_state_len, right_memory_len);
+  if (number != SSD1815B_TAKEN) {
+    return number;
+  }
+  switch (selection) {
+  case LEFT:
+    return write(left_state, left_memory, byte);
+  case RIGHT:
+    return write(right_state, right_memory, byte);
+  case BOTH:
+    return write_both(left_state, left_memory, right_state, right_memory, byte);
+  default:
+    return SSD1815B_NO_SELECTION;
+  }
+}
+
+uint8_t plain_wide_reset(uint8_t *left_state, size_t left_state_len,
+                         const uint8_t *left_memory, size_t left_memory_len,
+                         uint8_t *right_state, size_t right_state_len,
+                         const uint8_t *right_memory, size_t right_memory_len,
+                         uint8_t selection)
+{
+  (void)left_memory;
+  (void)right_memory;
+  if (either_too_short(left_state_len, left_memory_len, right_state_len,
+                       right_memory_len)) {
+    return SSD1815B_TOO_SHORT;
+  }
+  if (!selects(selection)) {
+    return SSD1815B_NO_SELECTION;
+  }
+  if (selection & LEFT) {
+    memcpy(left_state, power_on, STATE_SIZE);
+  }
+  if (selection & RIGHT) {
+    memcpy(right_state, power_on, STATE_SIZE);
+  }
+  return SSD1815B_TAKEN;
+}
+
+uint8_t plain_wide_read(uint8_t *left_state, size_t left_state_len,
+                        const uint8_t *left_memory, size_t left_memory_len,
+                        uint8_t *right_state, size_t right_state_len,
+                        const uint8_t *right_memory, size_t right_memory_len,
+                        uint8_t selection, uint8_t *byte, uint8_t *dummy)
+{
+  *byte = 0;
+  *dummy = 0;
+  uint8_t number = wide_asked(left_state, left_state_len, left_memory_len,
+                              right_state, right_state_len, right_memory_len);
+  if (number != SSD1815B_TAKEN) {
+    return number;
+  }
+  switch (selection) {
+  case LEFT:
+    return read_out(left_state, left_memory, byte, dummy);
+  case RIGHT:
+    return read_out(right_state, right_memory, byte, dummy);
+  case BOTH:
+    return SSD1815B_BOTH_SELECTED;
+  default:
+    return SSD1815B_NO_SELECTION;
+  }
+}
+
+/* ---- the wide run ---- */
+
+enum { SELECT = 5 };
+
+/* Two chips, and which of them a run has selected. */
+struct terminal {
+  uint8_t *left_state;
+  uint8_t *left_memory;
+  uint8_t *right_state;
+  uint8_t *right_memory;
+  uint8_t selection;
+};
+
+/* A whole record's kind and, of a select record, its payload: 0, or 9 or 13. */
+static uint8_t wide_judge(size_t kind, const uint8_t *payload, size_t length)
+{
+  if (kind != SELECT) {
+    return judge(kind, length);
+  }
+  return length == 1 && selects(payload[0]) ? SSD1815B_TAKEN
+                                            : SSD1815B_NO_SELECTION;
+}
+
+/* A record's payload for both chips.  *done counts its events taken. */
+static uint8_t obey_both(const struct terminal *both, size_t kind,
+                         const uint8_t *payload, size_t length, size_t *done)
+{
+  uint8_t number = SSD1815B_TAKEN;
+  size_t i = 0;
+  switch (kind) {
+  case COMMANDS:
+    for (; i < length; i++) {
+      number = command_both(both->left_state, both->right_state, payload[i]);
+      if (number != SSD1815B_TAKEN) {
+        break;
+      }
+    }
+    break;
+  case WRITTEN:
+    for (; i < length; i++) {
+      number = write_both(both->left_state, both->left_memory,
+                          both->right_state, both->right_memory, payload[i]);
+      if (number != SSD1815B_TAKEN) {
+        break;
+      }
+    }
+    break;
+  case READ:
+    number = length > 0 ? SSD1815B_BOTH_SELECTED : SSD1815B_TAKEN;
+    break;
+  default: /* the reset pin */
+    memcpy(both->left_state, power_on, STATE_SIZE);
+    memcpy(both->right_state, power_on, STATE_SIZE);
+    break;
+  }
+  *done = i;
+  return number;
+}
+
+/* A record of a wide trace, whose kind is judged. */
+static uint8_t wide_obey(struct terminal *terminal, size_t kind,
+                         const uint8_t *payload, size_t length, size_t *done)
+{
+  if (kind == SELECT) {
+    terminal->selection = payload[0];
+    *done = length;
+    return SSD1815B_TAKEN;
+  }
+  switch (terminal->selection) {
+  case LEFT:
+    return obey(terminal->left_state, terminal->left_memory, kind, payload,
+                length, done);
+  case RIGHT:
+    return obey(terminal->right_state, terminal->right_memory, kind, payload,
+                length, done);
+  default:
+    return obey_both(terminal, kind, payload, length, done);
+  }
+}
+
+/* All records; *at and *records are where it stopped and how many it did. */
+static uint8_t wide_walk(struct terminal *terminal, const uint8_t *trace,
+                         size_t trace_len, size_t *at, size_t *records)
+{
+  while (*at < trace_len) {
+    size_t kind;
+    size_t next;
+    uint8_t number = plain_record(trace, trace_len, *at, &kind, &next);
+    if (number != SSD1815B_TAKEN) {
+      return number;
+    }
+    const uint8_t *payload = trace + *at + HEADER_SIZE;
+    size_t length = next - *at - HEADER_SIZE;
+    number = wide_judge(kind, payload, length);
+    if (number != SSD1815B_TAKEN) {
+      return number;
+    }
+    size_t done;
+    number = wide_obey(terminal, kind, payload, length, &done);
+    if (number != SSD1815B_TAKEN) {
+      *at += HEADER_SIZE + done;
+      return number;
+    }
+    *at = next;
+    ++*records;
+  }
+  return SSD1815B_TAKEN;
+}
+
+uint8_t plain_wide_run(uint8_t *left_state, size_t left_state_len,
+                       uint8_t *left_memory, size_t left_memory_len,
+                       uint8_t *right_state, size_t right_state_len,
+                       uint8_t *right_memory, size_t right_memory_len,
+                       const uint8_t *trace, size_t trace_len, size_t *offset,
+                       size_t *count)
+{
+  *offset = 0;
+  *count = 0;
+  uint8_t number = wide_asked(left_state, left_state_len, left_memory_len,
+                              right_state, right_state_len, right_memory_len);
+  if (number != SSD1815B_TAKEN) {
+    return number;
+  }
+  struct terminal terminal = { left_state, left_memory, right_state,
+                               right_memory, BOTH };
+  return wide_walk(&terminal, trace, trace_len, offset, count);
+}
+
+/* ---- the wide frame, one page, the wide listing ---- */
+
+/* A chip's half of a wide frame. */
+static void draw_half(uint8_t *half, const uint8_t *state,
+                      const uint8_t *memory)
+{
+  if (state[DISPLAY_ON] == 1) {
+    draw_rows(half, WIDE_COLUMNS, state, memory);
+    return;
+  }
+  for (size_t row = 0; row <= ICON_ROW; row++) {
+    memset(half + row * WIDE_COLUMNS, 0, COLUMNS);
+  }
+}
+
+uint8_t plain_wide_draw(const uint8_t *left_state, size_t left_state_len,
+                        const uint8_t *left_memory, size_t left_memory_len,
+                        const uint8_t *right_state, size_t right_state_len,
+                        const uint8_t *right_memory, size_t right_memory_len,
+                        uint8_t *frame, size_t frame_len)
+{
+  if (frame_len < WIDE_FRAME_SIZE) {
+    return SSD1815B_TOO_SHORT;
+  }
+  uint8_t number = wide_asked(left_state, left_state_len, left_memory_len,
+                              right_state, right_state_len, right_memory_len);
+  if (number != SSD1815B_TAKEN) {
+    return number;
+  }
+  draw_half(frame, left_state, left_memory);
+  draw_half(frame + COLUMNS, right_state, right_memory);
+  return SSD1815B_TAKEN;
+}
+
+uint8_t plain_wide_page(const uint8_t *left_memory, size_t left_memory_len,
+                        const uint8_t *right_memory, size_t right_memory_len,
+                        uint8_t side, uint8_t page, size_t *place_of_page,
+                        size_t *length)
+{
+  (void)left_memory;
+  (void)right_memory;
+  *place_of_page = 0;
+  *length = 0;
+  if (left_memory_len < MEMORY_SIZE || right_memory_len < MEMORY_SIZE) {
+    return SSD1815B_TOO_SHORT;
+  }
+  if (side != LEFT && side != RIGHT) {
+    return SSD1815B_NO_SELECTION;
+  }
+  if (page > ICON_PAGE) {
+    return SSD1815B_NO_PAGE;
+  }
+  *place_of_page = (size_t)page * COLUMNS;
+  *length = COLUMNS;
+  return SSD1815B_TAKEN;
+}
+
+uint8_t plain_wide_list(uint8_t number, size_t offset, const uint8_t *frame,
+                        size_t frame_len, uint8_t *text, size_t text_len,
+                        size_t *length)
+{
+  *length = 0;
+  if (frame_len < WIDE_FRAME_SIZE) {
+    return SSD1815B_TOO_SHORT;
+  }
+  return list(number, offset, frame, WIDE_COLUMNS, text, text_len,
+              SSD1815B_WIDE_TEXT_SIZE, length);
 }
