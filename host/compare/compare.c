@@ -75,6 +75,12 @@ static unsigned long events_compared(void)
          + tally_all(CALL_READ) + tally_all(CALL_RESET);
 }
 
+static unsigned long wide_events_compared(void)
+{
+  return tally_all(CALL_WIDE_COMMAND) + tally_all(CALL_WIDE_WRITE)
+         + tally_all(CALL_WIDE_READ) + tally_all(CALL_WIDE_RESET);
+}
+
 /* Compares cases until the end, or until enough differ; how many. */
 static unsigned long compare_all(void)
 {
@@ -90,6 +96,11 @@ static unsigned long compare_all(void)
     [TAG_FRAMES] = { "two frames", compare_frames },
     [TAG_MEMORIES] = { "two memories", compare_memories },
     [TAG_START] = { "a start", compare_start },
+    [TAG_WIDE_EVENT] = { "a wide event", compare_wide_event },
+    [TAG_WIDE_RUN] = { "a wide run", compare_wide_run },
+    [TAG_WIDE_DRAW] = { "a wide drawing", compare_wide_draw },
+    [TAG_PAGE] = { "a page", compare_page },
+    [TAG_WIDE_LISTING] = { "a wide listing", compare_wide_listing },
   };
   unsigned long cases = 0;
   struct body body;
@@ -117,10 +128,22 @@ static unsigned long compare_all(void)
   return cases;
 }
 
+/* Prints how many cases of the wide terminal were compared. */
+static void print_wide(void)
+{
+  printf("wide: %lu single events, %lu runs, %lu drawings (%lu frames),"
+         " %lu pages, %lu listings\n",
+         wide_events_compared(), tally_all(CALL_WIDE_RUN),
+         tally_all(CALL_WIDE_DRAW), tally_of(CALL_WIDE_DRAW, SSD1815B_TAKEN),
+         tally_all(CALL_WIDE_PAGE),
+         tally_all(CALL_WIDE_LIST) + tally_all(CALL_WIDE_LIST_UPRIGHT));
+}
+
 /* Prints how often each call gave each number, and how many cases differ. */
 static void print_all(uint64_t seed, unsigned long cases)
 {
   tally_print();
+  print_wide();
   printf("seed %llu: %lu cases, %lu single events, %lu runs, %lu drawings"
          " (%lu frames), %lu listings, %lu pairs of frames, %lu of memories"
          " compared, %lu starts: %u cases differ\n",
@@ -143,6 +166,9 @@ int main(int argc, char **argv)
   listings_open();
   differences_open();
   starts_open();
+  chips_open();
+  wide_events_open();
+  pages_open();
 
   uint64_t seed = stream_begin();
   unsigned long cases = compare_all();

@@ -19,6 +19,8 @@ static struct {
   const char *call;       /* the call that is made now; null: the event */
   size_t index;
   struct event event;
+  bool wide;              /* the event has a selection */
+  uint8_t selection;
   unsigned differences;   /* cases that differ */
   bool differs;           /* this case does */
 } now;
@@ -31,11 +33,18 @@ static void describe_call(char *text, size_t size)
   };
   if (now.call != NULL) {
     snprintf(text, size, "%s", now.call);
-  } else if (now.event.kind == EVENT_COMMAND || now.event.kind == EVENT_WRITE) {
-    snprintf(text, size, "event %zu, %s %02X", now.index,
-             names[now.event.kind], now.event.byte);
+    return;
+  }
+  char byte[8] = "";
+  if (now.event.kind == EVENT_COMMAND || now.event.kind == EVENT_WRITE) {
+    snprintf(byte, sizeof byte, " %02X", now.event.byte);
+  }
+  if (now.wide) {
+    snprintf(text, size, "wide_%s%s, selection %u", names[now.event.kind],
+             byte, now.selection);
   } else {
-    snprintf(text, size, "event %zu, %s", now.index, names[now.event.kind]);
+    snprintf(text, size, "event %zu, %s%s", now.index, names[now.event.kind],
+             byte);
   }
 }
 
@@ -98,6 +107,15 @@ void report_event(size_t index, struct event event)
   now.call = NULL;
   now.index = index;
   now.event = event;
+  now.wide = false;
+}
+
+void report_wide_event(uint8_t selection, struct event event)
+{
+  now.call = NULL;
+  now.event = event;
+  now.wide = true;
+  now.selection = selection;
 }
 
 static void differ(void)
@@ -112,7 +130,7 @@ static void differ(void)
 }
 
 /* What the bytes of a thing are. */
-enum form { ANY_BYTES, IMAGE, MEMORY, FRAME, RUNS, BYTES };
+enum form { ANY_BYTES, IMAGE, MEMORY, FRAME, WIDE_FRAME, RUNS, BYTES };
 
 static const struct {
   const char *name;
@@ -140,7 +158,13 @@ static const struct {
   [THE_BYTES] = { "list", BYTES },
   [BYTES_PUT_IN] = { "bytes that can be put into the first memory", ANY_BYTES },
   [MEMORY_WITH_BYTES] = { "first memory with the bytes put in", MEMORY },
-  [AFTER_THE_LIST] = { "the list buffer after the entries", ANY_BYTES }
+  [AFTER_THE_LIST] = { "the list buffer after the entries", ANY_BYTES },
+  [THE_LEFT_STATE] = { "left state", IMAGE },
+  [THE_LEFT_MEMORY] = { "left memory", MEMORY },
+  [THE_RIGHT_STATE] = { "right state", IMAGE },
+  [THE_RIGHT_MEMORY] = { "right memory", MEMORY },
+  [THE_WIDE_FRAME] = { "wide frame", WIDE_FRAME },
+  [THE_PLACE] = { "place of the page", ANY_BYTES }
 };
 
 /* A byte of a thing, by the name that document 01 or Order 1 has for it. */
@@ -164,6 +188,9 @@ static void print_place(enum thing thing, size_t place)
   } else if (form == FRAME && place < SSD1815B_FRAME_SIZE) {
     fprintf(stderr, " (row %zu place %zu)", place / SSD1815B_COLUMNS,
             place % SSD1815B_COLUMNS);
+  } else if (form == WIDE_FRAME && place < SSD1815B_WIDE_FRAME_SIZE) {
+    fprintf(stderr, " (row %zu place %zu)", place / SSD1815B_WIDE_COLUMNS,
+            place % SSD1815B_WIDE_COLUMNS);
   } else if (form == RUNS) {
     fprintf(stderr, " (run %zu, %s)", place / SSD1815B_FRAME_ENTRY_SIZE,
             of_run[place % SSD1815B_FRAME_ENTRY_SIZE]);

@@ -30,8 +30,8 @@ uint64_t stream_begin(void)
   if (memcmp(take_bytes(&header, 8).at, "1815CASE", 8) != 0) {
     malformed("it does not begin with 1815CASE");
   }
-  if (take_u32(&header) != 3) {
-    malformed("its version is not 3");
+  if (take_u32(&header) != 4) {
+    malformed("its version is not 4");
   }
   return take_u64(&header);
 }

@@ -1,5 +1,5 @@
 /*
-** The oracle's stream of test cases (oracle/README.md, version 3), read from
+** The oracle's stream of test cases (oracle/README.md, version 4), read from
 ** standard input one case at a time.
 **
 ** A stream that is not in that form ends the program with status 2: that is
@@ -13,7 +13,8 @@
 
 enum { TAG_END = 0, TAG_SINGLE = 1, TAG_SEQUENCE = 2, TAG_RUN = 3,
        TAG_DRAW = 4, TAG_LISTING = 5, TAG_FRAMES = 6, TAG_MEMORIES = 7,
-       TAG_START = 8 };
+       TAG_START = 8, TAG_WIDE_EVENT = 9, TAG_WIDE_RUN = 10, TAG_WIDE_DRAW = 11,
+       TAG_PAGE = 12, TAG_WIDE_LISTING = 13 };
 
 enum { EVENT_COMMAND = 1, EVENT_WRITE = 2, EVENT_READ = 3, EVENT_RESET = 4 };
 

@@ -2,24 +2,33 @@
 
 #include <stdio.h>
 
-enum { NUMBERS = 13 };
+enum { NUMBERS = 15 };
 
 static const struct {
   const char *name;
   const char *can_give; /* '+' for each number that the call can give */
 } calls[CALLS] = {
-  [CALL_COMMAND]       = { "command",       "++++++       " },
-  [CALL_WRITE]         = { "write",         "+++   ++     " },
-  [CALL_READ]          = { "read",          "+++   ++     " },
-  [CALL_RESET]         = { "reset",         "++           " },
-  [CALL_RUN]           = { "run",           "+++++++++++  " },
-  [CALL_DRAW]          = { "draw",          "+++          " },
-  [CALL_LIST]          = { "list",          "+            " },
-  [CALL_LIST_UPRIGHT]  = { "list upright",  "+            " },
-  [CALL_FRAMES]        = { "frames",        "++         ++" },
-  [CALL_MEMORIES]      = { "memories",      "++         + " },
-  [CALL_START]         = { "start",         "++           " },
-  [CALL_START_UPRIGHT] = { "start upright", "++           " },
+  [CALL_COMMAND]           = { "command",          "++++++         " },
+  [CALL_WRITE]             = { "write",            "+++   ++       " },
+  [CALL_READ]              = { "read",             "+++   ++       " },
+  [CALL_RESET]             = { "reset",            "++             " },
+  [CALL_RUN]               = { "run",              "+++++++++++    " },
+  [CALL_DRAW]              = { "draw",             "+++            " },
+  [CALL_LIST]              = { "list",             "+              " },
+  [CALL_LIST_UPRIGHT]      = { "list upright",     "+              " },
+  [CALL_FRAMES]            = { "frames",           "++         ++  " },
+  [CALL_MEMORIES]          = { "memories",         "++         +   " },
+  [CALL_START]             = { "start",            "++             " },
+  [CALL_START_UPRIGHT]     = { "start upright",    "++             " },
+  [CALL_WIDE_COMMAND]      = { "wide command",     "++++++       + " },
+  [CALL_WIDE_WRITE]        = { "wide write",       "+++   ++     + " },
+  [CALL_WIDE_READ]         = { "wide read",        "+++   ++     ++" },
+  [CALL_WIDE_RESET]        = { "wide reset",       "++           + " },
+  [CALL_WIDE_RUN]          = { "wide run",         "+++++++++++  ++" },
+  [CALL_WIDE_DRAW]         = { "wide draw",        "+++            " },
+  [CALL_WIDE_PAGE]         = { "wide page",        "++  +          " },
+  [CALL_WIDE_LIST]         = { "wide list",        "+              " },
+  [CALL_WIDE_LIST_UPRIGHT] = { "wide list upright","+              " },
 };
 
 static unsigned long given[CALLS][NUMBERS];
@@ -47,13 +56,13 @@ unsigned long tally_all(enum call call)
 
 void tally_print(void)
 {
-  printf("%-13s", "answer");
+  printf("%-17s", "answer");
   for (int number = 0; number < NUMBERS; number++) {
     printf(" %8d", number);
   }
   printf("\n");
   for (int call = 0; call < CALLS; call++) {
-    printf("%-13s", calls[call].name);
+    printf("%-17s", calls[call].name);
     for (int number = 0; number < NUMBERS; number++) {
       if (calls[call].can_give[number] == '+') {
         printf(" %8lu", given[call][number]);
