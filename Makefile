@@ -68,6 +68,7 @@ SAMPLES  := $(OUT)/samples
 PARTS    := $(OUT)/parts
 LISTINGS := $(OUT)/listings
 HEADER   := $(OUT)/header
+WIDE     := $(addprefix $(OUT)/,wide widerun widepicture)
 BENCH    := $(OUT)/bench/bench
 ARCHIVE  := $(OUT)/libssd1815b.a
 SHARED   := $(OUT)/libssd1815b.so
@@ -102,7 +103,7 @@ help:
 	@echo 'make uninstall     removes just those files'
 	@echo 'make test          all tests of the C side and of python/: the next six'
 	@echo 'make compare       the library beside the oracle; SEED=2 TIMES=10 for more'
-	@echo 'make calls         the start calls, the calls that the oracle has no cases for, where two screens differ, the header, the archive'
+	@echo 'make calls         the start calls, the calls that the oracle has no cases for, where two screens differ, the wide terminal, the header, the archive'
 	@echo 'make check-tool    the tool: what it prints, and its status'
 	@echo 'make check-traces  every trace, yours in traces/recorded too: oracle beside the tool'
 	@echo 'make check-install an installation in an empty folder, and C programs built against it'
@@ -128,11 +129,14 @@ compare: $(COMPARE) $(TUNED) oracle
 	host/compare/compare.sh $(ORACLE) $(SEED) $(TIMES) -- $(RUN) $(COMPARE)
 	bench/tuned.sh $(ORACLE) $(SEED) $(TIMES) -- $(RUN) $(TUNED)
 
-calls: $(CALLS) $(DIFFER) $(T_DIFFER) $(SAMPLES) $(HEADER)
+calls: $(CALLS) $(DIFFER) $(T_DIFFER) $(SAMPLES) $(WIDE) $(HEADER)
 	$(RUN) $(CALLS)
 	$(RUN) $(DIFFER)
 	$(RUN) $(T_DIFFER)
 	$(RUN) $(SAMPLES)
+	$(RUN) $(OUT)/wide
+	$(RUN) $(OUT)/widerun
+	$(RUN) $(OUT)/widepicture
 	$(RUN) $(HEADER)
 ifeq ($(MODEL),proved)
 	CC=$(CC) NM=$(CROSS)nm host/test/library.sh $(LIBRARY) $(RUN)
@@ -235,6 +239,8 @@ $(TUNED) $(T_DIFFER):
 	$(Q)$(CC) $(CFLAGS) $^ -o $@
 
 $(SAMPLES): $(OUT)/host/test/samples.o $(LINKED)
+$(WIDE): $(OUT)/%: $(OUT)/host/test/%.o $(OUT)/host/test/twochips.o \
+         $(OUT)/host/compare/room.o $(LINKED)
 $(PARTS): $(OUT)/host/test/parts.o $(LINKED) \
           $(addprefix $(OUT)/host/tool/,played.o progress.o replay.o)
 $(LISTINGS): $(OUT)/host/test/listings.o $(OUT)/host/tool/stored.o $(LINKED)
@@ -244,7 +250,7 @@ $(NO_PNG): $(filter-out %/png.o,$(call objects,host/tool/*.c)) \
 $(BENCH): $(addprefix $(OUT)/bench/,bench.o workloads.o plain.o tuned.o) \
           $(LINKED)
 
-$(TOOL) $(NO_PNG) $(COMPARE) $(CALLS) $(DIFFER) $(SAMPLES) $(PARTS) $(LISTINGS) $(BENCH):
+$(TOOL) $(NO_PNG) $(COMPARE) $(CALLS) $(DIFFER) $(SAMPLES) $(WIDE) $(PARTS) $(LISTINGS) $(BENCH):
 	$(Q)$(CC) $(CFLAGS) $^ -o $@
 
 # The header as C++ takes it.

@@ -24,15 +24,17 @@ TEXT
   exit 1
 fi
 
-# The library's two crates and those that they stand on. The calls of single
-# events are compiled apart from the run: each object then has one call of what
-# both use, and the compiler puts it into the run's loop (DECISIONS 58).
-crates=$(sed -nE 's/^(host|hostbus): *//p' crates.txt | tr ' ' '\n' | sort -u | wc -l)
+# The library's own crates, libhost.a's first, and how many they stand on. The
+# calls of single events are compiled apart from the run: each object then has
+# one call of what both use, and the compiler puts it into the run's loop
+# (DECISIONS 58); and so are the calls of the wide terminal (DECISIONS 136).
+own=(host hostbus hostwide)
+under=$(sed -nE "s/^($(IFS='|'; echo "${own[*]}")): *//p" crates.txt | tr ' ' '\n' | sort -u | wc -l)
 mkdir -p target
 log=target/staticlib.log
 
 # each_crate: a line for each crate, from what rt says as it goes; rt tells the
-# library's own two by their archives.
+# library's own by their archives.
 each_crate() {
   local line
   local -A said
@@ -49,24 +51,30 @@ each_crate() {
   done
 }
 
-# Both archives in one, libhost.a. Each function begins at a multiple of 64
+# prove: the archive of each of the library's own crates.
+prove() {
+  local crate
+  for crate in "${own[@]}"; do
+    rt staticlib "$crate" || return
+  done
+}
+
+# All archives in one, libhost.a. Each function begins at a multiple of 64
 # bytes, so that its time does not depend on the program that it is linked into
 # (DECISIONS 110); objcopy does so since binutils 2.33.
 join() {
   local made=target/staticlib
-  "${AR:-ar}" -M <<SCRIPT
-CREATE $made/joined.a
-ADDLIB $made/libhost.a
-ADDLIB $made/libhostbus.a
-SAVE
-END
-SCRIPT
+  {
+    echo "CREATE $made/joined.a"
+    printf 'ADDLIB %s.a\n' "${own[@]/#/$made/lib}"
+    printf 'SAVE\nEND\n'
+  } | "${AR:-ar}" -M
   "${OBJCOPY:-objcopy}" --set-section-alignment '.text.*=64' "$made/joined.a"
   mv "$made/joined.a" "$made/libhost.a"
 }
 
-echo "proving the library's $((crates + 2)) crates: some minutes where none is proved yet; $log has how far it is"
-if ! { rt staticlib host && rt staticlib hostbus; } 2>&1 | tee "$log" | each_crate; then
+echo "proving the library's $((under + ${#own[@]})) crates: some minutes where none is proved yet; $log has how far it is"
+if ! prove 2>&1 | tee "$log" | each_crate; then
   [ -n "${V:-}" ] || cat "$log"
   exit 1
 fi

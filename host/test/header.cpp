@@ -1,4 +1,5 @@
-// The header as a C++ program takes it: document 01's trace, from either start.
+// The header as a C++ program takes it: document 01's trace, from either start,
+// and on a wide terminal.
 #include "ssd1815b.h"
 
 #include <cstddef>
@@ -88,20 +89,84 @@ bool differs(const Chip &chip)
          && std::memcmp(differing_bytes.data(), bytes, sizeof bytes) == 0;
 }
 
-} // namespace
+// Order 4: after document 01's trace, which goes to both chips, the left one is
+// selected and its columns are turned back.
+const std::uint8_t wide_trace[] = { 0x01, 0x00, 0x01, 0x00, 0xAF, 0x02, 0x00,
+                                    0x02, 0x00, 0x03, 0x01, 0x01, 0x00, 0x05,
+                                    0x00, 0x01, 0x01, 0x00, 0x01, 0x00, 0xA0 };
 
-int main()
+// Each chip's dots, turned by half a turn in the right half; in the left one
+// turned upside down alone.
+const char wide_listing[] =
+    "frame 264 65\n62 0-0 263-263\n63 0-1 262-263\nend\n";
+
+// Whether the wide trace, run from the start of new cabinets, lists so.
+bool lists_wide(Chip &left, Chip &right, const std::string &listing)
+{
+  std::vector<std::uint8_t> frame(SSD1815B_WIDE_FRAME_SIZE);
+  std::vector<std::uint8_t> text(SSD1815B_WIDE_TEXT_SIZE);
+  std::size_t offset = 0;
+  std::size_t count = 0;
+  std::size_t length = 0;
+  const std::uint8_t number = ssd1815b_wide_run(
+      left.state.data(), left.state.size(), left.memory.data(),
+      left.memory.size(), right.state.data(), right.state.size(),
+      right.memory.data(), right.memory.size(), wide_trace, sizeof wide_trace,
+      &offset, &count);
+  ssd1815b_wide_draw(left.state.data(), left.state.size(), left.memory.data(),
+                     left.memory.size(), right.state.data(),
+                     right.state.size(), right.memory.data(),
+                     right.memory.size(), frame.data(), frame.size());
+  ssd1815b_wide_list(number, offset, frame.data(), frame.size(), text.data(),
+                     text.size(), &length);
+  return number == SSD1815B_TAKEN && offset == sizeof wide_trace && count == 4
+         && length == listing.size()
+         && std::memcmp(text.data(), listing.data(), length) == 0;
+}
+
+// Whether a wide page lies where it should, and a read of both is refused.
+bool asks_wide(Chip &left, Chip &right)
+{
+  std::size_t place = 0;
+  std::size_t length = 0;
+  ssd1815b_wide_page(left.memory.data(), left.memory.size(),
+                     right.memory.data(), right.memory.size(), SSD1815B_RIGHT,
+                     SSD1815B_ICON_PAGE, &place, &length);
+  std::uint8_t byte = 1;
+  std::uint8_t dummy = 1;
+  const std::uint8_t number = ssd1815b_wide_read(
+      left.state.data(), left.state.size(), left.memory.data(),
+      left.memory.size(), right.state.data(), right.state.size(),
+      right.memory.data(), right.memory.size(), SSD1815B_BOTH, &byte, &dummy);
+  return place == 1056 && length == 132 && number == SSD1815B_BOTH_SELECTED
+         && byte == 0 && dummy == 0;
+}
+
+// A chip as it starts in a new cabinet.
+Chip started()
 {
   Chip chip;
   ssd1815b_start(chip.state.data(), chip.state.size(), chip.memory.data(),
                  chip.memory.size());
+  return chip;
+}
+
+} // namespace
+
+int main()
+{
+  Chip chip = started();
+  Chip left = started();
+  Chip right_half = started();
   Chip upright;
   ssd1815b_start_upright(upright.state.data(), upright.state.size(),
                          upright.memory.data(), upright.memory.size());
 
   const bool right = lists(chip, upside_down_listing)
                      && lists(upright, upright_listing) && asks(chip)
-                     && differs(chip);
+                     && differs(chip)
+                     && lists_wide(left, right_half, wide_listing)
+                     && asks_wide(left, right_half);
   std::printf("header: the listings from C++ are %s\n",
               right ? "right" : "wrong");
   return right ? 0 : 1;

@@ -11,6 +11,13 @@ run=("${@:2}")
 . "$(dirname "$0")/checks.sh"
 readme=$(dirname "$0")/../README.md
 
+# The calls that the archive has, and those that the header declares.
+has() { "$NM" --defined-only "$library" | awk '$2 == "T" && $3 ~ /^ssd1815b_/ { print $3 }' | LC_ALL=C sort; }
+declared=$(sed -nE 's/^uint8_t (ssd1815b_[a-z_0-9]+)\($/\1/p' "$(dirname "$0")/../ssd1815b.h" | LC_ALL=C sort)
+
+ran has
+check 'the library has the calls of the header, each once' out_is "$declared"
+
 # What the archive's objects leave to others.
 needed() { "$NM" -u "$library" | awk '$1 == "U" { print $2 }' | sort -u; }
 
@@ -25,6 +32,9 @@ cat > "$here/mine.c" <<'END'
 static uint8_t state[SSD1815B_STATE_SIZE];
 static uint8_t memory[SSD1815B_MEMORY_SIZE];
 static uint8_t frame[SSD1815B_FRAME_ROWS * SSD1815B_COLUMNS];
+static uint8_t right_state[SSD1815B_STATE_SIZE];
+static uint8_t right_memory[SSD1815B_MEMORY_SIZE];
+static uint8_t wide[SSD1815B_FRAME_ROWS * SSD1815B_WIDE_COLUMNS];
 
 /* Whether these two places are all that is lit after AF and a data byte 03. */
 static int shows(unsigned one, unsigned other)
@@ -37,12 +47,29 @@ static int shows(unsigned one, unsigned other)
   return lit == 2 && frame[one] == 1 && frame[other] == 1;
 }
 
+/* Whether that is so in the left half of a wide frame, and AF to the right chip
+** alone with a data byte 01 lights its first place. */
+static int shows_wide(void)
+{
+  unsigned lit = 0;
+  ssd1815b_start_upright(right_state, sizeof right_state, right_memory, sizeof right_memory);
+  ssd1815b_wide_command(state, sizeof state, memory, sizeof memory, right_state, sizeof right_state,
+                        right_memory, sizeof right_memory, SSD1815B_RIGHT, 0xAF);
+  ssd1815b_wide_write(state, sizeof state, memory, sizeof memory, right_state, sizeof right_state,
+                      right_memory, sizeof right_memory, SSD1815B_RIGHT, 0x01);
+  ssd1815b_wide_draw(state, sizeof state, memory, sizeof memory, right_state, sizeof right_state,
+                     right_memory, sizeof right_memory, wide, sizeof wide);
+  for (unsigned i = 0; i < sizeof wide; i++) lit += wide[i];
+  return lit == 3 && wide[0] == 1 && wide[SSD1815B_WIDE_COLUMNS] == 1 && wide[SSD1815B_COLUMNS] == 1;
+}
+
 int main(void)
 {
   ssd1815b_start(state, sizeof state, memory, sizeof memory);
   if (!shows(63 * SSD1815B_COLUMNS - 1, 64 * SSD1815B_COLUMNS - 1)) return 1;
   ssd1815b_start_upright(state, sizeof state, memory, sizeof memory);
-  return shows(0, SSD1815B_COLUMNS) ? 0 : 2;
+  if (!shows(0, SSD1815B_COLUMNS)) return 2;
+  return shows_wide() ? 0 : 3;
 }
 END
 line=$(sed -n 's/^    gcc \(.*libhost\.a\)$/\1/p' "$readme")
@@ -51,7 +78,7 @@ read -ra words <<< "${line/mine.c/$here/mine.c}"
 ran "$CC" "${words[@]}" -o "$here/mine"
 check 'the line links' status_is 0
 ran "${run[@]}" "$here/mine"
-check 'rows 62 and 63 are lit at their last place, and upright 0 and 1 at their first' status_is 0
+check 'rows 62 and 63 are lit at their last place, and upright 0 and 1 at their first; and two chips side by side' status_is 0
 
 # The calls of the program, by their addresses, that do not begin at a multiple
 # of 64 bytes; and how many calls it has.
@@ -60,6 +87,6 @@ calls() { "$NM" "$here/mine" | grep -c ' T ssd1815b_'; }
 ran astray
 check 'every call begins at a multiple of 64 bytes' out_is ''
 ran calls
-check 'the program has calls' [ "$(cat "$here/out")" -ge 4 ]
+check 'the program has calls' [ "$(cat "$here/out")" -ge 8 ]
 
 checks_end library
