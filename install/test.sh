@@ -64,12 +64,21 @@ static int shows(unsigned one, unsigned other)
   return lit == 2 && frame[one] == 1 && frame[other] == 1;
 }
 
+/* Whether a wide terminal's icon page lies where it should. */
+static int pages(void)
+{
+  size_t place;
+  size_t length;
+  return ssd1815b_wide_page(memory, sizeof memory, memory, sizeof memory, SSD1815B_RIGHT, 8, &place, &length) == 0
+         && place == 1056 && length == 132;
+}
+
 int main(void)
 {
   ssd1815b_start(state, sizeof state, memory, sizeof memory);
   if (!shows(62 * 132 + 131, 63 * 132 + 131)) return 1;
   ssd1815b_start_upright(state, sizeof state, memory, sizeof memory);
-  return shows(0, 132) ? 0 : 2;
+  return shows(0, 132) && pages() ? 0 : 2;
 }
 C
 export PKG_CONFIG_PATH=$prefix/lib/pkgconfig
