@@ -25,10 +25,14 @@ static const char usage[] =
 static const struct model models[] = {
   { "library", ssd1815b_start, ssd1815b_start_upright, ssd1815b_command,
     ssd1815b_write, ssd1815b_read, ssd1815b_run, ssd1815b_draw, ssd1815b_list,
-    ssd1815b_compare_frames, ssd1815b_compare_memories },
+    ssd1815b_compare_frames, ssd1815b_compare_memories, ssd1815b_wide_command,
+    ssd1815b_wide_write, ssd1815b_wide_read, ssd1815b_wide_run,
+    ssd1815b_wide_draw, ssd1815b_wide_page, ssd1815b_wide_list },
   { "plain", plain_start, plain_start_upright, plain_command, plain_write,
     plain_read, plain_run, plain_draw, plain_list, plain_compare_frames,
-    plain_compare_memories },
+    plain_compare_memories, plain_wide_command, plain_wide_write,
+    plain_wide_read, plain_wide_run, plain_wide_draw, plain_wide_page,
+    plain_wide_list },
   { .name = "tuned", .compare_frames = tuned_compare_frames,
     .compare_memories = tuned_compare_memories },
 };
@@ -42,13 +46,16 @@ static double seconds_between(struct timespec from, struct timespec to)
          + (double)(to.tv_nsec - from.tv_nsec) / 1e9;
 }
 
-static double seconds_of(const struct workload *workload,
-                         const struct model *model, size_t times)
+/* How long a model takes for something, done so many times. */
+static double seconds_for(void (*once)(const struct model *),
+                          const struct model *model, size_t times)
 {
   struct timespec from;
   struct timespec to;
   clock_gettime(CLOCK_MONOTONIC, &from);
-  workload_do(workload, model, times);
+  for (size_t i = 0; i < times; i++) {
+    once(model);
+  }
   clock_gettime(CLOCK_MONOTONIC, &to);
   return seconds_between(from, to);
 }
@@ -92,7 +99,7 @@ static void same_result(const struct workload *workload)
 static size_t times_for(const struct workload *workload)
 {
   size_t times = 1;
-  while (seconds_of(workload, &models[PLAIN], times) < 0.004) {
+  while (seconds_for(workload->once, &models[PLAIN], times) < 0.004) {
     times *= 2;
   }
   return times;
@@ -114,21 +121,48 @@ static void print_times(const double *best, const char *what, double seconds,
          best[LIBRARY] / seconds, best[PLAIN] / seconds, what, nanoseconds);
 }
 
+/* The line below a row: each model as so many times what it takes itself for
+** the narrow calls that the workload is held beside. */
+static void print_beside(const double *best, const double *beside,
+                         const char *what)
+{
+  printf("%-28s %10.2f %10.2f  times %s\n", "", best[LIBRARY] / beside[LIBRARY],
+         best[PLAIN] / beside[PLAIN], what);
+}
+
+/* The best time of each model for a workload, for what it is held beside, and
+** for memcmp, all in turn. */
+struct times {
+  double best[MODELS];
+  double beside[MODELS];
+  double by_memcmp;
+};
+
+static struct times times_of(const struct workload *workload, size_t times)
+{
+  struct times found = { { 1e9, 1e9, 1e9 }, { 1e9, 1e9, 1e9 }, 1e9 };
+  for (int repetition = 0; repetition < REPETITIONS; repetition++) {
+    for (int i = 0; i < models_for(workload); i++) {
+      keep_best(&found.best[i], seconds_for(workload->once, &models[i], times));
+      if (workload->beside != NULL) {
+        keep_best(&found.beside[i],
+                  seconds_for(workload->beside, &models[i], times));
+      }
+    }
+    if (workload->by_memcmp != NULL) {
+      keep_best(&found.by_memcmp, seconds_by_memcmp(workload, times));
+    }
+  }
+  return found;
+}
+
 static void measure(const struct workload *workload)
 {
   same_result(workload);
   workload->prepare();
   size_t times = times_for(workload);
-  double best[MODELS] = { 1e9, 1e9, 1e9 };
-  double by_memcmp = 1e9;
-  for (int repetition = 0; repetition < REPETITIONS; repetition++) {
-    for (int i = 0; i < models_for(workload); i++) {
-      keep_best(&best[i], seconds_of(workload, &models[i], times));
-    }
-    if (workload->by_memcmp != NULL) {
-      keep_best(&by_memcmp, seconds_by_memcmp(workload, times));
-    }
-  }
+  struct times found = times_of(workload, times);
+  const double *best = found.best;
   double units = (double)times * (double)workload->units();
   printf("%-28s %10.2f %10.2f  ns per %-6s %6.2f\n", workload->name,
          best[LIBRARY] / units * 1e9, best[PLAIN] / units * 1e9,
@@ -137,8 +171,11 @@ static void measure(const struct workload *workload)
     print_times(best, "tuned C", best[TUNED], best[TUNED] / units * 1e9);
   }
   if (workload->by_memcmp != NULL) {
-    print_times(best, "memcmp of the same bytes", by_memcmp,
-                by_memcmp / units * 1e9);
+    print_times(best, "memcmp of the same bytes", found.by_memcmp,
+                found.by_memcmp / units * 1e9);
+  }
+  if (workload->beside != NULL) {
+    print_beside(best, found.beside, workload->beside_what);
   }
 }
 

@@ -405,47 +405,291 @@ static void every_byte(void)
   }
 }
 
+/* ---- the wide terminal ---- */
+
+/* The right chip, the left one being the chip of all rows above, and what is
+** drawn and listed of both. */
+static uint8_t right_state[SSD1815B_STATE_SIZE];
+static uint8_t right_memory[SSD1815B_MEMORY_SIZE];
+static uint8_t wide_frame[SSD1815B_WIDE_FRAME_SIZE];
+static uint8_t wide_text[SSD1815B_WIDE_TEXT_SIZE];
+static size_t wide_text_length;
+
+/* What every wide call begins with. */
+#define CHIPS state, sizeof state, memory, sizeof memory, right_state, \
+              sizeof right_state, right_memory, sizeof right_memory
+
+/* Makes the right chip's memory random bytes of its own and its registers the
+** left chip's, and leaves nothing drawn or listed. */
+static void add_right_chip(void)
+{
+  memcpy(right_state, state, sizeof state);
+  for (size_t i = 0; i < sizeof right_memory; i++) {
+    right_memory[i] = (uint8_t)next_random();
+  }
+  memset(wide_frame, 0, sizeof wide_frame);
+  wide_text_length = 0;
+}
+
+/* Two chips, prepared as one is. */
+#define BOTH_AS(name)         \
+  static void wide_##name(void) \
+  {                           \
+    name();                   \
+    add_right_chip();         \
+  }
+
+/* Page and column, and a piece of a page: a trace without reads, as a driver of
+** one chip writes it. */
+static void trace_of_pieces(void)
+{
+  begin_trace();
+  for (uint8_t i = 0; i < 240; i++) {
+    uint8_t at[] = { (uint8_t)(0xB0 + i % 8), 0x08, 0x12 };
+    uint8_t piece[24];
+    for (size_t k = 0; k < sizeof piece; k++) {
+      piece[k] = (uint8_t)next_random();
+    }
+    add_record(1, at, sizeof at);
+    add_record(2, piece, sizeof piece);
+  }
+}
+
+BOTH_AS(idle)
+BOTH_AS(columns_normal)
+BOTH_AS(columns_mirrored)
+BOTH_AS(all_lit)
+BOTH_AS(trace_of_commands)
+BOTH_AS(trace_of_writes)
+BOTH_AS(trace_of_pieces)
+
+/* As a driver of two chips does it: page and column to both, a piece to each,
+** and now and then a stroke by read-modify-write on one of them. */
+static void wide_trace_of_all(void)
+{
+  begin_trace();
+  for (uint8_t i = 0; i < 200; i++) {
+    uint8_t at[] = { (uint8_t)(0xB0 + i % 8), 0x08, 0x12 };
+    uint8_t enter = 0xE0;
+    uint8_t leave = 0xEE;
+    static const uint8_t both = SSD1815B_BOTH;
+    add_record(5, &both, 1);
+    add_record(1, at, sizeof at);
+    for (uint8_t side = SSD1815B_LEFT; side <= SSD1815B_RIGHT; side++) {
+      uint8_t piece[24];
+      for (size_t k = 0; k < sizeof piece; k++) {
+        piece[k] = (uint8_t)next_random();
+      }
+      uint8_t read_back[] = { 0x00, piece[0] };
+      add_record(5, &side, 1);
+      add_record(2, piece, sizeof piece);
+      add_record(1, at, sizeof at);
+      add_record(1, &enter, 1);
+      add_record(3, read_back, sizeof read_back);
+      add_record(1, &leave, 1);
+    }
+  }
+  add_right_chip();
+}
+
+/* The trace, as a wide one. */
+static void wide_run(const struct model *model)
+{
+  size_t offset;
+  size_t count;
+  taken(model->wide_run(CHIPS, trace, trace_length, &offset, &count));
+  answer(offset);
+  answer(count);
+}
+
+/* Command calls for those that are selected. */
+static void wide_commands(const struct model *model, uint8_t selection)
+{
+  for (int i = 0; i < SINGLES; i++) {
+    taken(model->wide_command(CHIPS, selection, (uint8_t)(0x40 + i % 64)));
+  }
+}
+
+static void wide_commands_left(const struct model *model)
+{
+  wide_commands(model, SSD1815B_LEFT);
+}
+
+static void wide_commands_both(const struct model *model)
+{
+  wide_commands(model, SSD1815B_BOTH);
+}
+
+/* Write calls for those that are selected. */
+static void wide_writes(const struct model *model, uint8_t selection)
+{
+  for (int i = 0; i < SINGLES; i++) {
+    taken(model->wide_write(CHIPS, selection, (uint8_t)i));
+  }
+}
+
+static void wide_writes_left(const struct model *model)
+{
+  wide_writes(model, SSD1815B_LEFT);
+}
+
+static void wide_writes_both(const struct model *model)
+{
+  wide_writes(model, SSD1815B_BOTH);
+}
+
+/* Read calls of the right chip. */
+static void wide_reads(const struct model *model)
+{
+  for (int i = 0; i < SINGLES; i++) {
+    uint8_t byte;
+    uint8_t dummy;
+    taken(model->wide_read(CHIPS, SSD1815B_RIGHT, &byte, &dummy));
+    answer(byte);
+    answer(dummy);
+  }
+}
+
+/* Calls for a page, of each side in turn. */
+static void wide_pages(const struct model *model)
+{
+  for (int i = 0; i < SINGLES; i++) {
+    size_t place;
+    size_t length;
+    taken(model->wide_page(memory, sizeof memory, right_memory,
+                           sizeof right_memory, (uint8_t)(1 + i % 2),
+                           (uint8_t)(i % SSD1815B_PAGES), &place, &length));
+    answer(place);
+    answer(length);
+  }
+}
+
+/* The frame of both. */
+static void wide_draw(const struct model *model)
+{
+  taken(model->wide_draw(CHIPS, wide_frame, sizeof wide_frame));
+}
+
+/* Two narrow frames, one of each. */
+static void draw_each(const struct model *model)
+{
+  draw(model);
+  taken(model->draw(right_state, sizeof right_state, right_memory,
+                    sizeof right_memory, second_frame, sizeof second_frame));
+}
+
+/* A wide frame full of the letter P. */
+static void wide_drawn(void)
+{
+  drawn();
+  add_right_chip();
+  plain_wide_draw(state, sizeof state, memory, sizeof memory, state,
+                  sizeof state, memory, sizeof memory, wide_frame,
+                  sizeof wide_frame);
+}
+
+/* Its text. */
+static void wide_list(const struct model *model)
+{
+  taken(model->wide_list(SSD1815B_TAKEN, 0, wide_frame, sizeof wide_frame,
+                         wide_text, sizeof wide_text, &wide_text_length));
+}
+
 /* ---- all of them ---- */
 
 const struct workload workloads[] = {
-  { "columns normal", "frame", columns_normal, draw, one, false, NULL },
-  { "columns mirrored", "frame", columns_mirrored, draw, one, false, NULL },
-  { "rows reversed, reverse", "frame", rows_reversed, draw, one, false, NULL },
-  { "all three turned", "frame", all_turned, draw, one, false, NULL },
-  { "16 rows in use", "frame", sixteen_rows, draw, one, false, NULL },
-  { "all lit", "frame", all_lit, draw, one, false, NULL },
-  { "display off", "frame", display_off, draw, one, false, NULL },
-  { "run of commands", "event", trace_of_commands, run, events_of_trace,
-    false, NULL },
-  { "run of writes", "event", trace_of_writes, run, events_of_trace, false,
-    NULL },
-  { "run of reads", "event", trace_of_reads, run, events_of_trace, false,
-    NULL },
-  { "run of all kinds", "event", trace_of_all, run, events_of_trace, false,
-    NULL },
-  { "command call", "event", idle, single_commands, singles, false, NULL },
-  { "write call", "event", idle, single_writes, singles, false, NULL },
-  { "read call", "event", idle, single_reads, singles, false, NULL },
-  { "start", "start", idle, starts, singles, false, NULL },
-  { "start upright", "start", idle, starts_upright, singles, false, NULL },
-  { "listing of letters", "text", drawn, list, one, false, NULL },
-  { "frames: equal", "pair", equal_frames, compare_frames, one, true,
-    frames_by_memcmp },
-  { "frames: one run", "pair", one_run, compare_frames, one, true, NULL },
-  { "frames: letters", "pair", letters, compare_frames, one, true, NULL },
-  { "frames: letters, exact list", "pair", letters_exact, compare_frames, one,
-    true, NULL },
-  { "frames: every place a run", "pair", alternating, compare_frames, one,
-    true, NULL },
-  { "frames: every row a run", "pair", whole_rows, compare_frames, one, true,
-    NULL },
-  { "frames: random", "pair", random_frames, compare_frames, one, true, NULL },
-  { "memories: equal", "pair", equal_memories, compare_memories, one, true,
-    memories_by_memcmp },
-  { "memories: a few bytes", "pair", a_few_bytes, compare_memories, one, true,
-    NULL },
-  { "memories: every byte", "pair", every_byte, compare_memories, one, true,
-    NULL },
+  { .name = "columns normal", .unit = "frame", .prepare = columns_normal,
+    .once = draw, .units = one },
+  { .name = "columns mirrored", .unit = "frame", .prepare = columns_mirrored,
+    .once = draw, .units = one },
+  { .name = "rows reversed, reverse", .unit = "frame", .prepare = rows_reversed,
+    .once = draw, .units = one },
+  { .name = "all three turned", .unit = "frame", .prepare = all_turned,
+    .once = draw, .units = one },
+  { .name = "16 rows in use", .unit = "frame", .prepare = sixteen_rows,
+    .once = draw, .units = one },
+  { .name = "all lit", .unit = "frame", .prepare = all_lit, .once = draw,
+    .units = one },
+  { .name = "display off", .unit = "frame", .prepare = display_off,
+    .once = draw, .units = one },
+  { .name = "run of commands", .unit = "event", .prepare = trace_of_commands,
+    .once = run, .units = events_of_trace },
+  { .name = "run of writes", .unit = "event", .prepare = trace_of_writes,
+    .once = run, .units = events_of_trace },
+  { .name = "run of reads", .unit = "event", .prepare = trace_of_reads,
+    .once = run, .units = events_of_trace },
+  { .name = "run of all kinds", .unit = "event", .prepare = trace_of_all,
+    .once = run, .units = events_of_trace },
+  { .name = "command call", .unit = "event", .prepare = idle,
+    .once = single_commands, .units = singles },
+  { .name = "write call", .unit = "event", .prepare = idle,
+    .once = single_writes, .units = singles },
+  { .name = "read call", .unit = "event", .prepare = idle, .once = single_reads,
+    .units = singles },
+  { .name = "start", .unit = "start", .prepare = idle, .once = starts,
+    .units = singles },
+  { .name = "start upright", .unit = "start", .prepare = idle,
+    .once = starts_upright, .units = singles },
+  { .name = "listing of letters", .unit = "text", .prepare = drawn,
+    .once = list, .units = one },
+  { .name = "frames: equal", .unit = "pair", .prepare = equal_frames,
+    .once = compare_frames, .units = one, .compares = true,
+    .by_memcmp = frames_by_memcmp },
+  { .name = "frames: one run", .unit = "pair", .prepare = one_run,
+    .once = compare_frames, .units = one, .compares = true },
+  { .name = "frames: letters", .unit = "pair", .prepare = letters,
+    .once = compare_frames, .units = one, .compares = true },
+  { .name = "frames: letters, exact list", .unit = "pair",
+    .prepare = letters_exact, .once = compare_frames, .units = one,
+    .compares = true },
+  { .name = "frames: every place a run", .unit = "pair", .prepare = alternating,
+    .once = compare_frames, .units = one, .compares = true },
+  { .name = "frames: every row a run", .unit = "pair", .prepare = whole_rows,
+    .once = compare_frames, .units = one, .compares = true },
+  { .name = "frames: random", .unit = "pair", .prepare = random_frames,
+    .once = compare_frames, .units = one, .compares = true },
+  { .name = "memories: equal", .unit = "pair", .prepare = equal_memories,
+    .once = compare_memories, .units = one, .compares = true,
+    .by_memcmp = memories_by_memcmp },
+  { .name = "memories: a few bytes", .unit = "pair", .prepare = a_few_bytes,
+    .once = compare_memories, .units = one, .compares = true },
+  { .name = "memories: every byte", .unit = "pair", .prepare = every_byte,
+    .once = compare_memories, .units = one, .compares = true },
+  { .name = "wide command call, left", .unit = "event", .prepare = wide_idle,
+    .once = wide_commands_left, .units = singles },
+  { .name = "wide command call, both", .unit = "event", .prepare = wide_idle,
+    .once = wide_commands_both, .units = singles },
+  { .name = "wide write call, left", .unit = "event", .prepare = wide_idle,
+    .once = wide_writes_left, .units = singles },
+  { .name = "wide write call, both", .unit = "event", .prepare = wide_idle,
+    .once = wide_writes_both, .units = singles },
+  { .name = "wide read call", .unit = "event", .prepare = wide_idle,
+    .once = wide_reads, .units = singles },
+  { .name = "wide run of all kinds", .unit = "event",
+    .prepare = wide_trace_of_all, .once = wide_run, .units = events_of_trace },
+  { .name = "commands played wide", .unit = "event",
+    .prepare = wide_trace_of_commands, .once = wide_run,
+    .units = events_of_trace, .beside = run,
+    .beside_what = "the narrow run of the same trace" },
+  { .name = "writes played wide", .unit = "event",
+    .prepare = wide_trace_of_writes, .once = wide_run, .units = events_of_trace,
+    .beside = run, .beside_what = "the narrow run of the same trace" },
+  { .name = "pieces played wide", .unit = "event",
+    .prepare = wide_trace_of_pieces, .once = wide_run, .units = events_of_trace,
+    .beside = run, .beside_what = "the narrow run of the same trace" },
+  { .name = "wide: columns normal", .unit = "frame",
+    .prepare = wide_columns_normal, .once = wide_draw, .units = one,
+    .beside = draw_each, .beside_what = "two narrow frames" },
+  { .name = "wide: columns mirrored", .unit = "frame",
+    .prepare = wide_columns_mirrored, .once = wide_draw, .units = one,
+    .beside = draw_each, .beside_what = "two narrow frames" },
+  { .name = "wide: all lit", .unit = "frame", .prepare = wide_all_lit,
+    .once = wide_draw, .units = one, .beside = draw_each,
+    .beside_what = "two narrow frames" },
+  { .name = "wide page", .unit = "page", .prepare = wide_idle,
+    .once = wide_pages, .units = singles },
+  { .name = "wide listing of letters", .unit = "text", .prepare = wide_drawn,
+    .once = wide_list, .units = one },
 };
 
 const size_t workload_count = sizeof workloads / sizeof workloads[0];
@@ -476,5 +720,9 @@ uint64_t workload_left(void)
   sum = mixed(sum, second_memory, sizeof second_memory);
   sum = mixed(sum, entries, sizeof entries);
   sum = mixed(sum + entries_count, text, text_length);
+  sum = mixed(sum, right_state, sizeof right_state);
+  sum = mixed(sum, right_memory, sizeof right_memory);
+  sum = mixed(sum, wide_frame, sizeof wide_frame);
+  sum = mixed(sum, wide_text, wide_text_length);
   return sum;
 }

@@ -1,5 +1,6 @@
 /*
-** What is measured: frames in each drawing mode, events, pairs compared.
+** What is measured: frames in each drawing mode, events, pairs compared, and the
+** same of a wide terminal.
 */
 #ifndef WORKLOADS_H
 #define WORKLOADS_H
@@ -16,6 +17,9 @@ struct workload {
   size_t (*units)(void);                    /* how many units those are */
   bool compares;                            /* two frames or two memories */
   void (*by_memcmp)(void);                  /* memcmp of the same, or null */
+  void (*beside)(const struct model *model); /* narrow calls to hold it beside,
+                                             ** or null */
+  const char *beside_what;                  /* what those are */
 };
 
 extern const struct workload workloads[];
