@@ -9,6 +9,11 @@
     compare_frames(a, b)     where two frames differ, run by run
     compare_memories(a, b)   where two memories differ, byte by byte
 
+    wide = WideTerminal()                     two chips side by side, wide.left and wide.right
+    wide.command(Selection.LEFT, 0xAF)        an event for the left chip, the right one or both
+    wide.run(trace)                           a trace with select records; each run starts with both
+    wide_listing(wide.draw().frame)           a frame of 264 places to a row as text
+
 Each call answers what host/ssd1815b.h says, with document 01's numbers.  A
 refusal is an answer, not an exception; an exception says that the module was
 misused (a byte that is none, a frame of another length) or that there is no
@@ -48,6 +53,10 @@ MEMORY_SIZE = 1188
 FRAME_SIZE = 8580
 TEXT_SIZE = 27408
 
+WIDE_COLUMNS = 264  # the left chip's, then the right chip's
+WIDE_FRAME_SIZE = 17160
+WIDE_TEXT_SIZE = 61728
+
 FRAME_ENTRY_SIZE = 5
 MEMORY_ENTRY_SIZE = 4
 FRAME_LIST_SIZE = 42900
@@ -72,6 +81,8 @@ class Number(enum.IntEnum):
     READ_DIFFERS = 10
     LIST_TOO_SMALL = 11
     FRAME_BYTE_ABOVE = 12
+    NO_SELECTION = 13
+    BOTH_SELECTED = 14
 
 
 class Register(enum.IntEnum):
@@ -117,6 +128,15 @@ class Kind(enum.IntEnum):
     WRITTEN = 2
     READ = 3
     RESET_PIN = 4
+    SELECT = 5  # of a wide trace alone
+
+
+class Selection(enum.IntEnum):
+    """Which chips of a wide terminal an event is for."""
+
+    LEFT = 1
+    RIGHT = 2
+    BOTH = 3
 
 
 class Read(NamedTuple):
@@ -136,7 +156,7 @@ class Run(NamedTuple):
 
 
 class Drawn(NamedTuple):
-    """A drawing's answer: row r, place x at 132r + x; no bytes where it is refused."""
+    """A drawing's answer: row r, place x at 132r + x, of a wide terminal at 264r + x; no bytes where it is refused."""
 
     number: Number
     frame: bytes
@@ -147,6 +167,14 @@ class Powered(NamedTuple):
 
     number: Number
     power: Power
+
+
+class Page(NamedTuple):
+    """The answer for a page: its 132 bytes as a part of the chip's own memory, which shows what is there when it is
+    looked at; no bytes where it is refused."""
+
+    number: Number
+    part: memoryview
 
 
 class Record(NamedTuple):
@@ -197,6 +225,7 @@ SIZE = ctypes.c_size_t
 BYTES = ctypes.POINTER(BYTE)
 CONST = ctypes.c_char_p
 _CHIP = (BYTES, SIZE, BYTES, SIZE)
+_CHIPS = (*_CHIP, *_CHIP)
 _PAIR = (CONST, SIZE, CONST, SIZE, BYTES, SIZE, ctypes.POINTER(SIZE))
 
 _CALLS = {
@@ -213,6 +242,14 @@ _CALLS = {
     "ssd1815b_record": (CONST, SIZE, SIZE, ctypes.POINTER(SIZE), ctypes.POINTER(SIZE)),
     "ssd1815b_compare_frames": _PAIR,
     "ssd1815b_compare_memories": _PAIR,
+    "ssd1815b_wide_command": (*_CHIPS, BYTE, BYTE),
+    "ssd1815b_wide_write": (*_CHIPS, BYTE, BYTE),
+    "ssd1815b_wide_read": (*_CHIPS, BYTE, BYTES, BYTES),
+    "ssd1815b_wide_reset": (*_CHIPS, BYTE),
+    "ssd1815b_wide_run": (*_CHIPS, CONST, SIZE, ctypes.POINTER(SIZE), ctypes.POINTER(SIZE)),
+    "ssd1815b_wide_draw": (*_CHIPS, BYTES, SIZE),
+    "ssd1815b_wide_page": (*_CHIP, BYTE, BYTE, ctypes.POINTER(SIZE), ctypes.POINTER(SIZE)),
+    "ssd1815b_wide_list": (BYTE, SIZE, CONST, SIZE, BYTES, SIZE, ctypes.POINTER(SIZE)),
 }
 
 
@@ -276,6 +313,40 @@ def _bytes(value: Bytes, what: str, length: int | None = None) -> bytes:
     return taken
 
 
+# ---- what one chip and two chips answer alike ----
+
+
+def _read(name: str, *arguments: Any) -> Read:
+    """A call that reads."""
+    byte, dummy = BYTE(), BYTE()
+    number = _call(name, *arguments, ctypes.byref(byte), ctypes.byref(dummy))
+    return Read(number, byte.value, dummy.value == 1)
+
+
+def _run(name: str, lent: tuple[Any, ...], trace: Bytes) -> Run:
+    """A call that runs a trace."""
+    content = _bytes(trace, "a trace")
+    offset, count = SIZE(), SIZE()
+    number = _call(name, *lent, content, len(content), ctypes.byref(offset), ctypes.byref(count))
+    return Run(number, offset.value, count.value)
+
+
+def _draw(name: str, lent: tuple[Any, ...], size: int) -> Drawn:
+    """A call that draws."""
+    frame = (BYTE * size)()
+    number = _call(name, *lent, frame, size)
+    return Drawn(number, bytes(frame) if number == Number.TAKEN else b"")
+
+
+def _list(name: str, frame: bytes, text_size: int, number: int, offset: int) -> str:
+    """A call that lists, with a text that is always enough."""
+    if offset < 0:
+        raise ValueError(f"an offset is 0 or more, not {offset}")
+    text, length = (BYTE * text_size)(), SIZE()
+    _call(name, _byte(number), offset, frame, len(frame), text, text_size, ctypes.byref(length))
+    return bytes(text[:length.value]).decode("ascii")
+
+
 # ---- the model ----
 
 
@@ -332,9 +403,7 @@ class Chip:
 
     def read(self) -> Read:
         """A data byte read, or the dummy read; or 2, 6 or 7 and nothing is changed."""
-        byte, dummy = BYTE(), BYTE()
-        number = _call("ssd1815b_read", *self._lent, ctypes.byref(byte), ctypes.byref(dummy))
-        return Read(number, byte.value, dummy.value == 1)
+        return _read("ssd1815b_read", *self._lent)
 
     def reset(self) -> Number:
         """A pulse on the reset pin: the power-on image, upright, whatever the start was; memory stays."""
@@ -342,19 +411,14 @@ class Chip:
 
     def run(self, trace: Bytes) -> Run:
         """Runs a trace up to its end or its first refusal; what came before stands."""
-        content = _bytes(trace, "a trace")
-        offset, count = SIZE(), SIZE()
-        number = _call("ssd1815b_run", *self._lent, content, len(content), ctypes.byref(offset), ctypes.byref(count))
-        return Run(number, offset.value, count.value)
+        return _run("ssd1815b_run", self._lent, trace)
 
     def draw(self) -> Drawn:
         """The frame that the panel shows: 0 dark, 1 lit, the icon line as row 64; or 2.
 
         M rows in use lie in the middle, from row (64 - M) // 2 on, moved up by the offset, round the 64.
         """
-        frame = (BYTE * FRAME_SIZE)()
-        number = _call("ssd1815b_draw", *self._lent, frame, FRAME_SIZE)
-        return Drawn(number, bytes(frame) if number == Number.TAKEN else b"")
+        return _draw("ssd1815b_draw", self._lent, FRAME_SIZE)
 
     def power_state(self) -> Powered:
         """Awake, asleep or in standby; or 2."""
@@ -363,14 +427,86 @@ class Chip:
         return Powered(number, Power(power.value))
 
 
+class WideTerminal:
+    """A wide terminal: two chips side by side on one bus, 264 dots wide.
+
+    Each event is for the chips that are selected; another selection than these three is refused, 13.  If a selected chip
+    refuses, neither changes, and the number is the left's where both do.  1 and 2 are asked of both chips, whichever are
+    selected.  The terminal does not keep the selection.
+    """
+
+    def __init__(self, *, upright: bool = False) -> None:
+        """Two chips with zero memory: as start() has them or, if upright, as start_upright() does."""
+        self._left = Chip(upright=upright)
+        self._right = Chip(upright=upright)
+
+    @property
+    def left(self) -> Chip:
+        """The left chip, to look at or to set; its own calls do nothing to the other."""
+        return self._left
+
+    @property
+    def right(self) -> Chip:
+        """The right chip."""
+        return self._right
+
+    @property
+    def _lent(self) -> tuple[Any, ...]:
+        """What both chips have, as a call is lent it."""
+        return *self._left._lent, *self._right._lent
+
+    def start(self) -> Number:
+        """A new cabinet: Chip.start() of each."""
+        self._left.start()
+        return self._right.start()
+
+    def start_upright(self) -> Number:
+        """An old cabinet: Chip.start_upright() of each."""
+        self._left.start_upright()
+        return self._right.start_upright()
+
+    def command(self, selection: int, byte: int) -> Number:
+        """A command byte for each selected chip: 0, or 2, 13 or 3 to 5 and nothing is changed."""
+        return _call("ssd1815b_wide_command", *self._lent, _byte(selection), _byte(byte))
+
+    def write(self, selection: int, byte: int) -> Number:
+        """A data byte written to each selected chip: 0, or 2, 13, 6 or 7 and nothing is changed."""
+        return _call("ssd1815b_wide_write", *self._lent, _byte(selection), _byte(byte))
+
+    def read(self, selection: int) -> Read:
+        """A data byte read from the one selected chip, or its dummy read; with both selected 14; or 2, 13, 6 or 7."""
+        return _read("ssd1815b_wide_read", *self._lent, _byte(selection))
+
+    def reset(self, selection: int) -> Number:
+        """A pulse on the reset pin of each selected chip: 0, or 13 and nothing is changed."""
+        return _call("ssd1815b_wide_reset", *self._lent, _byte(selection))
+
+    def run(self, trace: Bytes) -> Run:
+        """Runs a wide trace: Kind.SELECT with a payload of 1, 2 or 3 selects; each run starts with both."""
+        return _run("ssd1815b_wide_run", self._lent, trace)
+
+    def draw(self) -> Drawn:
+        """The frame of both: places 0 to 131 of each row are the left chip's, 132 to 263 the right chip's; or 2."""
+        return _draw("ssd1815b_wide_draw", self._lent, WIDE_FRAME_SIZE)
+
+    def page(self, side: int, page: int) -> Page:
+        """A page of the left memory or the right, nothing copied; or 13, neither left nor right, or 4, above 8."""
+        place, length = SIZE(), SIZE()
+        left, right = self._left._memory, self._right._memory
+        number = _call("ssd1815b_wide_page", left, MEMORY_SIZE, right, MEMORY_SIZE, _byte(side), _byte(page),
+                       ctypes.byref(place), ctypes.byref(length))
+        memory = memoryview(left if side == Selection.LEFT else right).cast("B").toreadonly()
+        return Page(number, memory[place.value:place.value + length.value])
+
+
 def listing(frame: Bytes, number: int = Number.TAKEN, offset: int = 0) -> str:
     """A frame as text; with a run's number and offset, its line `refused` first."""
-    content = _bytes(frame, "a frame", FRAME_SIZE)
-    if offset < 0:
-        raise ValueError(f"an offset is 0 or more, not {offset}")
-    text, length = (BYTE * TEXT_SIZE)(), SIZE()
-    _call("ssd1815b_list", _byte(number), offset, content, FRAME_SIZE, text, TEXT_SIZE, ctypes.byref(length))
-    return bytes(text[:length.value]).decode("ascii")
+    return _list("ssd1815b_list", _bytes(frame, "a frame", FRAME_SIZE), TEXT_SIZE, number, offset)
+
+
+def wide_listing(frame: Bytes, number: int = Number.TAKEN, offset: int = 0) -> str:
+    """A wide frame as text, 264 places to a row; with a run's number and offset, its line `refused` first."""
+    return _list("ssd1815b_wide_list", _bytes(frame, "a wide frame", WIDE_FRAME_SIZE), WIDE_TEXT_SIZE, number, offset)
 
 
 def _compared(name: str, first: bytes, second: bytes, longest: int, entry: str) -> tuple[Number, list[tuple[Any, ...]]]:

@@ -26,7 +26,8 @@ HERE = pathlib.Path(__file__).resolve().parent
 sys.path.insert(0, str(HERE))
 
 import ssd1815b  # noqa: E402
-from ssd1815b import Chip, DifferingByte, DifferingRun, Kind, Number, Power, Register  # noqa: E402
+from ssd1815b import (Chip, DifferingByte, DifferingRun, Kind, Number, Power, Register, Selection,  # noqa: E402
+                      WideTerminal)
 
 
 def commanded(*codes: int) -> Chip:
@@ -283,6 +284,128 @@ class Differences(unittest.TestCase):
         self.assertEqual(found, [(place, 0, 0x81 if place < 1056 else 1) for place in range(1188)])
 
 
+def held(wide: WideTerminal) -> tuple[bytes, bytes, bytes, bytes]:
+    """All that a wide terminal has."""
+    return wide.left.state, wide.left.memory, wide.right.state, wide.right.memory
+
+
+class Wide(unittest.TestCase):
+    """The wide terminal, by Order 4."""
+
+    def assert_refused(self, wide: WideTerminal, number: int, call: str, *arguments: int) -> None:
+        """A call that is refused so and changes nothing."""
+        before = held(wide)
+        self.assertEqual(getattr(wide, call)(*arguments), number)
+        self.assertEqual(held(wide), before)
+
+    def test_starts(self) -> None:
+        for wide, image in (WideTerminal(), UPSIDE_DOWN), (WideTerminal(upright=True), POWER_ON):
+            self.assertEqual(held(wide), (image, bytes(1188)) * 2)
+            self.assertEqual([wide.start_upright(), held(wide)], [0, (POWER_ON, bytes(1188)) * 2])
+            self.assertEqual([wide.start(), held(wide)], [0, (UPSIDE_DOWN, bytes(1188)) * 2])
+
+    def test_who_an_event_is_for(self) -> None:
+        for selection, left, right in (1, 1, 0), (2, 0, 1), (3, 1, 1):
+            wide = WideTerminal(upright=True)
+            self.assertEqual([wide.command(selection, 0xAF), wide.write(selection, 0x5A)], [0, 0])
+            for chip, selected in (wide.left, left), (wide.right, right):
+                self.assertEqual(chip.state[Register.DISPLAY_ON], selected)
+                self.assertEqual(chip.memory[0], 0x5A * selected)
+            wide.command(Selection.BOTH, 0xA7)
+            self.assertEqual(wide.reset(selection), 0)
+            for chip, selected in (wide.left, left), (wide.right, right):
+                self.assertEqual(chip.state[Register.REVERSE], 1 - selected)
+
+    def test_read(self) -> None:
+        wide = WideTerminal()
+        wide.left.memory, wide.right.memory = b"\x12" * 1188, b"\x34" * 1188
+        self.assertEqual([wide.read(Selection.RIGHT) for _ in range(2)], [(0, 0, True), (0, 0x34, False)])
+        self.assertEqual([wide.read(Selection.LEFT) for _ in range(2)], [(0, 0, True), (0, 0x12, False)])
+        self.assertEqual(wide.read(Selection.BOTH), (Number.BOTH_SELECTED, 0, False))
+
+    def test_refusals(self) -> None:
+        for selection in 0, 4, 255:
+            wide = WideTerminal()
+            for call, arguments in ("command", (0xAF,)), ("write", (0x55,)), ("reset", ()):
+                self.assert_refused(wide, Number.NO_SELECTION, call, selection, *arguments)
+            self.assertEqual(wide.read(selection), (13, 0, False))
+        wide = WideTerminal()
+        wide.command(Selection.LEFT, 0xD3)
+        self.assert_refused(wide, 5, "command", Selection.BOTH, 0xF0)   # the right's would be 3
+        self.assert_refused(wide, 3, "command", Selection.RIGHT, 0xF0)
+        self.assert_refused(wide, 6, "write", Selection.BOTH, 0x55)     # the right could take it
+        self.assertEqual(wide.write(Selection.RIGHT, 0x55), 0)
+        wide.right.state = b"\x09" + POWER_ON[1:]
+        self.assert_refused(wide, 2, "write", Selection.LEFT, 0x55)
+        self.assertEqual(wide.draw(), (2, b""))
+
+    def test_run(self) -> None:
+        wide = WideTerminal(upright=True)
+        select = [ssd1815b.record(Kind.SELECT, bytes([byte])) for byte in range(5)]
+        self.assertEqual(wide.run(OWN_TRACE + select[2] + ssd1815b.record(Kind.COMMANDS, b"\xA7\xA1")), (0, 22, 4))
+        self.assertEqual((wide.left.state[Register.REVERSE], wide.right.state[Register.REVERSE]), (0, 1))
+        self.assertEqual(wide.run(ssd1815b.record(Kind.COMMANDS, b"\xAE")), (0, 5, 1))  # both again
+        self.assertEqual((wide.left.state[Register.DISPLAY_ON], wide.right.state[Register.DISPLAY_ON]), (0, 0))
+        for refused in select[0], select[4], ssd1815b.record(Kind.SELECT), ssd1815b.record(Kind.SELECT, b"\1\1"):
+            self.assertEqual(wide.run(select[1] + refused), (13, 5, 1))
+        self.assertEqual(wide.run(select[1] + select[3] + ssd1815b.record(Kind.READ, b"\0")), (14, 14, 2))
+        self.assertEqual(wide.run(ssd1815b.record(6, b"\1")), (9, 0, 0))
+        self.assertEqual(Chip().run(select[1]), (9, 0, 0))
+
+    def test_listings(self) -> None:
+        # OWN_TRACE in both halves, from either start.
+        for wide, text in ((WideTerminal(), "62 131-131 263-263\n63 130-131 262-263\n"),
+                           (WideTerminal(upright=True), "0 0-1 132-133\n1 0-0 132-132\n")):
+            run = wide.run(OWN_TRACE)
+            self.assertEqual(run, (0, 11, 2))
+            frame = wide.draw().frame
+            self.assertEqual(ssd1815b.wide_listing(frame), f"frame 264 65\n{text}end\n")
+            self.assertEqual(ssd1815b.wide_listing(frame, 14, 9), f"refused 14 at 9\nframe 264 65\n{text}end\n")
+        self.assertEqual(ssd1815b.wide_listing(bytes(131) + b"\1\1" + bytes(17027)), "frame 264 65\n0 131-132\nend\n")
+
+    def test_halves(self) -> None:
+        wide = WideTerminal()
+        wide.left.memory, wide.right.memory = random.Random(4).randbytes(1188), random.Random(5).randbytes(1188)
+        wide.command(Selection.BOTH, 0xAF)
+        wide.command(Selection.RIGHT, 0xA0)
+        frame = wide.draw().frame
+        left, right = wide.left.draw().frame, wide.right.draw().frame
+        self.assertEqual(frame, b"".join(row(left, number) + row(right, number) for number in range(65)))
+
+    def test_page(self) -> None:
+        wide = WideTerminal()
+        wide.left.memory, wide.right.memory = random.Random(6).randbytes(1188), random.Random(7).randbytes(1188)
+        for page in range(9):
+            for side, chip in (Selection.LEFT, wide.left), (Selection.RIGHT, wide.right):
+                number, part = wide.page(side, page)
+                self.assertEqual((number, bytes(part)), (0, chip.memory[132 * page:132 * page + 132]))
+        for side, page, number in (1, 9, 4), (2, 255, 4), (0, 0, 13), (3, 0, 13), (3, 9, 13):
+            refused = wide.page(side, page)
+            self.assertEqual((refused.number, bytes(refused.part)), (number, b""))
+
+    def test_a_page_is_a_part_of_the_memory(self) -> None:
+        wide = WideTerminal()
+        left, right = wide.page(Selection.LEFT, 0).part, wide.page(Selection.RIGHT, 0).part
+        wide.write(Selection.RIGHT, 0x77)
+        self.assertEqual((left[0], right[0]), (0, 0x77))
+        with self.assertRaises(TypeError):
+            right[0] = 1
+
+    def test_misuse(self) -> None:
+        wide = WideTerminal()
+        for call in wide.read, wide.reset:
+            with self.assertRaisesRegex(ValueError, "a byte is 0 to 255, not 256"):
+                call(256)
+        with self.assertRaisesRegex(ValueError, "a byte is 0 to 255, not -1"):
+            wide.page(Selection.LEFT, -1)
+        with self.assertRaisesRegex(TypeError, "a byte is a number, not str"):
+            wide.command("left", 0xAF)  # type: ignore[arg-type]
+        with self.assertRaisesRegex(ValueError, "a wide frame has 17160 bytes, not 8580"):
+            ssd1815b.wide_listing(bytes(8580))
+        with self.assertRaises(AttributeError):
+            wide.right = wide.left  # type: ignore[misc]
+
+
 class Misuse(unittest.TestCase):
     """What is no event at all, said in words."""
 
@@ -392,7 +515,7 @@ class Header(unittest.TestCase):
         defined = dict(re.findall(r"^#define SSD1815B_(\w+) +(\d+)\b", HEADER.read_text(), re.M))
         self.assertGreater(len(defined), 40)
         names: dict[str, int] = {name: value for name, value in vars(ssd1815b).items() if isinstance(value, int)}
-        for group in (Number, Register, Power):
+        for group in (Number, Register, Power, Selection):
             names |= {member.name: member.value for member in group}
         names |= {f"RUN_{field.strip('_').upper()}": place for place, field in enumerate(DifferingRun._fields)}
         of_byte = ("place_low", "place_high", *DifferingByte._fields[1:])  # a place is two bytes of its entry
@@ -467,6 +590,13 @@ class Library(unittest.TestCase):
         said = self.asked(SSD1815B_LIBRARY="libc.so.6")
         self.assertIn("libc.so.6 has no ssd1815b_start: it is older than this module", said.stderr)
 
+    def test_a_library_of_before_order_4(self) -> None:
+        """One that has no wide calls is not used."""
+        calls = {name: types.SimpleNamespace() for name in ssd1815b._CALLS if "_wide_" not in name}
+        with unittest.mock.patch("ctypes.PyDLL", return_value=types.SimpleNamespace(**calls)):
+            with self.assertRaisesRegex(ssd1815b.LibraryNotFound, "has no ssd1815b_wide_command: it is older"):
+                ssd1815b._library.__wrapped__()
+
     def test_a_library_of_before_order_3(self) -> None:
         """One whose only start is the upright one, by the plain name, is not used."""
         calls = {name: types.SimpleNamespace() for name in ssd1815b._CALLS if name != "ssd1815b_start_upright"}
@@ -482,7 +612,7 @@ class Readme(unittest.TestCase):
         text = (HERE / "README.md").read_text()
         programs = re.findall(r"```python\n(.*?)```", text, re.S)
         printed = re.findall(r"```text\n(.*?)```", text, re.S)
-        self.assertEqual((len(programs), len(printed)), (3, 3))
+        self.assertEqual((len(programs), len(printed)), (4, 4))
         names: dict[str, object] = {}
         for program, expected in zip(programs, printed):
             output = io.StringIO()
