@@ -430,8 +430,8 @@ class Chip:
 class WideTerminal:
     """A wide terminal: two chips side by side on one bus, 264 dots wide.
 
-    Each event is for the chips that are selected; another selection than these three is refused, 13.  If a selected chip
-    refuses, neither changes, and the number is the left's where both do.  1 and 2 are asked of both chips, whichever are
+    Each event is for the chips that are selected; a selection other than these three is refused, 13.  If a selected
+    chip refuses, neither changes, and the number is the left's where both do.  2 is asked of both chips, whichever are
     selected.  The terminal does not keep the selection.
     """
 
