@@ -510,8 +510,8 @@ static void draw_row(uint8_t *restrict row, const uint8_t *restrict page,
   }
 }
 
-static void draw_ram_row(uint8_t *row, const uint8_t *state,
-                         const uint8_t *memory, unsigned ram_row)
+static inline void draw_ram_row(uint8_t *row, const uint8_t *state,
+                                const uint8_t *memory, unsigned ram_row)
 {
   if (state[ENTIRE_ON] == 1) {
     memset(row, 1, COLUMNS);

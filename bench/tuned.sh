@@ -13,6 +13,7 @@ shift 4
 
 cases=("$oracle" cases --seed "$seed"
        --singles 0 --events 0 --runs 0 --draws 0 --listings 0 --starts 0
+       --wide-singles 0 --wide-runs 0 --wide-draws 0 --pages 0 --wide-listings 0
        --compared-frames $((280 * times)) --compared-memories $((1300 * times)))
 
 echo 'tuned C for the two comparing calls:'

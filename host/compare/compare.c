@@ -13,24 +13,28 @@
 #include "tally.h"
 
 static const char usage[] =
-  "usage: compare [--shown-by COMMAND] [--at-least EVENTS FRAMES] < STREAM\n"
+  "usage: compare [--shown-by COMMAND]\n"
+  "               [--at-least EVENTS FRAMES WIDE-EVENTS WIDE-FRAMES] < STREAM\n"
   "\n"
   "Makes every call of the oracle's stream of cases (oracle/README.md) on the\n"
   "library, and compares all that it answers and leaves.\n"
   "\n"
   "  --shown-by COMMAND         what shows a case of the stream, printed with\n"
   "                             a difference\n"
-  "  --at-least EVENTS FRAMES   fewer single events or drawn frames, or a\n"
-  "                             number that no call gave, are a failure\n"
+  "  --at-least ...             fewer single events or drawn frames, of one chip\n"
+  "                             and of two, or a number that no call gave, are a\n"
+  "                             failure\n"
   "\n"
   "Status 0: all is the same.  1: something differs.  2: not a stream, or a\n"
   "wrong command line.\n";
 
+/* What there has to be enough of. */
+enum { EVENTS, FRAMES, WIDE_EVENTS, WIDE_FRAMES, AMOUNTS };
+
 struct options {
   const char *shown_by;
   bool at_least;
-  unsigned long events;
-  unsigned long frames;
+  unsigned long least[AMOUNTS];
 };
 
 static _Noreturn void wrong_command_line(void)
@@ -51,17 +55,18 @@ static unsigned long number_of(const char *text)
 
 static struct options options_of(int argc, char **argv)
 {
-  struct options options = { "oracle show < STREAM", false, 0, 0 };
+  struct options options = { "oracle show < STREAM", false, { 0 } };
   for (int i = 1; i < argc; i++) {
     if (strcmp(argv[i], "--help") == 0) {
       fputs(usage, stdout);
       exit(0);
     } else if (strcmp(argv[i], "--shown-by") == 0 && i + 1 < argc) {
       options.shown_by = argv[++i];
-    } else if (strcmp(argv[i], "--at-least") == 0 && i + 2 < argc) {
+    } else if (strcmp(argv[i], "--at-least") == 0 && i + AMOUNTS < argc) {
       options.at_least = true;
-      options.events = number_of(argv[++i]);
-      options.frames = number_of(argv[++i]);
+      for (int amount = 0; amount < AMOUNTS; amount++) {
+        options.least[amount] = number_of(argv[++i]);
+      }
     } else {
       wrong_command_line();
     }
@@ -81,27 +86,29 @@ static unsigned long wide_events_compared(void)
          + tally_all(CALL_WIDE_READ) + tally_all(CALL_WIDE_RESET);
 }
 
+/* The cases, by their tags. */
+static const struct {
+  const char *what;
+  void (*compare)(struct body *);
+} tags[] = {
+  [TAG_SINGLE] = { "a single event", compare_single },
+  [TAG_SEQUENCE] = { "a sequence of events", compare_sequence },
+  [TAG_RUN] = { "a run", compare_run },
+  [TAG_DRAW] = { "a drawing", compare_draw },
+  [TAG_LISTING] = { "a listing", compare_listing },
+  [TAG_FRAMES] = { "two frames", compare_frames },
+  [TAG_MEMORIES] = { "two memories", compare_memories },
+  [TAG_START] = { "a start", compare_start },
+  [TAG_WIDE_EVENT] = { "a wide event", compare_wide_event },
+  [TAG_WIDE_RUN] = { "a wide run", compare_wide_run },
+  [TAG_WIDE_DRAW] = { "a wide drawing", compare_wide_draw },
+  [TAG_PAGE] = { "a page", compare_page },
+  [TAG_WIDE_LISTING] = { "a wide listing", compare_wide_listing },
+};
+
 /* Compares cases until the end, or until enough differ; how many. */
 static unsigned long compare_all(void)
 {
-  static const struct {
-    const char *what;
-    void (*compare)(struct body *);
-  } tags[] = {
-    [TAG_SINGLE] = { "a single event", compare_single },
-    [TAG_SEQUENCE] = { "a sequence of events", compare_sequence },
-    [TAG_RUN] = { "a run", compare_run },
-    [TAG_DRAW] = { "a drawing", compare_draw },
-    [TAG_LISTING] = { "a listing", compare_listing },
-    [TAG_FRAMES] = { "two frames", compare_frames },
-    [TAG_MEMORIES] = { "two memories", compare_memories },
-    [TAG_START] = { "a start", compare_start },
-    [TAG_WIDE_EVENT] = { "a wide event", compare_wide_event },
-    [TAG_WIDE_RUN] = { "a wide run", compare_wide_run },
-    [TAG_WIDE_DRAW] = { "a wide drawing", compare_wide_draw },
-    [TAG_PAGE] = { "a page", compare_page },
-    [TAG_WIDE_LISTING] = { "a wide listing", compare_wide_listing },
-  };
   unsigned long cases = 0;
   struct body body;
   for (uint8_t tag; (tag = stream_next(&body)) != TAG_END; cases++) {
@@ -156,6 +163,29 @@ static void print_all(uint64_t seed, unsigned long cases)
          report_differences());
 }
 
+/* Whether there was enough of all; says what not. */
+static bool compared_enough(const unsigned long *least)
+{
+  const struct {
+    const char *what;
+    unsigned long compared;
+  } amounts[AMOUNTS] = {
+    [EVENTS] = { "single events", events_compared() },
+    [FRAMES] = { "frames", tally_of(CALL_DRAW, SSD1815B_TAKEN) },
+    [WIDE_EVENTS] = { "wide events", wide_events_compared() },
+    [WIDE_FRAMES] = { "wide frames", tally_of(CALL_WIDE_DRAW, SSD1815B_TAKEN) },
+  };
+  bool enough = true;
+  for (int amount = 0; amount < AMOUNTS; amount++) {
+    if (amounts[amount].compared < least[amount]) {
+      fprintf(stderr, "compare: fewer than %lu %s\n", least[amount],
+              amounts[amount].what);
+      enough = false;
+    }
+  }
+  return enough;
+}
+
 int main(int argc, char **argv)
 {
   struct options options = options_of(argc, argv);
@@ -177,16 +207,9 @@ int main(int argc, char **argv)
   if (report_differences() > 0) {
     return 1;
   }
-  if (options.at_least) {
-    if (events_compared() < options.events
-        || tally_of(CALL_DRAW, SSD1815B_TAKEN) < options.frames) {
-      fprintf(stderr, "compare: that is fewer than %lu events and %lu frames\n",
-              options.events, options.frames);
-      return 1;
-    }
-    if (!tally_complete()) {
-      return 1;
-    }
+  if (options.at_least
+      && (!compared_enough(options.least) || !tally_complete())) {
+    return 1;
   }
   return 0;
 }

@@ -18,4 +18,4 @@ shift
 stream=(oracle/stream.sh "$oracle" "$seed" "$times")
 
 "${stream[@]}" | "$@" --shown-by "${stream[*]} | $oracle show" \
-  --at-least $((1200000 * times)) $((20000 * times))
+  --at-least $((1200000 * times)) $((20000 * times)) $((33000 * times)) $((150 * times))
