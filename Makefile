@@ -68,7 +68,7 @@ SAMPLES  := $(OUT)/samples
 PARTS    := $(OUT)/parts
 LISTINGS := $(OUT)/listings
 HEADER   := $(OUT)/header
-WIDE     := $(addprefix $(OUT)/,wide widerun widepicture)
+WIDE_CALLS := $(addprefix $(OUT)/,wide widerun widepicture)
 BENCH    := $(OUT)/bench/bench
 ARCHIVE  := $(OUT)/libssd1815b.a
 SHARED   := $(OUT)/libssd1815b.so
@@ -129,7 +129,7 @@ compare: $(COMPARE) $(TUNED) oracle
 	host/compare/compare.sh $(ORACLE) $(SEED) $(TIMES) -- $(RUN) $(COMPARE)
 	bench/tuned.sh $(ORACLE) $(SEED) $(TIMES) -- $(RUN) $(TUNED)
 
-calls: $(CALLS) $(DIFFER) $(T_DIFFER) $(SAMPLES) $(WIDE) $(HEADER)
+calls: $(CALLS) $(DIFFER) $(T_DIFFER) $(SAMPLES) $(WIDE_CALLS) $(HEADER)
 	$(RUN) $(CALLS)
 	$(RUN) $(DIFFER)
 	$(RUN) $(T_DIFFER)
@@ -239,7 +239,7 @@ $(TUNED) $(T_DIFFER):
 	$(Q)$(CC) $(CFLAGS) $^ -o $@
 
 $(SAMPLES): $(OUT)/host/test/samples.o $(LINKED)
-$(WIDE): $(OUT)/%: $(OUT)/host/test/%.o $(OUT)/host/test/twochips.o \
+$(WIDE_CALLS): $(OUT)/%: $(OUT)/host/test/%.o $(OUT)/host/test/twochips.o \
          $(OUT)/host/compare/room.o $(LINKED)
 $(PARTS): $(OUT)/host/test/parts.o $(LINKED) \
           $(addprefix $(OUT)/host/tool/,played.o progress.o replay.o)
@@ -250,7 +250,7 @@ $(NO_PNG): $(filter-out %/png.o,$(call objects,host/tool/*.c)) \
 $(BENCH): $(addprefix $(OUT)/bench/,bench.o workloads.o plain.o tuned.o) \
           $(LINKED)
 
-$(TOOL) $(NO_PNG) $(COMPARE) $(CALLS) $(DIFFER) $(SAMPLES) $(WIDE) $(PARTS) $(LISTINGS) $(BENCH):
+$(TOOL) $(NO_PNG) $(COMPARE) $(CALLS) $(DIFFER) $(SAMPLES) $(WIDE_CALLS) $(PARTS) $(LISTINGS) $(BENCH):
 	$(Q)$(CC) $(CFLAGS) $^ -o $@
 
 # The header as C++ takes it.
