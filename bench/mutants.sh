@@ -17,15 +17,21 @@ include=(-Ihost -Ihost/tool -Ihost/compare -Ibench)
 stream=$out/cases
 "$oracle" cases --seed 1 --singles 20000 --events 50000 --runs 3000 \
   --draws 2000 --listings 200 --compared-frames 280 --compared-memories 1300 \
-  --starts 400 > "$stream"
+  --starts 400 --wide-singles 20000 --wide-runs 3000 --wide-draws 600 \
+  --pages 500 --wide-listings 200 > "$stream"
 
-# The tests themselves are compiled once, without the model.
-for source in host/compare/*.c host/tool/{listing,played,registers}.c host/test/{calls,differences,samples}.c; do
+# The tests themselves are compiled once, without the model: each by its name
+# and the objects that it is linked of.
+tests=(calls differences samples wide widerun widepicture)
+for source in host/compare/*.c host/tool/{listing,played,registers}.c \
+              $(printf 'host/test/%s.c ' "${tests[@]}" twochips); do
   mkdir -p "$out/$(dirname "$source")"
   "$cc" -std=c11 -O2 "${include[@]}" -c "$source" -o "$out/${source%.c}.o"
 done
-compare=("$out"/host/compare/{compare,stream,room,report,tally,events,runs,draws,listings,differences,starts}.o
-         "$out"/host/tool/{listing,played,registers}.o)
+compare=()
+for source in host/compare/*.c host/tool/{listing,played,registers}.c; do
+  compare+=("$out/${source%.c}.o")
+done
 
 # Compiles a plain.c as the model.
 compile() {
@@ -34,15 +40,13 @@ compile() {
 
 # Builds the tests over the model; says which of them fail.
 caught_by() {
+  local caught='' test
   "$cc" "${compare[@]}" "$out/model.o" -o "$out/compare"
-  "$cc" "$out"/host/{test/calls,compare/room}.o "$out/model.o" -o "$out/calls"
-  "$cc" "$out"/host/{test/differences,compare/room}.o "$out/model.o" -o "$out/differences"
-  "$cc" "$out"/host/test/samples.o "$out/model.o" -o "$out/samples"
-  local caught=
   "${run[@]}" "$out/compare" < "$stream" > "$out/report" 2>&1 || caught+=" compare"
-  "${run[@]}" "$out/calls" > /dev/null 2>&1 || caught+=" calls"
-  "${run[@]}" "$out/differences" > /dev/null 2>&1 || caught+=" differences"
-  "${run[@]}" "$out/samples" > /dev/null 2>&1 || caught+=" samples"
+  for test in "${tests[@]}"; do
+    "$cc" "$out"/host/{"test/$test",test/twochips,compare/room}.o "$out/model.o" -o "$out/$test"
+    "${run[@]}" "$out/$test" > /dev/null 2>&1 || caught+=" $test"
+  done
   echo "$caught"
 }
 

@@ -121,6 +121,24 @@ static void pin_keeps_the_selection(void)
   CHECK(RUN_IS(&before, of_both, 0, sizeof of_both, 2, &before));
 }
 
+/* A select record changes nothing of either chip: not fresh, not an awaited code,
+** not read-modify-write. */
+static void select_changes_nothing(void)
+{
+  static const uint8_t trace[] = { SELECT(1), SELECT(2), SELECT(2), SELECT(3) };
+  struct chips chips = chips_at_power_on();
+  static const enum buffer states[] = { LEFT_STATE, RIGHT_STATE };
+  for (size_t i = 0; i < 2; i++) {
+    uint8_t *state = chips.bytes[states[i]];
+    state[SSD1815B_COLUMN] = 9;
+    state[SSD1815B_AWAITED_CODE] = 0xA8;
+    state[SSD1815B_READ_MODIFY_WRITE] = 1;
+    state[SSD1815B_SAVED_COLUMN] = 7;
+    state[SSD1815B_FRESH] = 0;
+  }
+  CHECK(RUN_IS(&chips, trace, 0, sizeof trace, 4, &chips));
+}
+
 /* A select record is no event: it comes between 81 and its n, and between a
 ** dummy read and the read. */
 static void select_is_no_event(void)
@@ -378,6 +396,7 @@ int main(void)
   by_selection();
   each_run_starts_with_both();
   pin_keeps_the_selection();
+  select_changes_nothing();
   select_is_no_event();
   narrow_trace();
   narrow_run();
