@@ -1,8 +1,8 @@
 /*
-** The rules of documents 01 and 02 in plain C, written by hand as firmware would
-** be: straightforward, one function to a rule, nothing proved.  The bench holds
-** the proved library beside it, and the C tests compare it with the oracle
-** like the library, so what is measured is right.
+** The rules of documents 01 and 02 in plain C, written by hand as firmware
+** would be: straightforward, one function to a rule, nothing proved.  The bench
+** holds the proved library beside it, and the C tests compare it with the
+** oracle like the library, so what is measured is right.
 **
 ** Registers live in the state image itself, by their places.
 */
@@ -633,7 +633,7 @@ static size_t put_listing(uint8_t *text, uint8_t number, size_t offset,
   return (size_t)(to - text);
 }
 
-/* The listing into any text, where one of `enough` bytes holds every listing. */
+/* The listing into any text; one of `enough` bytes holds every listing. */
 static uint8_t list(uint8_t number, size_t offset, const uint8_t *frame,
                     size_t width, uint8_t *text, size_t text_len,
                     size_t enough, size_t *length)
@@ -892,6 +892,7 @@ static bool selects(uint8_t selection)
 
 /* ---- events for both chips: neither changes unless both take them ---- */
 
+/* A command byte: the left is put back if the right refuses. */
 static uint8_t command_both(uint8_t *left, uint8_t *right, uint8_t byte)
 {
   uint8_t before[STATE_SIZE];
@@ -907,6 +908,7 @@ static uint8_t command_both(uint8_t *left, uint8_t *right, uint8_t byte)
   return number;
 }
 
+/* A data byte written: both are asked before either stores. */
 static uint8_t write_both(uint8_t *left_state, uint8_t *left_memory,
                           uint8_t *right_state, uint8_t *right_memory,
                           uint8_t byte)

@@ -510,11 +510,13 @@ static void wide_commands(const struct model *model, uint8_t selection)
   }
 }
 
+/* Command calls for the left chip alone. */
 static void wide_commands_left(const struct model *model)
 {
   wide_commands(model, SSD1815B_LEFT);
 }
 
+/* Command calls for both. */
 static void wide_commands_both(const struct model *model)
 {
   wide_commands(model, SSD1815B_BOTH);
@@ -528,11 +530,13 @@ static void wide_writes(const struct model *model, uint8_t selection)
   }
 }
 
+/* Write calls for the left chip alone. */
 static void wide_writes_left(const struct model *model)
 {
   wide_writes(model, SSD1815B_LEFT);
 }
 
+/* Write calls for both. */
 static void wide_writes_both(const struct model *model)
 {
   wide_writes(model, SSD1815B_BOTH);

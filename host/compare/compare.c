@@ -21,9 +21,9 @@ static const char usage[] =
   "\n"
   "  --shown-by COMMAND         what shows a case of the stream, printed with\n"
   "                             a difference\n"
-  "  --at-least ...             fewer single events or drawn frames, of one chip\n"
-  "                             and of two, or a number that no call gave, are a\n"
-  "                             failure\n"
+  "  --at-least ...             fewer single events or drawn frames, of one\n"
+  "                             chip and of two, or a number that no call\n"
+  "                             gave, are a failure\n"
   "\n"
   "Status 0: all is the same.  1: something differs.  2: not a stream, or a\n"
   "wrong command line.\n";

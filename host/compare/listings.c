@@ -1,8 +1,8 @@
 /*
 ** Listings: the start that the case names, a run, the frame and its text, one
 ** call after the other, of one chip and of two.  For one chip the tool's own
-** function (tool/listing.h) is asked for the same text; a trace that is too long
-** to be listed is for it alone to answer.
+** function (tool/listing.h) is asked for the same text; a trace that is too
+** long to be listed is for it alone to answer.
 */
 #include "cases.h"
 

@@ -26,9 +26,10 @@ struct chips chips_at_power_on(void)
   memset(&chips, 0xEE, sizeof chips);
   for (size_t i = 0; i < 1188; i++) {
     /* Page 8 has bit 0 only. */
-    chips.bytes[LEFT_MEMORY][i] = (uint8_t)(i < 1056 ? 7 * i + i / 256 + 3 : i % 2);
-    chips.bytes[RIGHT_MEMORY][i] = chips.bytes[LEFT_MEMORY][i]
-                                   ^ (i < 1056 ? 0xA5 : 0x01);
+    bool icon = i >= 1056;
+    uint8_t byte = (uint8_t)(icon ? i % 2 : 7 * i + i / 256 + 3);
+    chips.bytes[LEFT_MEMORY][i] = byte;
+    chips.bytes[RIGHT_MEMORY][i] = byte ^ (icon ? 0x01 : 0xA5);
   }
   memcpy(chips.bytes[LEFT_STATE], power_on_image, 23);
   memcpy(chips.bytes[RIGHT_STATE], power_on_image, 23);

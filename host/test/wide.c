@@ -9,7 +9,7 @@
 #include "ssd1815b.h"
 #include "twochips.h"
 
-/* ---- an event, made twice: at the end and at the beginning of its rooms ---- */
+/* ---- an event, made at the end and at the beginning of its rooms ---- */
 
 enum kind { COMMAND, WRITE, READ, RESET, KINDS };
 
@@ -140,8 +140,8 @@ static void event_on_lengths(const struct chips *chips, enum kind kind)
   }
 }
 
-/* Each buffer with each length around its limit, the others just long enough or
-** longer, or another one too short. */
+/* Each buffer with each length around its limit, the others just long enough
+** or longer, or another one too short. */
 static void lengths(void)
 {
   for (enum kind kind = 0; kind < KINDS; kind++) {
@@ -177,8 +177,8 @@ static void selections(void)
   }
 }
 
-/* An image out of its ranges, of either chip, whichever is selected: 2 before 13
-** and 14, and 1 before it. */
+/* An image out of its ranges, of either chip, whichever is selected: 2 before
+** 13 and 14, and 1 before it. */
 static void ranges(void)
 {
   static const enum buffer states[] = { LEFT_STATE, RIGHT_STATE };
@@ -288,8 +288,8 @@ static void reads(void)
   }
 }
 
-/* The reset pin: power-on in each selected chip, whatever its image was, and the
-** other as it is, an image out of its ranges too. */
+/* The reset pin: power-on in each selected chip, whatever its image was, and
+** the other as it is, an image out of its ranges too. */
 static void resets(void)
 {
   struct chips before = chips_at_power_on();
@@ -330,8 +330,8 @@ static const struct trouble after_D3 = { SSD1815B_AWAITED_CODE, 0xD3 };
 static const struct trouble column_200 = { SSD1815B_COLUMN, 200 };
 
 /* Both selected: if either refuses, neither changes, and the number is the
-** left's where both do.  To D3 the byte F0 is 5; else F0 is 3 and B9 is 4; to 81
-** both are contrasts. */
+** left's where both do.  To D3 the byte F0 is 5; else F0 is 3 and B9 is 4; to
+** 81 both are contrasts. */
 static void neither_changes(void)
 {
   static const struct {
@@ -413,7 +413,8 @@ static uint8_t alone(enum kind kind, uint8_t *state, uint8_t *memory,
 }
 
 /* Each command byte and data byte, for each selection, on chips that stand
-** apart: what the chips would do alone, or nothing if a selected one refuses. */
+** apart: what the chips would do alone, or nothing if a selected one
+** refuses. */
 static void every_byte(struct chips chips)
 {
   for (enum kind kind = COMMAND; kind <= WRITE; kind++) {

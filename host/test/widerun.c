@@ -121,8 +121,8 @@ static void pin_keeps_the_selection(void)
   CHECK(RUN_IS(&before, of_both, 0, sizeof of_both, 2, &before));
 }
 
-/* A select record changes nothing of either chip: not fresh, not an awaited code,
-** not read-modify-write. */
+/* A select record changes nothing of either chip: not fresh, not an awaited
+** code, not read-modify-write. */
 static void select_changes_nothing(void)
 {
   static const uint8_t trace[] = { SELECT(1), SELECT(2), SELECT(2), SELECT(3) };
@@ -280,8 +280,8 @@ static void reads_of_both(void)
   CHECK(RUN_IS(&before, column, 14, 9, 1, &after));
 }
 
-/* A read of one chip is compared with that chip's byte: 10 at the recorded byte,
-** and that read has not happened. */
+/* A read of one chip is compared with that chip's byte: 10 at the recorded
+** byte, and that read has not happened. */
 static void reads_of_one(void)
 {
   static const uint8_t same[] = { SELECT(2), READS(3), 0x00, 0xC3, 0x3C };
