@@ -1,10 +1,12 @@
 #include "commands.h"
 
+#include "looks.h"
 #include "numbers.h"
 #include "player.h"
 #include "plural.h"
 
-/* The verdict on a trace, in a line. */
+/* The verdict on a trace, in a line; on standard error what a trace of a wide
+** terminal wants. */
 static void print_verdict(FILE *out, const char *name,
                           const struct played *played)
 {
@@ -12,7 +14,10 @@ static void print_verdict(FILE *out, const char *name,
     fprintf(out, "%s: taken, %zu record%s\n", name, played->count,
             plural(played->count));
   } else {
-    number_print(out, name, played->number, played->offset);
+    number_print(out, name, played);
+  }
+  if (looks_wide(played)) {
+    fprintf(stderr, "ssd1815b: %s: %s\n", name, LOOKS_WIDE);
   }
 }
 

@@ -8,7 +8,8 @@
 
 #include "played.h"
 
-/* A line if no place of the frame is lit, and nothing if one is. */
+/* A line if no place of the frame is lit, of a wide one if none of a half is,
+** and nothing if one is. */
 void dark_print(FILE *out, const struct played *played);
 
 #endif

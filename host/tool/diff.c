@@ -1,15 +1,19 @@
 #include "commands.h"
 
+#include <string.h>
+
 #include "colours.h"
 #include "diff.h"
 #include "looks.h"
 #include "numbers.h"
 #include "picture.h"
+#include "sides.h"
 
-void diff_names(FILE *out, const struct options *options)
+void diff_side(FILE *out, const struct options *options, enum side side,
+               const char *part)
 {
-  if (options->brief) {
-    fprintf(out, "%s and %s: ", options->traces[0], options->traces[1]);
+  if (options->wide) {
+    fprintf(out, "%s %s", side_name(side), part);
   }
 }
 
@@ -19,7 +23,7 @@ static void tell_refused(const struct options *options,
 {
   const struct played *played = &screen->played;
   fputs("ssd1815b: ", stderr);
-  number_print(stderr, screen->input.name, played->number, played->offset);
+  number_print(stderr, screen->input.name, played);
   if (!screen->stored && (played->number == SSD1815B_HEADER_CUT
                           || played->number == SSD1815B_KIND_UNKNOWN)) {
     looks_print(stderr, played, played->offset);
@@ -70,33 +74,84 @@ static bool draw(FILE *out, const struct options *options,
                  const struct screen *first,
                  const struct differences *differences)
 {
-  static uint8_t marks[SSD1815B_FRAME_SIZE];
+  static uint8_t marks[SSD1815B_WIDE_FRAME_SIZE];
   static const struct form colours = { "PPM", ".ppm", ppm_write,
                                        png_write_colours };
-  differences_mark(differences, first->played.frame, marks);
+  memcpy(marks, first->played.frame, sizeof marks);
+  for (enum side side = 0; side < sides_of(options->wide); side++) {
+    differences_mark(&differences[side], options->wide, side, marks);
+  }
   if (options->show) {
-    diff_show(out, marks);
+    diff_show(out, marks, options->wide);
   }
   return options->output == NULL || picture_write(options, &colours, marks);
+}
+
+/* After what is said of a side: the end of the line, or in a brief one what
+** parts it from the next. */
+static void end_side(FILE *out, const struct options *options, enum side side)
+{
+  bool last = side + 1 == sides_of(options->wide);
+  fputs(options->brief && !last ? "; " : "\n", out);
+}
+
+/* The names of the two, before a line that stands alone. */
+static void print_names(FILE *out, const struct options *options)
+{
+  if (options->brief) {
+    fprintf(out, "%s and %s: ", options->traces[0], options->traces[1]);
+  }
+}
+
+/* Compares the memories, side by side; answers how many bytes differ. */
+static size_t compare_memories(FILE *out, const struct options *options,
+                               const struct screen *first,
+                               const struct screen *second)
+{
+  size_t count = 0;
+  print_names(out, options);
+  for (enum side side = 0; side < sides_of(options->wide); side++) {
+    count += diff_memories(out, options, side, first, second);
+    end_side(out, options, side);
+  }
+  return count;
+}
+
+/* Compares the screens, half by half, an entry's column being a byte; *count is
+** how many runs differ.  Answers whether they could be drawn as asked. */
+static bool compare_screens(FILE *out, const struct options *options,
+                            const struct screen *first,
+                            const struct screen *second, size_t *count)
+{
+  static struct differences differences[SIDES];
+  *count = 0;
+  for (enum side side = 0; side < sides_of(options->wide); side++) {
+    differences_find(&differences[side], first->played.frame,
+                     second->played.frame, options->wide, side);
+    *count += differences[side].runs;
+  }
+  bool done = draw(out, options, first, differences);
+  print_names(out, options);
+  for (enum side side = 0; side < sides_of(options->wide); side++) {
+    diff_screens(out, options, side, &differences[side]);
+    end_side(out, options, side);
+  }
+  return done;
 }
 
 static enum status compare(FILE *out, const struct options *options,
                            const struct screen *first,
                            const struct screen *second)
 {
-  static struct differences differences;
   size_t count;
-  bool done = fits(options, first, second);
-  if (!done) {
+  if (!fits(options, first, second)) {
     return FAILED;
   }
-  done = sound(options, first, second);
+  bool done = sound(options, first, second);
   if (options->memory) {
-    count = diff_memories(out, options, first, second);
+    count = compare_memories(out, options, first, second);
   } else {
-    differences_find(&differences, first->played.frame, second->played.frame);
-    done = draw(out, options, first, &differences) && done;
-    count = diff_screens(out, options, first, &differences);
+    done = compare_screens(out, options, first, second, &count) && done;
   }
   if (!done) {
     return FAILED;

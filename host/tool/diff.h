@@ -10,21 +10,23 @@
 #include "options.h"
 #include "screen.h"
 
-/* The names of the two, before a line that stands alone. */
-void diff_names(FILE *out, const struct options *options);
+/* Before what is said of one side of a wide terminal: which it is, and of what
+** (a half or a chip). */
+void diff_side(FILE *out, const struct options *options, enum side side,
+               const char *part);
 
-/* A line for each run of places that differ, and a line about all of them.
-** Answers how many runs there are. */
-size_t diff_screens(FILE *out, const struct options *options,
-                    const struct screen *first,
-                    const struct differences *differences);
+/* A line for each run of places of a side that differ, and what is said of all
+** of them, with no newline after it. */
+void diff_screens(FILE *out, const struct options *options, enum side side,
+                  const struct differences *differences);
 
-/* The same for each byte in which the memories differ. */
-size_t diff_memories(FILE *out, const struct options *options,
+/* The same for each byte in which a side's memories differ.  Answers how many
+** there are. */
+size_t diff_memories(FILE *out, const struct options *options, enum side side,
                      const struct screen *first, const struct screen *second);
 
 /* The screen drawn with the places marked: in colours on a terminal, in
 ** letters elsewhere. */
-void diff_show(FILE *out, const uint8_t *marks);
+void diff_show(FILE *out, const uint8_t *marks, bool wide);
 
 #endif

@@ -27,27 +27,33 @@ static size_t pages_in(const uint8_t *list, size_t count)
   return pages;
 }
 
-size_t diff_memories(FILE *out, const struct options *options,
+/* What is said of all bytes. */
+static void print_summary(FILE *out, const uint8_t *list, size_t count)
+{
+  size_t pages = pages_in(list, count);
+  if (count == 0) {
+    fputs("the same, no byte of memory differs", out);
+  } else {
+    fprintf(out, "%zu byte%s of memory differ%s, in %zu page%s", count,
+            plural(count), count == 1 ? "s" : "", pages, plural(pages));
+  }
+}
+
+size_t diff_memories(FILE *out, const struct options *options, enum side side,
                      const struct screen *first, const struct screen *second)
 {
   static uint8_t list[SSD1815B_MEMORY_LIST_SIZE];
-  const struct played *one = &first->played;
-  const struct played *other = &second->played;
+  const struct chip *one = &first->played.chips[side];
+  const struct chip *other = &second->played.chips[side];
   size_t count;
   /* The sizes are right, so this does not refuse. */
   ssd1815b_compare_memories(one->memory, sizeof one->memory, other->memory,
                             sizeof other->memory, list, sizeof list, &count);
-  diff_names(out, options);
   for (size_t i = 0; i < count && !options->brief; i++) {
+    diff_side(out, options, side, "chip, ");
     print_byte(out, list + i * SSD1815B_MEMORY_ENTRY_SIZE);
   }
-  if (count == 0) {
-    fputs("the same, no byte of memory differs\n", out);
-  } else {
-    size_t pages = pages_in(list, count);
-    fprintf(out, "%zu byte%s of memory differ%s, in %zu page%s\n", count,
-            plural(count), count == 1 ? "s" : "", pages,
-            plural(pages));
-  }
+  diff_side(out, options, side, "chip: ");
+  print_summary(out, list, count);
   return count;
 }

@@ -1,7 +1,5 @@
 #include "diff.h"
 
-#include <string.h>
-
 #include "plural.h"
 
 static void print_run(FILE *out, const uint8_t *run)
@@ -18,36 +16,29 @@ static void print_run(FILE *out, const uint8_t *run)
           states[run[SSD1815B_RUN_IS]]);
 }
 
-static bool all_dark(const uint8_t *frame)
-{
-  return memchr(frame, 1, SSD1815B_FRAME_SIZE) == NULL;
-}
-
-/* The line about all runs; of two dark screens it says that, too, as no
+/* What is said of all runs; of two dark screens it says that, too, as no
 ** picture may have been meant. */
-static void print_summary(FILE *out, const struct screen *first,
-                          const struct differences *differences)
+static void print_summary(FILE *out, const struct differences *differences)
 {
   size_t runs = differences->runs;
   if (runs == 0) {
-    fprintf(out, "the same, no place differs%s\n",
-            all_dark(first->played.frame) ? "; all are dark" : "");
+    fprintf(out, "the same, no place differs%s",
+            differences->dark ? "; all are dark" : "");
     return;
   }
-  fprintf(out, "%zu run%s differ%s, %zu place%s in %zu row%s\n", runs,
+  fprintf(out, "%zu run%s differ%s, %zu place%s in %zu row%s", runs,
           plural(runs), runs == 1 ? "s" : "", differences->places,
           plural(differences->places), differences->rows,
           plural(differences->rows));
 }
 
-size_t diff_screens(FILE *out, const struct options *options,
-                    const struct screen *first,
-                    const struct differences *differences)
+void diff_screens(FILE *out, const struct options *options, enum side side,
+                  const struct differences *differences)
 {
-  diff_names(out, options);
   for (size_t i = 0; i < differences->runs && !options->brief; i++) {
+    diff_side(out, options, side, "half, ");
     print_run(out, differences_run(differences, i));
   }
-  print_summary(out, first, differences);
-  return differences->runs;
+  diff_side(out, options, side, "half: ");
+  print_summary(out, differences);
 }

@@ -5,7 +5,7 @@
 #include <string.h>
 #include <unistd.h>
 
-#include "edge.h"
+#include "view.h"
 
 static const char *const words[MARKS] = {
   [DARK_IN_BOTH] = "dark in both",
@@ -38,13 +38,13 @@ static bool is_coloured(FILE *out)
 }
 
 /* Rows in letters, a line each. */
-static void print_letters(FILE *out, const uint8_t *marks, size_t row,
+static void print_letters(FILE *out, const struct view *view, size_t row,
                           size_t rows)
 {
   for (size_t end = row + rows; row < end; row++) {
     fputs("│", out);
-    for (size_t x = 0; x < SSD1815B_COLUMNS; x++) {
-      putc(letters[marks[row * SSD1815B_COLUMNS + x]], out);
+    for (size_t x = 0; x < view->width; x++) {
+      putc(letters[view->places[row * view->columns + x]], out);
     }
     fputs("│\n", out);
   }
@@ -52,12 +52,13 @@ static void print_letters(FILE *out, const uint8_t *marks, size_t row,
 
 /* One row in colours above another, which may be none: a cell's upper half is
 ** painted and its lower half left.  Colours are set where they change. */
-static void print_line(FILE *out, const uint8_t *above, const uint8_t *below)
+static void print_line(FILE *out, const uint8_t *above, const uint8_t *below,
+                       size_t width)
 {
   int upper = MARKS;
   int lower = MARKS;
   fputs("│", out);
-  for (size_t x = 0; x < SSD1815B_COLUMNS; x++) {
+  for (size_t x = 0; x < width; x++) {
     int next = below == NULL ? DARK_IN_BOTH : below[x];
     if (above[x] != upper || next != lower) {
       upper = above[x];
@@ -70,12 +71,13 @@ static void print_line(FILE *out, const uint8_t *above, const uint8_t *below)
 }
 
 /* Rows in colours, two to a line. */
-static void print_colours(FILE *out, const uint8_t *marks, size_t row,
+static void print_colours(FILE *out, const struct view *view, size_t row,
                           size_t rows)
 {
   for (size_t end = row + rows; row < end; row += 2) {
-    const uint8_t *above = marks + row * SSD1815B_COLUMNS;
-    print_line(out, above, row + 1 < end ? above + SSD1815B_COLUMNS : NULL);
+    const uint8_t *above = view->places + row * view->columns;
+    print_line(out, above, row + 1 < end ? above + view->columns : NULL,
+               view->width);
   }
 }
 
@@ -93,15 +95,9 @@ static void print_legend(FILE *out, bool coloured)
   fputs("\n", out);
 }
 
-void diff_show(FILE *out, const uint8_t *marks)
+void diff_show(FILE *out, const uint8_t *marks, bool wide)
 {
   bool coloured = is_coloured(out);
-  void (*print)(FILE *, const uint8_t *, size_t, size_t) =
-    coloured ? print_colours : print_letters;
-  edge_print(out, "┌", "┐");
-  print(out, marks, 0, SSD1815B_ROWS);
-  edge_print(out, "├", "┤");
-  print(out, marks, SSD1815B_ICON_ROW, 1);
-  edge_print(out, "└", "┘");
+  view_draw(out, marks, wide, coloured ? print_colours : print_letters);
   print_legend(out, coloured);
 }

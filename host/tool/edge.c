@@ -1,11 +1,9 @@
 #include "edge.h"
 
-#include "ssd1815b.h"
-
-void edge_print(FILE *out, const char *left, const char *right)
+void edge_print(FILE *out, const char *left, size_t width, const char *right)
 {
   fputs(left, out);
-  for (int x = 0; x < SSD1815B_COLUMNS; x++) {
+  for (size_t x = 0; x < width; x++) {
     fputs("─", out);
   }
   fputs(right, out);

@@ -4,9 +4,10 @@
 #ifndef EDGE_H
 #define EDGE_H
 
+#include <stddef.h>
 #include <stdio.h>
 
-/* An edge as wide as the screen, between its two ends. */
-void edge_print(FILE *out, const char *left, const char *right);
+/* An edge as wide as what is drawn, between its two ends. */
+void edge_print(FILE *out, const char *left, size_t width, const char *right);
 
 #endif

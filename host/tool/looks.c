@@ -14,6 +14,9 @@ static const struct beginning {
   { "P1", "a PBM picture; a trace is wanted, as picture takes one" },
   { "frame 132 65", "a listing, as list prints it, which diff alone takes; the"
                     " trace that it was printed for is wanted" },
+  { "frame 264 65", "a listing, as list --wide prints it, which diff --wide"
+                    " alone takes; the trace that it was printed for is"
+                    " wanted" },
   { "refused ", "a listing, as list prints it, which diff alone takes; the"
                 " trace that it was printed for is wanted" },
   { "\x1F\x8B", "a gzip file; gunzip it first" },
@@ -56,32 +59,43 @@ static bool is_one_byte(const uint8_t *bytes, size_t length)
   return i == length;
 }
 
-/* What the first header of a trace says that no header can. */
-static const char *first_header(const uint8_t *header)
+bool looks_wide(const struct played *played)
 {
+  const uint8_t *header = played->trace + played->offset;
+  return !played->wide && played->number == SSD1815B_KIND_UNKNOWN
+         && header[2] == KIND_SELECT && header[3] == 0;
+}
+
+/* What the first header of a trace says that no header can. */
+static const char *first_header(const uint8_t *header, bool wide)
+{
+  uint8_t last = wide ? KIND_SELECT : KIND_RESET_PIN;
   bool kind = header[3] == 0 && header[2] >= KIND_COMMANDS
-              && header[2] <= KIND_RESET_PIN;
+              && header[2] <= last;
   bool turned = header[2] == 0 && header[3] >= KIND_COMMANDS
-                && header[3] <= KIND_RESET_PIN;
+                && header[3] <= last;
   if (kind) {
     return NULL;
   }
-  return turned
-           ? "a trace whose numbers have their higher byte first; they are"
-             " wanted with the lower byte first"
-           : "no trace: a record begins with the length of its payload and its"
-             " kind, 1 to 4,\n  two bytes each, the lower byte first";
+  if (turned) {
+    return "a trace whose numbers have their higher byte first; they are wanted"
+           " with the lower byte first";
+  }
+  return wide ? "no trace: a record begins with the length of its payload and"
+                " its kind, 1 to 5,\n  two bytes each, the lower byte first"
+              : "no trace: a record begins with the length of its payload and"
+                " its kind, 1 to 4,\n  two bytes each, the lower byte first";
 }
 
 /* What the whole input looks like, or null. */
-static const char *whole_input(const uint8_t *bytes, size_t length)
+static const char *whole_input(const uint8_t *bytes, size_t length, bool wide)
 {
   const char *words = begins_as(bytes, length);
   if (words == NULL && looks_text(bytes, length)) {
     words = "text; if it is the source of a trace, traces/make.py FILE.txt"
             " makes FILE.trace of it";
   }
-  return words != NULL ? words : first_header(bytes);
+  return words != NULL ? words : first_header(bytes, wide);
 }
 
 void looks_print(FILE *out, const struct played *played, size_t first)
@@ -96,7 +110,12 @@ void looks_print(FILE *out, const struct played *played, size_t first)
             " recording that ended before\n", bytes[0]);
     return;
   }
-  const char *words = first == 0 ? whole_input(bytes, length) : NULL;
+  if (looks_wide(played)) {
+    fputs("  " LOOKS_WIDE "\n", out);
+    return;
+  }
+  const char *words = first == 0 ? whole_input(bytes, length, played->wide)
+                                 : NULL;
   if (words != NULL) {
     fprintf(out, "  this looks like %s\n", words);
   }

@@ -1,7 +1,5 @@
 #include "numbers.h"
 
-#include "ssd1815b.h"
-
 static const char *const meanings[] = {
   [SSD1815B_TAKEN] = "taken",
   [SSD1815B_TOO_SHORT] = "a lent state, memory or frame is too short",
@@ -20,19 +18,25 @@ static const char *const meanings[] = {
     "a compared read differs; that read has not happened",
   [SSD1815B_LIST_TOO_SMALL] = "a list buffer is too small for all entries",
   [SSD1815B_FRAME_BYTE_ABOVE] = "a byte of a frame is above 1",
+  [SSD1815B_NO_SELECTION] =
+    "a select record's payload is not one byte of 1 to 3",
+  [SSD1815B_BOTH_SELECTED] = "a data read with both chips selected",
 };
 
 _Static_assert(sizeof meanings / sizeof *meanings
-                 == SSD1815B_FRAME_BYTE_ABOVE + 1, "the last number is here");
+                 == SSD1815B_BOTH_SELECTED + 1, "the last number is here");
 
-const char *number_meaning(uint8_t number)
+const char *number_meaning(const struct played *played)
 {
-  return number < sizeof meanings / sizeof *meanings
-           ? meanings[number] : "not a number of document 01 or 02";
+  if (played->wide && played->number == SSD1815B_KIND_UNKNOWN) {
+    return "kind not 1 to 5, or kind 4 with a payload";
+  }
+  return played->number < sizeof meanings / sizeof *meanings
+           ? meanings[played->number] : "not a number of document 01 or 02";
 }
 
-void number_print(FILE *out, const char *name, uint8_t number, size_t offset)
+void number_print(FILE *out, const char *name, const struct played *played)
 {
-  fprintf(out, "%s: refused %u at %zu: %s\n", name, number, offset,
-          number_meaning(number));
+  fprintf(out, "%s: refused %u at %zu: %s\n", name, played->number,
+          played->offset, number_meaning(played));
 }

@@ -4,14 +4,15 @@
 #ifndef NUMBERS_H
 #define NUMBERS_H
 
-#include <stddef.h>
-#include <stdint.h>
 #include <stdio.h>
 
-const char *number_meaning(uint8_t number);
+#include "played.h"
+
+/* What the number says that a run answered. */
+const char *number_meaning(const struct played *played);
 
 /* A line about a refused run: its name, the number, where, and what it
 ** means. */
-void number_print(FILE *out, const char *name, uint8_t number, size_t offset);
+void number_print(FILE *out, const char *name, const struct played *played);
 
 #endif

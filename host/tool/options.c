@@ -61,6 +61,13 @@ static bool take_upright(struct options *options, const char *text)
   return true;
 }
 
+static bool take_wide(struct options *options, const char *text)
+{
+  (void)text;
+  options->wide = true;
+  return true;
+}
+
 static bool take_png(struct options *options, const char *text)
 {
   (void)text;
@@ -140,6 +147,7 @@ enum {
 static const struct option table[] = {
   { "--after", "a number", NOT_FOR_CHECK, "is not for check", take_after },
   { "--upright", NULL, FOR_ALL, NULL, take_upright },
+  { "--wide", NULL, FOR_ALL, NULL, take_wide },
   { "--scale", "a number", FOR_PICTURE | FOR_DIFF,
     "is for picture and diff alone", take_scale },
   { "--png", NULL, FOR_PICTURE, "is for picture alone", take_png },

@@ -17,6 +17,7 @@ struct options {
   int trace_count;      /* one, two for diff, or any number for check */
   size_t records;       /* to be played, or ALL_RECORDS */
   enum hung hung;       /* how the module hangs, and so the start */
+  bool wide;            /* the terminal has two chips */
   unsigned scale;       /* each dot of a picture is scale by scale */
   bool png;             /* the picture is to be a PNG */
   const char *output;   /* the picture's file; null is standard output, and

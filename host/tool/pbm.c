@@ -1,12 +1,14 @@
 #include "picture.h"
 
-/* One line of dots, eight to a byte, the leftmost in the highest bit. */
-static void put_line(FILE *out, const uint8_t *frame, unsigned y,
-                     unsigned scale)
+/* One line of dots, eight to a byte, the leftmost in the highest bit; bits that
+** are left over are 0. */
+static void put_line(FILE *out, const struct image *image, unsigned y)
 {
+  unsigned dots = picture_width(image) * image->scale;
   unsigned byte = 0;
-  for (unsigned x = 0; x < PICTURE_WIDTH * scale; x++) {
-    byte = byte << 1 | picture_lit(frame, x / scale, y);
+  for (unsigned x = 0; x < (dots + 7) / 8 * 8; x++) {
+    bool lit = x < dots && picture_lit(image, x / image->scale, y);
+    byte = byte << 1 | lit;
     if (x % 8 == 7) {
       putc((int)byte, out);
       byte = 0;
@@ -14,12 +16,11 @@ static void put_line(FILE *out, const uint8_t *frame, unsigned y,
   }
 }
 
-_Static_assert(PICTURE_WIDTH % 8 == 0, "every line is whole bytes");
-
-void pbm_write(FILE *out, const uint8_t *frame, unsigned scale)
+void pbm_write(FILE *out, const struct image *image)
 {
-  fprintf(out, "P4\n%u %u\n", PICTURE_WIDTH * scale, PICTURE_HEIGHT * scale);
-  for (unsigned y = 0; y < PICTURE_HEIGHT * scale; y++) {
-    put_line(out, frame, y / scale, scale);
+  unsigned height = PICTURE_HEIGHT * image->scale;
+  fprintf(out, "P4\n%u %u\n", picture_width(image) * image->scale, height);
+  for (unsigned y = 0; y < height; y++) {
+    put_line(out, image, y / image->scale);
   }
 }

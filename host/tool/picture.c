@@ -9,20 +9,25 @@
 #include "commands.h"
 #include "stop.h"
 
-size_t picture_place(unsigned x, unsigned y)
+unsigned picture_width(const struct image *image)
+{
+  return image->columns + 2 * PICTURE_MARGIN;
+}
+
+const uint8_t *picture_place(const struct image *image, unsigned x, unsigned y)
 {
   enum { ICONS = PICTURE_MARGIN + SSD1815B_ROWS + PICTURE_GAP };
   unsigned column = x - PICTURE_MARGIN;
   unsigned row = y == ICONS ? SSD1815B_ICON_ROW : y - PICTURE_MARGIN;
   /* A place of the margin is a large number here. */
-  return column < SSD1815B_COLUMNS && (row < SSD1815B_ROWS || y == ICONS)
-           ? row * SSD1815B_COLUMNS + column : SSD1815B_FRAME_SIZE;
+  return column < image->columns && (row < SSD1815B_ROWS || y == ICONS)
+           ? image->places + row * image->columns + column : NULL;
 }
 
-bool picture_lit(const uint8_t *frame, unsigned x, unsigned y)
+bool picture_lit(const struct image *image, unsigned x, unsigned y)
 {
-  size_t place = picture_place(x, y);
-  return place < SSD1815B_FRAME_SIZE && frame[place] == 1;
+  const uint8_t *place = picture_place(image, x, y);
+  return place != NULL && *place == 1;
 }
 
 bool picture_has_place(const struct options *options)
@@ -72,6 +77,8 @@ bool picture_write(const struct options *options, const struct form *form,
 {
   const char *name = options->output == NULL ? "standard output"
                                              : options->output;
+  struct image image = { places, (unsigned)columns_of(options->wide),
+                         options->scale };
   bool png = options->png && png_built();
   if (options->png && !png) {
     tell_without_png(options, form);
@@ -79,9 +86,9 @@ bool picture_write(const struct options *options, const struct form *form,
   FILE *out = open_output(options, form);
   bool done = out != NULL;
   if (done && png) {
-    done = form->write_png(out, places, options->scale);
+    done = form->write_png(out, &image);
   } else if (done) {
-    form->write(out, places, options->scale);
+    form->write(out, &image);
   }
   done = done && fflush(out) == 0 && !ferror(out);
   if (out != NULL && out != stdout) {

@@ -14,33 +14,42 @@
 enum {
   PICTURE_MARGIN = 2,
   PICTURE_GAP = 2,
-  PICTURE_WIDTH = SSD1815B_COLUMNS + 2 * PICTURE_MARGIN,
   PICTURE_HEIGHT = SSD1815B_FRAME_ROWS + PICTURE_GAP + 2 * PICTURE_MARGIN
 };
 
-/* The place of the frame that the dot at this place of the picture shows;
-** SSD1815B_FRAME_SIZE in the margin and the gap. */
-size_t picture_place(unsigned x, unsigned y);
+/* What a picture is made of. */
+struct image {
+  const uint8_t *places;  /* a frame, or the marks of one */
+  unsigned columns;       /* places to a row of it */
+  unsigned scale;         /* each dot is scale by scale */
+};
+
+/* The dots of a line, before each is made scale by scale. */
+unsigned picture_width(const struct image *image);
+
+/* The place that the dot at this place of the picture shows; null in the margin
+** and the gap. */
+const uint8_t *picture_place(const struct image *image, unsigned x, unsigned y);
 
 /* Whether the dot at this place of the picture is lit. */
-bool picture_lit(const uint8_t *frame, unsigned x, unsigned y);
+bool picture_lit(const struct image *image, unsigned x, unsigned y);
 
-/* The picture as a PBM file, each dot scale by scale. */
-void pbm_write(FILE *out, const uint8_t *frame, unsigned scale);
+/* The picture of a frame as a PBM file. */
+void pbm_write(FILE *out, const struct image *image);
 
 /* Whether this tool was built with PNG. */
 bool png_built(void);
 
 /* The picture as a PNG file; false if there is no room to make it. */
-bool png_write(FILE *out, const uint8_t *frame, unsigned scale);
+bool png_write(FILE *out, const struct image *image);
 
 /* A form of picture that needs no PNG, and how it and a PNG of the same dots
 ** are written. */
 struct form {
   const char *name;
   const char *ending;
-  void (*write)(FILE *out, const uint8_t *places, unsigned scale);
-  bool (*write_png)(FILE *out, const uint8_t *places, unsigned scale);
+  void (*write)(FILE *out, const struct image *image);
+  bool (*write_png)(FILE *out, const struct image *image);
 };
 
 /* Writes a picture to the file that the options name, or to standard output.

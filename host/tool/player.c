@@ -9,7 +9,7 @@ bool play_input(struct played *played, struct input *input,
                 const struct options *options)
 {
   bool done;
-  play_begin(played, options->hung);
+  (options->wide ? play_begin_wide : play_begin)(played, options->hung);
   do {
     done = input_more(input, PART);
     if (done) {

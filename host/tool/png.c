@@ -32,13 +32,15 @@ static void put(void *out, void *bytes, int size)
 }
 
 /* Puts the bytes of a dot. */
-typedef void dot(uint8_t *bytes, const uint8_t *places, unsigned x, unsigned y);
+typedef void dot(uint8_t *bytes, const struct image *image, unsigned x,
+                 unsigned y);
 
 /* A picture of so many bytes to a dot. */
-static bool write_dots(FILE *out, const uint8_t *places, unsigned scale,
-                       dot *put_dot, unsigned bytes)
+static bool write_dots(FILE *out, const struct image *image, dot *put_dot,
+                       unsigned bytes)
 {
-  unsigned width = PICTURE_WIDTH * scale;
+  unsigned scale = image->scale;
+  unsigned width = picture_width(image) * scale;
   unsigned height = PICTURE_HEIGHT * scale;
   size_t size = (size_t)width * height;
   uint8_t *dots = malloc(size * bytes);
@@ -48,7 +50,7 @@ static bool write_dots(FILE *out, const uint8_t *places, unsigned scale,
   for (size_t i = 0; i < size; i++) {
     unsigned x = (unsigned)(i % width) / scale;
     unsigned y = (unsigned)(i / width) / scale;
-    put_dot(dots + i * bytes, places, x, y);
+    put_dot(dots + i * bytes, image, x, y);
   }
   int done = stbi_write_png_to_func(put, out, (int)width, (int)height,
                                     (int)bytes, dots, (int)(width * bytes));
@@ -57,26 +59,26 @@ static bool write_dots(FILE *out, const uint8_t *places, unsigned scale,
 }
 
 /* Lit dots are black. */
-static void put_gray(uint8_t *bytes, const uint8_t *frame, unsigned x,
+static void put_gray(uint8_t *bytes, const struct image *image, unsigned x,
                      unsigned y)
 {
-  *bytes = picture_lit(frame, x, y) ? 0 : WHITE;
+  *bytes = picture_lit(image, x, y) ? 0 : WHITE;
 }
 
-bool png_write(FILE *out, const uint8_t *frame, unsigned scale)
+bool png_write(FILE *out, const struct image *image)
 {
-  return write_dots(out, frame, scale, put_gray, 1);
+  return write_dots(out, image, put_gray, 1);
 }
 
-static void put_colour(uint8_t *bytes, const uint8_t *marks, unsigned x,
+static void put_colour(uint8_t *bytes, const struct image *image, unsigned x,
                        unsigned y)
 {
-  memcpy(bytes, colour_at(marks, x, y), COLOUR_BYTES);
+  memcpy(bytes, colour_at(image, x, y), COLOUR_BYTES);
 }
 
-bool png_write_colours(FILE *out, const uint8_t *marks, unsigned scale)
+bool png_write_colours(FILE *out, const struct image *image)
 {
-  return write_dots(out, marks, scale, put_colour, COLOUR_BYTES);
+  return write_dots(out, image, put_colour, COLOUR_BYTES);
 }
 
 #else
@@ -86,17 +88,16 @@ bool png_built(void)
   return false;
 }
 
-bool png_write(FILE *out, const uint8_t *frame, unsigned scale)
+bool png_write(FILE *out, const struct image *image)
 {
   (void)out;
-  (void)frame;
-  (void)scale;
+  (void)image;
   return false;
 }
 
-bool png_write_colours(FILE *out, const uint8_t *marks, unsigned scale)
+bool png_write_colours(FILE *out, const struct image *image)
 {
-  return png_write(out, marks, scale);
+  return png_write(out, image);
 }
 
 #endif

@@ -6,11 +6,6 @@
 #include "kinds.h"
 #include "progress.h"
 
-struct chip {
-  uint8_t state[SSD1815B_STATE_SIZE];
-  uint8_t memory[SSD1815B_MEMORY_SIZE];
-};
-
 /* One event on the chip.  The run took it, so no call refuses. */
 static void take(struct chip *chip, struct event *event, uint8_t byte)
 {
@@ -35,32 +30,50 @@ static void take(struct chip *chip, struct event *event, uint8_t byte)
   }
 }
 
-/* The events of one record up to where the run stopped. */
-static void replay_record(const struct played *played, struct chip *chip,
-                          struct event event, visitor *visit, void *context)
+/* One event on each chip that is selected. */
+static void replay_event(struct chip *chips, struct event *event, uint8_t byte,
+                         visitor *visit, void *context)
 {
   uint8_t before[SSD1815B_STATE_SIZE];
+  event->before = before;
+  for (event->side = 0; event->side < SIDES; event->side++) {
+    struct chip *chip = &chips[event->side];
+    if (is_selected(event->selection, event->side)) {
+      memcpy(before, chip->state, sizeof before);
+      event->after = chip->state;
+      take(chip, event, byte);
+      visit(event, context);
+    }
+  }
+}
+
+/* The events of one record up to where the run stopped. */
+static void replay_record(const struct played *played, struct chip *chips,
+                          struct event event, visitor *visit, void *context)
+{
   bool pin = event.kind == KIND_RESET_PIN;
   size_t end = event.next < played->offset ? event.next : played->offset;
-  event.before = before;
-  event.after = chip->state;
   for (event.offset = pin ? event.first : event.first + HEADER_SIZE;
        event.offset < end; event.offset += pin ? HEADER_SIZE : 1) {
-    memcpy(before, chip->state, sizeof before);
-    take(chip, &event, played->trace[event.offset]);
-    visit(&event, context);
+    replay_event(chips, &event, played->trace[event.offset], visit, context);
   }
 }
 
 void replay(const struct played *played, visitor *visit, void *context)
 {
-  struct chip chip;
-  struct event event = { 0 };
-  start_chip(played->hung, chip.state, chip.memory);
+  struct chip chips[SIDES];
+  struct event event = { .selection = first_selection(played->wide) };
+  for (size_t side = 0; side < sides_of(played->wide); side++) {
+    start_chip(played->hung, chips[side].state, chips[side].memory);
+  }
   while (event.first < played->offset) {
     ssd1815b_record(played->trace, played->trace_len, event.first, &event.kind,
                     &event.next);
-    replay_record(played, &chip, event, visit, context);
+    if (event.kind == KIND_SELECT) {
+      event.selection = played->trace[event.first + HEADER_SIZE];
+    } else {
+      replay_record(played, chips, event, visit, context);
+    }
     progress("looking again", event.next, played->offset);
     event.first = event.next;
     event.record++;

@@ -6,14 +6,16 @@
 
 #include "played.h"
 
-/* An event that was taken. */
+/* An event that was taken, as one chip had it. */
 struct event {
   size_t offset;         /* of its byte; the reset pin's is its record's */
   size_t record;         /* which it is, from 0 */
   size_t first;          /* the record's first byte */
   size_t next;           /* the offset after the record */
   size_t kind;
-  const uint8_t *before; /* the state image before it */
+  uint8_t selection;     /* the chips that have it */
+  enum side side;        /* the one of them that this is about */
+  const uint8_t *before; /* that chip's state image before it */
   const uint8_t *after;
   uint8_t byte;          /* what a read answered */
   uint8_t dummy;
@@ -21,7 +23,8 @@ struct event {
 
 typedef void visitor(const struct event *event, void *context);
 
-/* Visits the events that the run took, in their order. */
+/* Visits the events that the run took, in their order; one that both chips have
+** twice, the left's first. */
 void replay(const struct played *played, visitor *visit, void *context);
 
 #endif

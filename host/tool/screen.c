@@ -20,19 +20,39 @@ static void tell_fault(struct screen *screen, const struct fault *fault)
   }
 }
 
+/* Whether a listing is of such a terminal as the options say; says so if it is
+** not. */
+static bool fits_width(const struct options *options, const char *name,
+                       const struct stored *stored)
+{
+  if (stored->wide && !options->wide) {
+    fprintf(stderr, "ssd1815b: %s: the listing of a wide terminal, 264 wide:"
+            " --wide compares such screens\n", name);
+  } else if (options->wide && !stored->wide) {
+    fprintf(stderr, "ssd1815b: %s: the listing of one chip, 132 wide, and --wide"
+            " compares screens 264 wide\n", name);
+  }
+  return stored->wide == options->wide;
+}
+
 /* A listing, which is at most so long; one byte more tells a longer text. */
-static bool read_stored(struct screen *screen)
+static bool read_stored(struct screen *screen, const struct options *options)
 {
   static struct stored stored;
   struct fault fault;
   struct input *input = &screen->input;
-  if (!input_more(input, SSD1815B_TEXT_SIZE + 1)) {
+  if (!input_more(input, SSD1815B_WIDE_TEXT_SIZE + 1)) {
     return false;
   }
-  if (!stored_read(&stored, input->bytes, input->length, &fault)) {
+  if (!(options->wide ? stored_read_wide : stored_read)(
+        &stored, input->bytes, input->length, &fault)) {
     tell_fault(screen, &fault);
     return false;
   }
+  if (!fits_width(options, input->name, &stored)) {
+    return false;
+  }
+  screen->played.wide = stored.wide;
   screen->played.number = stored.number;
   screen->played.offset = stored.offset;
   memcpy(screen->played.frame, stored.frame, sizeof stored.frame);
@@ -63,7 +83,8 @@ static bool read_either(struct screen *screen, const struct options *options)
   screen->stored = input->length > 0
                    && (stored_begins(input->bytes, input->length)
                        || looks_text(input->bytes, input->length));
-  return screen->stored ? read_stored(screen) : read_trace(screen, options);
+  return screen->stored ? read_stored(screen, options)
+                        : read_trace(screen, options);
 }
 
 bool screen_read(struct screen *screen, const char *name,

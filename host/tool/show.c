@@ -1,38 +1,28 @@
 #include "commands.h"
 
-#include <stdbool.h>
-
 #include "dark.h"
-#include "edge.h"
 #include "stop.h"
+#include "view.h"
 
-static bool lit(const struct played *played, size_t row, size_t x)
-{
-  return played->frame[row * SSD1815B_COLUMNS + x] == 1;
-}
-
-/* Two rows of the frame, one above the other; below may be no row. */
-static void print_rows(FILE *out, const struct played *played, size_t above,
-                       bool has_below)
+/* Rows of the frame, two to a line; below the last there may be none. */
+static void print_rows(FILE *out, const struct view *view, size_t row,
+                       size_t rows)
 {
   static const char *const blocks[2][2] = { { " ", "▄" }, { "▀", "█" } };
-  fputs("│", out);
-  for (size_t x = 0; x < SSD1815B_COLUMNS; x++) {
-    bool below = has_below && lit(played, above + 1, x);
-    fputs(blocks[lit(played, above, x)][below], out);
+  for (size_t end = row + rows; row < end; row += 2) {
+    const uint8_t *above = view->places + row * view->columns;
+    const uint8_t *below = row + 1 < end ? above + view->columns : NULL;
+    fputs("│", out);
+    for (size_t x = 0; x < view->width; x++) {
+      fputs(blocks[above[x] == 1][below != NULL && below[x] == 1], out);
+    }
+    fputs("│\n", out);
   }
-  fputs("│\n", out);
 }
 
 void show(FILE *out, const struct played *played)
 {
-  edge_print(out, "┌", "┐");
-  for (size_t row = 0; row < SSD1815B_ROWS; row += 2) {
-    print_rows(out, played, row, true);
-  }
-  edge_print(out, "├", "┤");
-  print_rows(out, played, SSD1815B_ICON_ROW, false);
-  edge_print(out, "└", "┘");
+  view_draw(out, played->frame, played->wide, print_rows);
   dark_print(out, played);
   stop_print(out, played);
 }

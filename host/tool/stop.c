@@ -7,6 +7,7 @@
 #include "numbers.h"
 #include "origin.h"
 #include "plural.h"
+#include "sides.h"
 
 /* The record in which a run stopped. */
 struct record {
@@ -70,11 +71,26 @@ static void print_limit(FILE *out, uint8_t code, uint8_t n)
 }
 
 /* The recorded byte beside the one that the model reads. */
-static void print_read(FILE *out, const struct played *played)
+static void print_read(FILE *out, const struct played *played,
+                       const uint8_t *image)
 {
   fprintf(out, "  recorded is %02X, the model reads %02X (hex), at page %u,"
           " column %u\n", played->trace[played->offset], model_reads(played),
-          played->state[SSD1815B_PAGE], played->state[SSD1815B_COLUMN]);
+          image[SSD1815B_PAGE], image[SSD1815B_COLUMN]);
+}
+
+/* What a select record has in the place of one byte of 1 to 3. */
+static void print_select(FILE *out, const struct played *played,
+                         struct record record)
+{
+  if (record.length == 1) {
+    fprintf(out, "  the payload is %02X; 01 selects left, 02 right, 03 both\n",
+            played->trace[record.first + HEADER_SIZE]);
+  } else {
+    fprintf(out, "  the header says %zu byte%s of payload; a select record has"
+            " one, 01 for left, 02 for right, 03 for both\n", record.length,
+            plural(record.length));
+  }
 }
 
 /* What a header says that is refused. */
@@ -94,44 +110,72 @@ static void print_header(FILE *out, const struct played *played,
   looks_print(out, played, record.first);
 }
 
-/* What the model holds there, where that tells more than the number, and what
-** would have been taken. */
-static void print_particulars(FILE *out, const struct played *played,
-                              struct record record)
+/* Whether a run stopped at a record's header, and not at a byte of it. */
+static bool at_header(const struct played *played)
 {
+  return played->number == SSD1815B_HEADER_CUT
+         || played->number == SSD1815B_KIND_UNKNOWN
+         || played->number == SSD1815B_NO_SELECTION;
+}
+
+/* What a chip holds there, where that tells more than the number, and what it
+** would have taken. */
+static void print_chip(FILE *out, const struct played *played, enum side side)
+{
+  const uint8_t *image = played->chips[side].state;
+  uint8_t byte = played->trace[played->offset];
   switch (played->number) {
   case SSD1815B_OUTSIDE_TABLE:
-    print_neighbours(out, played->trace[played->offset]);
+    print_neighbours(out, byte);
     break;
   case SSD1815B_NO_PAGE:
     fputs("  B0 to B8 are the pages\n", out);
     break;
   case SSD1815B_NOT_ALLOWED:
-    print_limit(out, played->state[SSD1815B_AWAITED_CODE],
-                played->trace[played->offset]);
-    origin_print_code(out, played);
+    print_limit(out, image[SSD1815B_AWAITED_CODE], byte);
+    origin_print_code(out, played, side);
     break;
   case SSD1815B_CODE_AWAITED:
-    origin_print_code(out, played);
+    origin_print_code(out, played, side);
     break;
   case SSD1815B_COLUMN_ABOVE:
-    origin_print_column(out, played);
-    break;
-  case SSD1815B_READ_DIFFERS:
-    print_read(out, played);
+    origin_print_column(out, played, side);
     break;
   default:
-    print_header(out, played, record);
+    print_read(out, played, image);
     break;
   }
+}
+
+/* What tells more than the number. */
+static void print_particulars(FILE *out, const struct played *played,
+                              struct record record)
+{
+  if (played->number == SSD1815B_NO_SELECTION) {
+    print_select(out, played, record);
+    return;
+  }
+  if (at_header(played)) {
+    print_header(out, played, record);
+    return;
+  }
+  if (played->wide) {
+    selection_print(out, played);
+  }
+  if (played->number == SSD1815B_BOTH_SELECTED) {
+    fputs("  a read is from one chip: a select record before it names the left"
+          " (01) or the right (02)\n", out);
+    return;
+  }
+  refusing_print(out, played, record.kind);
+  print_chip(out, played, refusing_side(played, record.kind));
 }
 
 /* The record, and the place in it. */
 static void print_place(FILE *out, const struct played *played,
                         struct record record)
 {
-  if (played->number == SSD1815B_HEADER_CUT
-      || played->number == SSD1815B_KIND_UNKNOWN) {
+  if (at_header(played)) {
     fprintf(out, "  record %zu, its header", played->count);
   } else {
     fprintf(out, "  record %zu, %s, payload of %zu byte%s from %zu, its byte"
@@ -150,7 +194,7 @@ void stop_print(FILE *out, const struct played *played)
   }
   struct record record = record_at(played);
   fprintf(out, "refused %u at %zu (0x%zX): %s\n", played->number,
-          played->offset, played->offset, number_meaning(played->number));
+          played->offset, played->offset, number_meaning(played));
   print_particulars(out, played, record);
   print_place(out, played, record);
   excerpt_print(out, played, record.first, record.end, played->offset);

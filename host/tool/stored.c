@@ -6,6 +6,7 @@
 #include "listing.h"
 
 static const char head[] = "frame 132 65";
+static const char wide_head[] = "frame 264 65";
 static const char too_long[] = "input too long";
 
 /* A text, and how far it has been read. */
@@ -13,7 +14,9 @@ struct reader {
   const uint8_t *text;
   size_t length;
   size_t at;
-  size_t line;  /* in which that is, from 1 */
+  size_t line;       /* in which that is, from 1 */
+  bool wide;         /* the listing is of a wide frame */
+  bool wanted_wide;  /* such a one is expected */
   struct fault *fault;
 };
 
@@ -139,14 +142,14 @@ static bool take_run(struct reader *reader, uint8_t *row, size_t *from)
 {
   size_t first;
   size_t last;
-  struct range firsts = { "a run's first place", *from, SSD1815B_COLUMNS - 1,
+  size_t rightmost = columns_of(reader->wide) - 1;
+  struct range firsts = { "a run's first place", *from, rightmost,
                           *from > 0 ? ", apart from the run before" : "" };
   if (!take_number(reader, firsts, &first)
       || !take_word(reader, "-", "- and the run's last place")) {
     return false;
   }
-  struct range lasts = { "the run's last place", first, SSD1815B_COLUMNS - 1,
-                         "" };
+  struct range lasts = { "the run's last place", first, rightmost, "" };
   if (!take_number(reader, lasts, &last)) {
     return false;
   }
@@ -160,6 +163,7 @@ static bool take_row(struct reader *reader, uint8_t *frame, size_t *least)
 {
   size_t row;
   size_t from = 0;
+  size_t columns = columns_of(reader->wide);
   struct range rows = { "a row", *least, SSD1815B_ICON_ROW, ", or end" };
   if (*least > SSD1815B_ICON_ROW) {
     return fault_at(reader, "end");
@@ -169,24 +173,40 @@ static bool take_row(struct reader *reader, uint8_t *frame, size_t *least)
     return false;
   }
   do {
-    if (!take_run(reader, frame + row * SSD1815B_COLUMNS, &from)) {
+    if (!take_run(reader, frame + row * columns, &from)) {
       return false;
     }
-  } while (from < SSD1815B_COLUMNS && passes(reader, " "));
+  } while (from < columns && passes(reader, " "));
   *least = row + 1;
-  return take_newline(reader, from < SSD1815B_COLUMNS
+  return take_newline(reader, from < columns
                                 ? "a space and a run, or the end of the line"
                                 : "the end of the line");
+}
+
+/* The number of a refusal that a run answers, a wide one those of Order 4 too;
+** 11 and 12 are no run's. */
+static bool take_refused_number(struct reader *reader, size_t *number)
+{
+  size_t at = reader->at;
+  struct range numbers = { "a number", SSD1815B_OUTSIDE_TABLE,
+                           reader->wide ? SSD1815B_BOTH_SELECTED
+                                        : SSD1815B_READ_DIFFERS, "" };
+  if (!take_number(reader, numbers, number)) {
+    return false;
+  }
+  if (*number > SSD1815B_READ_DIFFERS && *number < SSD1815B_NO_SELECTION) {
+    reader->at = at;
+    return fault_at(reader, "a number that a run answers, 3 to 10, 13 or 14");
+  }
+  return true;
 }
 
 /* The line `refused NUMBER at OFFSET`, as a run from either start answers. */
 static bool take_refusal(struct reader *reader, struct stored *stored)
 {
   size_t number;
-  struct range numbers = { "a number", SSD1815B_OUTSIDE_TABLE,
-                           SSD1815B_READ_DIFFERS, "" };
   struct range offsets = { "an offset", 0, LISTING_LONGEST_TRACE - 1, "" };
-  if (!take_number(reader, numbers, &number)
+  if (!take_refused_number(reader, &number)
       || !take_word(reader, " at ", "at and an offset")
       || !take_number(reader, offsets, &stored->offset)) {
     return false;
@@ -195,21 +215,35 @@ static bool take_refusal(struct reader *reader, struct stored *stored)
   return take_newline(reader, "the end of the line");
 }
 
+/* Whether a listing is of a wide frame: its head says so, which comes after the
+** line of a refusal, if there is one. */
+static bool is_wide(struct reader reader)
+{
+  if (stands(&reader, "refused ")) {
+    while (reader.at < reader.length && reader.text[reader.at] != '\n') {
+      reader.at++;
+    }
+    passes(&reader, "\n");
+  }
+  return stands(&reader, wide_head);
+}
+
 /* The lines before the first row. */
 static bool take_head(struct reader *reader, struct stored *stored)
 {
-  const char *expected = "\"frame 132 65\" or \"refused NUMBER at OFFSET\"";
+  char expected[64];
+  const char *wanted = reader->wanted_wide ? wide_head : head;
   if (stands(reader, too_long)) {
     return fault_at(reader, "a frame, which list prints of no trace above"
                             " 65,536 bytes (diff takes the trace itself)");
   }
-  if (passes(reader, "refused ")) {
-    expected = "\"frame 132 65\"";
-    if (!take_refusal(reader, stored)) {
-      return false;
-    }
+  bool refused = passes(reader, "refused ");
+  if (refused && !take_refusal(reader, stored)) {
+    return false;
   }
-  return take_word(reader, head, expected)
+  snprintf(expected, sizeof expected, "\"%s\"%s", wanted,
+           refused ? "" : " or \"refused NUMBER at OFFSET\"");
+  return take_word(reader, reader->wide ? wide_head : head, expected)
          && take_newline(reader, "the end of the line");
 }
 
@@ -222,13 +256,15 @@ bool stored_begins(const uint8_t *text, size_t length)
          || stands(&reader, too_long);
 }
 
-bool stored_read(struct stored *stored, const uint8_t *text, size_t length,
-                 struct fault *fault)
+/* Reads a listing where one of a wide frame is expected, or is not. */
+static bool read_listing(struct stored *stored, const uint8_t *text,
+                         size_t length, bool wide, struct fault *fault)
 {
   struct reader reader = { .text = text, .length = length, .line = 1,
-                           .fault = fault };
+                           .wanted_wide = wide, .fault = fault };
   size_t least = 0;
-  *stored = (struct stored){ .number = SSD1815B_TAKEN };
+  reader.wide = is_wide(reader);
+  *stored = (struct stored){ .wide = reader.wide, .number = SSD1815B_TAKEN };
   if (!take_head(&reader, stored)) {
     return false;
   }
@@ -242,4 +278,16 @@ bool stored_read(struct stored *stored, const uint8_t *text, size_t length,
   }
   return reader.at == reader.length
          || fault_at(&reader, "nothing after end");
+}
+
+bool stored_read(struct stored *stored, const uint8_t *text, size_t length,
+                 struct fault *fault)
+{
+  return read_listing(stored, text, length, false, fault);
+}
+
+bool stored_read_wide(struct stored *stored, const uint8_t *text,
+                      size_t length, struct fault *fault)
+{
+  return read_listing(stored, text, length, true, fault);
 }

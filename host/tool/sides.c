@@ -1,0 +1,79 @@
+#include "sides.h"
+
+#include "kinds.h"
+
+const char *side_name(enum side side)
+{
+  return side == SIDE_LEFT ? "left" : "right";
+}
+
+const char *selection_name(uint8_t selection)
+{
+  return selection == SSD1815B_BOTH ? "both"
+         : side_name(selection == SSD1815B_LEFT ? SIDE_LEFT : SIDE_RIGHT);
+}
+
+void selection_print(FILE *out, const struct played *played)
+{
+  size_t at = 0;
+  size_t selected_at = 0;
+  size_t selected_in = played->count;
+  for (size_t record = 0; record < played->count; record++) {
+    size_t kind;
+    size_t next;
+    ssd1815b_record(played->trace, played->trace_len, at, &kind, &next);
+    if (kind == KIND_SELECT) {
+      selected_at = at;
+      selected_in = record;
+    }
+    at = next;
+  }
+  fprintf(out, "  selected: %s, ", selection_name(played->selection));
+  if (selected_in < played->count) {
+    fprintf(out, "since %zu (0x%zX) in record %zu\n", selected_at, selected_at,
+            selected_in);
+  } else {
+    fputs("as every run begins\n", out);
+  }
+}
+
+/* What a chip by itself answers to the command byte or the data byte written
+** at which the run stopped. */
+static uint8_t answer_of(const struct played *played, enum side side,
+                         size_t kind)
+{
+  struct chip chip = played->chips[side];
+  uint8_t byte = played->trace[played->offset];
+  return kind == KIND_COMMANDS
+           ? ssd1815b_command(chip.state, sizeof chip.state, chip.memory,
+                              sizeof chip.memory, byte)
+           : ssd1815b_write(chip.state, sizeof chip.state, chip.memory,
+                            sizeof chip.memory, byte);
+}
+
+enum side refusing_side(const struct played *played, size_t kind)
+{
+  if (played->selection != SSD1815B_BOTH) {
+    return side_read(played);
+  }
+  return answer_of(played, SIDE_LEFT, kind) != SSD1815B_TAKEN ? SIDE_LEFT
+                                                              : SIDE_RIGHT;
+}
+
+void refusing_print(FILE *out, const struct played *played, size_t kind)
+{
+  if (played->selection != SSD1815B_BOTH) {
+    return;
+  }
+  uint8_t left = answer_of(played, SIDE_LEFT, kind);
+  uint8_t right = answer_of(played, SIDE_RIGHT, kind);
+  if (left == right) {
+    fputs("  refused by both chips\n", out);
+  } else if (left != SSD1815B_TAKEN && right != SSD1815B_TAKEN) {
+    fprintf(out, "  refused by both chips, by the left with %u, which is the"
+            " number, and by the right with %u\n", left, right);
+  } else {
+    fprintf(out, "  refused by the %s chip alone, and so neither changes\n",
+            side_name(left != SSD1815B_TAKEN ? SIDE_LEFT : SIDE_RIGHT));
+  }
+}
