@@ -24,7 +24,9 @@ ifeq ($(origin TRACE),undefined)
   TRACE   := traces/screens/weighing.trace
   UPRIGHT ?= yes
 endif
-START = $(if $(filter-out yes,$(UPRIGHT)),$(error UPRIGHT is yes or left out, not $(UPRIGHT)),$(if $(UPRIGHT),--upright))
+# option NAME: --name if NAME is yes, nothing if it is left out.
+option = $(if $(filter-out yes,$($(1))),$(error $(1) is yes or left out, not $($(1))),$(if $($(1)),$(2)))
+SHOWN  = $(strip $(call option,UPRIGHT,--upright) $(call option,WIDE,--wide))
 
 ifeq ($(shell uname -m),x86_64)
   NATIVE := yes
@@ -81,22 +83,23 @@ SHARED   := $(OUT)/libssd1815b.so
 tool: $(TOOL)
 	@echo '$(TOOL)'
 
-# From the start of new cabinets, or with UPRIGHT=yes of old ones.  A refused
-# trace (status 1) is shown too; what cannot be shown (2) fails.  A typed source
+# From the start of new cabinets, or with UPRIGHT=yes of old ones; with WIDE=yes
+# on the two chips of a wide terminal.  A refused trace (status 1) is shown too; what cannot be shown (2) fails.  A typed source
 # (.txt) is made into a trace; it, and a trace that has one beside it, is told by
 # its lines.
 show: export TRACE := $(TRACE)
 show: export SSD1815B_TOOL := $(RUN) $(TOOL)
 show: $(TOOL)
 	@if [[ $$TRACE = *.txt || $$TRACE = *.trace && -e $${TRACE%.trace}.txt ]]; \
-	then traces/typed.py show $(START) "$$TRACE"; \
-	else $(RUN) $(TOOL) show $(START) "$$TRACE"; \
+	then traces/typed.py show $(SHOWN) "$$TRACE"; \
+	else $(RUN) $(TOOL) show $(SHOWN) "$$TRACE"; \
 	fi || [ $$? -eq 1 ]
 
 help:
 	@echo 'make               the tool: $(TOOL)'
 	@echo 'make show          a screen: TRACE=FILE for another trace, FILE.trace or a typed FILE.txt,'
-	@echo '                   and with it UPRIGHT=yes if it is from an old cabinet'
+	@echo '                   and with it UPRIGHT=yes if it is from an old cabinet,'
+	@echo '                   and WIDE=yes if it is of a wide terminal'
 	@echo 'make shared        the library as a shared object: $(SHARED)'
 	@echo 'make install       tool, header, archive, shared object, pkg-config file and man page'
 	@echo '                   under PREFIX (now $(PREFIX)); DESTDIR is put before it'
@@ -144,12 +147,13 @@ endif
 
 check-tool: $(TOOL) $(NO_PNG) $(PARTS) $(LISTINGS)
 	$(RUN) $(PARTS)
-	$(RUN) $(LISTINGS) traces/*/*.list
+	$(RUN) $(LISTINGS) $(filter-out traces/wide/%,$(wildcard traces/*/*.list))
 	host/test/tool.sh $(RUN) $(TOOL)
 	host/test/starts.sh $(RUN) $(TOOL)
 	host/test/refusals.sh $(RUN) $(TOOL)
 	host/test/pictures.sh '$(RUN) $(TOOL)' '$(RUN) $(NO_PNG)'
 	host/test/diff.sh '$(RUN) $(TOOL)' '$(RUN) $(NO_PNG)'
+	host/test/wide.sh '$(RUN) $(TOOL)' '$(RUN) $(NO_PNG)'
 	host/test/terminal.sh $(RUN) $(TOOL)
 	MODEL=$(MODEL) MAKE=$(MAKING) host/test/makefile.sh
 

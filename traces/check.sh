@@ -7,8 +7,11 @@
 # NAME.list from the new one; only a trace in recorded/ that is taken may be
 # without one, and no listing may be without its trace.  A trace in refusals/,
 # and any other whose name begins with a number and -, is refused with that
-# number; all others are taken whole, compared reads too.  Traces, listings and
-# the stored run of crates/listpack must be what make.py and pack.py make.
+# number; all others are taken whole, compared reads too.  Traces in wide/ are
+# those of a wide terminal: the run is that of the oracle's listing, and the
+# registers of each chip are by the oracle's run of its own events (halves.py).
+# Traces, listings and the stored run of crates/listpack must be what make.py and
+# pack.py make.
 #
 #   check.sh ORACLE TOOL...      TOOL... is the command that runs the tool
 set -euo pipefail
@@ -18,6 +21,7 @@ oracle=$1
 tool=("${@:2}")
 count=0
 failed=0
+has_python() { command -v python3 > /dev/null; }
 
 differ() {
   failed=$((failed + 1))
@@ -25,13 +29,22 @@ differ() {
   diff <(echo "$3") <(echo "$4") >&2 || true
 }
 
-# The run's number, offset and count, the image and the start, from the oracle's
-# `run` and from the tool's `state`, in one form.
+# The run's number, offset and count, the image or images and the start, from the
+# oracle's `run` and from the tool's `state`, in one form.
 oracle_outcome() { sed -n '1p; s/^state //p' "$here/$1"; echo "${1/-/ }"; }
 tool_outcome() {
   sed -nE 's/^run +[a-z]+, number ([0-9]+) at ([0-9]+), whole records ([0-9]+)$/\1 \2 \3/p' "$1"
-  sed -nE 's/^image +//p' "$1"
+  sed -nE 's/^image( of the (left|right))? +//p' "$1"
   sed -nE 's/^start +(upright|upside down),.*/\1/p' "$1"
+}
+
+# oracle_run OPTION...: the oracle's run of the trace; of a wide one both chips.
+oracle_run() {
+  if [ -z "$wide" ]; then
+    "$oracle" run "$@"
+  else
+    "$traces/halves.py" "$oracle" "$@"
+  fi < "$trace"
 }
 
 # What a run leaves, without the two directions: bytes 12 and 13 of the image.
@@ -42,18 +55,19 @@ trap 'rm -rf "$here"' EXIT
 
 # compare START LISTING OPTION...: the trace from one start, which the option
 # names, and the listing that is kept of it.  Leaves the oracle's listing in
-# $listed and its run in START.
+# $listed and its run in START.  $wide is --wide or nothing.
+# shellcheck disable=SC2086  # no word where $wide is empty
 compare() {
   local start=$1 list=$2 kept status expected found
   shift 2
-  listed=$("$oracle" list "$@" < "$trace")
+  listed=$("$oracle" list $wide "$@" < "$trace")
   if [ -e "$list" ]; then
     kept=$(cat "$list")
     [ "$listed" = "$kept" ] || differ "$trace" "$start: the oracle, and the listing kept" "$listed" "$kept"
   fi
 
   status=0
-  found=$("${tool[@]}" list "$@" "$trace" 2> /dev/null) || status=$?
+  found=$("${tool[@]}" list $wide "$@" "$trace" 2> /dev/null) || status=$?
   [ "$listed" = "$found" ] || differ "$trace" "$start: listing, oracle and tool" "$listed" "$found"
 
   expected=0
@@ -64,9 +78,10 @@ compare() {
   [ "$status" -eq "$expected" ] || differ "$trace" "$start: status of the tool" "$expected" "$status"
   : > "$here/$start"
   [ "$expected" -ne 2 ] || return 0
+  [ -z "$wide" ] || has_python || return 0
 
-  "$oracle" run "$@" < "$trace" > "$here/$start"
-  "${tool[@]}" state "$@" "$trace" > "$here/tool" || true
+  oracle_run "$@" > "$here/$start"
+  "${tool[@]}" state $wide "$@" "$trace" > "$here/tool" || true
   expected=$(oracle_outcome "$start")
   found=$(tool_outcome "$here/tool")
   [ "$expected" = "$found" ] || differ "$trace" "$start: run and registers, oracle and tool" "$expected" "$found"
@@ -75,6 +90,8 @@ compare() {
 while IFS= read -r trace; do
   count=$((count + 1))
   name=${trace%.trace}
+  wide=
+  [[ $trace != "$traces"/wide/* ]] || wide=--wide
   if [[ $name = *.upright ]]; then
     differ "$trace" "a trace is not named so, since $name.list is that of ${name%.upright}.trace" '' ''
     continue
@@ -93,7 +110,7 @@ while IFS= read -r trace; do
     */recorded/*)
       [[ $listed = frame* || $kept ]] ||
         differ "$trace" "the model does not take this recording (the tool's show says where)" '' "${listed%%$'\n'*}" ;;
-    */refusals/* | */[1-9]-*.trace | */10-*.trace)
+    */refusals/* | */[1-9]-*.trace | */1[0-9]-*.trace)
       [[ $listed = "refused $number at "* ]] || differ "$trace" 'not refused by its number' '' "$listed" ;;
     *)
       [[ $listed = frame* ]] || differ "$trace" 'not taken' '' "$listed" ;;
@@ -106,11 +123,11 @@ while IFS= read -r list; do
   [ -e "${name%.upright}.trace" ] || differ "$list" 'the listing of no trace' '' ''
 done < <(find "$traces" -name '*.list' | sort)
 
-if command -v python3 > /dev/null; then
+if has_python; then
   "$traces/make.py" --check || failed=$((failed + 1))
   "$traces/pack.py" --check || failed=$((failed + 1))
 else
-  echo 'traces: sources and pack not compared, as there is no python3'
+  echo 'traces: sources, pack and registers of wide traces not compared, as there is no python3'
 fi
 
 echo "traces: $count compared from both starts, $failed differences"

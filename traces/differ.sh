@@ -3,7 +3,8 @@
 # under this folder with itself and with the next one of its own folder, their
 # screens and their memories, from both starts.  The tool's lines are turned
 # back into the oracle's numbers, ROW FIRST LAST WAS IS and PLACE WAS IS; its
-# last line and its status must be those of just these lines.
+# last line and its status must be those of just these lines.  Traces in wide/ are
+# left out, as the oracle compares no wide screens: host/test/wide.sh has those.
 #
 #   differ.sh ORACLE TOOL...      TOOL... is the command that runs the tool
 set -euo pipefail
@@ -87,7 +88,7 @@ while IFS= read -r folder; do
       compare memory_numbers --memory --upright
     done
   done
-done < <(find "$traces" -mindepth 1 -maxdepth 1 -type d | sort)
+done < <(find "$traces" -mindepth 1 -maxdepth 1 -type d ! -name wide | sort)
 
 echo "differ: $count compared, $failed differences"
 [ "$count" -gt 0 ] && [ "$failed" -eq 0 ]

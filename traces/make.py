@@ -25,7 +25,9 @@ hexadecimal.
                     and one blank column, in the bits of one page
   read 00 7F        a record of bytes that the firmware read
   reset             a record of the reset pin
-  record 0005 00    a record of this kind (two bytes, the higher first)
+  select left       a record of a wide terminal: from here on the bus is for
+                    the left chip; right, or both
+  record 0006 00    a record of this kind (two bytes, the higher first)
   bytes 01 00       bytes as they are, where a record is to be broken
 
 traces/typed.py shows what a source leaves, and at which line it is refused.
@@ -58,6 +60,8 @@ FONT = {
 
 KINDS = {"command": 1, "write": 2, "read": 3}
 RESET_PIN = 4
+SELECT = 5
+SELECTIONS = {"left": 1, "right": 2, "both": 3}
 LONGEST_PAYLOAD = 65535
 
 
@@ -109,6 +113,13 @@ def letters(text):
     return columns
 
 
+def selection(words):
+    """The payload of a select record."""
+    if len(words) != 1 or words[0] not in SELECTIONS:
+        raise ValueError("select wants one word after it: left, right or both")
+    return bytes([SELECTIONS[words[0]]])
+
+
 def part(line):
     """The bytes of one line."""
     word, _, rest = line.replace("\t", " ").partition(" ")
@@ -121,13 +132,15 @@ def part(line):
         if words:
             raise ValueError("reset stands alone")
         return record(RESET_PIN, b"")
+    if word == "select":
+        return record(SELECT, selection(words))
     if word == "record":
         if not words:
             raise ValueError("record wants a kind, 4 hexadecimal digits")
         return record(number(words[0], 4), hexadecimal(words[1:]))
     if word == "bytes":
         return hexadecimal(words)
-    raise ValueError(f"a line begins with command, write, text, read, reset, record or bytes, not {word!r}")
+    raise ValueError(f"a line begins with command, write, text, read, reset, select, record or bytes, not {word!r}")
 
 
 class Line(typing.NamedTuple):

@@ -1,8 +1,8 @@
 #!/usr/bin/env python3
 """Makes the stored run of crates/listpack, which `rt ci` compares.
 
-`stdin` is a pack of every NAME.trace of this folder but recorded/, in the
-order of their names: for each the length of its name and of its trace (four
+`stdin` is a pack of every NAME.trace of this folder but recorded/ and wide/
+(the program for packs is for one chip), in the order of their names: for each the length of its name and of its trace (four
 bytes each, little-endian), the name, the trace.  An entry that is named
 `upright NAME` is listed from the old start, any other from the new one: a
 trace with NAME.upright.list stands there as `upright NAME`, one with NAME.list
@@ -19,6 +19,8 @@ import sys
 
 # What an entry's name begins with where it is listed from the old start.
 UPRIGHT = "upright "
+# Folders whose traces are not in the pack.
+LEFT_OUT = ("recorded", "wide")
 LONGEST_PACK = 131072
 
 
@@ -42,7 +44,7 @@ def stored_run(here):
     """What `stdin` and `stdout` must have."""
     pack, listed, count = b"", b"", 0
     names = sorted(path.relative_to(here).with_suffix("").as_posix()
-                   for path in here.glob("*/*.trace") if path.parent.name != "recorded")
+                   for path in here.glob("*/*.trace") if path.parent.name not in LEFT_OUT)
     for name in names:
         trace = (here / f"{name}.trace").read_bytes()
         for called, listing in listings(here, name):

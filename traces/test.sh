@@ -534,7 +534,7 @@ fault() {
   check "make.py: $1 ($2)" err_is "$source:2: $1"
   check "make.py: nothing is written ($2)" [ -z "$(find "$copy" -maxdepth 1 -name '*.trace')" ]
 }
-beginnings='a line begins with command, write, text, read, reset, record or bytes, not'
+beginnings='a line begins with command, write, text, read, reset, select, record or bytes, not'
 repeat='x wants one number from 1 to 65535 after it, and nothing else'
 fault "$beginnings 'Command'" 'Command AF'
 fault "$beginnings '12'" '12 34'

@@ -17,7 +17,8 @@ static const char all[] =
   "power-on with zero memory, but with column and row direction 1, as new\n"
   "cabinets hang the module upside down.  A recording from an old cabinet\n"
   "wants --upright, or its picture may be turned or mirrored; COMMAND --help\n"
-  "says more.  TRACE is a file of any length; without one, or with -, it is\n"
+  "says more.  A trace of a wide terminal, two chips side by side, wants\n"
+  "--wide.  TRACE is a file of any length; without one, or with -, it is\n"
   "standard input.\n"
   "\n"
   "  list      the lit places of the final frame, a line for each row; takes\n"
@@ -30,6 +31,7 @@ static const char all[] =
   "  check     a line for each trace: taken, or refused and where\n"
   "\n"
   "  --upright          the start of old cabinets, column and row direction 0\n"
+  "  --wide             a wide terminal: two chips, select records\n"
   "  --after N          stop after N whole records (not for check)\n"
   "  --scale N          picture, diff: each dot N by N, 1 to 64, else 4\n"
   "  --png              picture: PNG, not PBM\n"
@@ -55,6 +57,11 @@ static const char upright[] =
   "  --upright   start as old cabinets hang the module, column and row\n"
   "              direction 0; without it as new ones do, upside down, both 1\n";
 
+static const char wide[] =
+  "  --wide      a wide terminal: two chips side by side, each begun as above; a\n"
+  "              record of kind 5 selects left (01), right (02) or both (03),\n"
+  "              and before the first of them both are selected\n";
+
 static const char after[] =
   "  --after N   stop after N whole records; where there are fewer, all is\n"
   "              played, and standard error says so\n";
@@ -71,7 +78,8 @@ static const char which_start[] =
   "offset, memory and bytes read always are.  What a reader of a new cabinet\n"
   "sees upright is printed turned by half a turn, as rows and columns are\n"
   "counted on the module, and nothing turns it back.  The reset pin puts both\n"
-  "directions to 0; of the two, E2 puts the rows to 0 and leaves the columns.\n";
+  "directions to 0; of the two, E2 puts the rows to 0 and leaves the columns.\n"
+  "Of a wide terminal each half is turned by itself; they do not change places.\n";
 
 /* For those that do not. */
 static const char either_start[] =
@@ -80,19 +88,21 @@ static const char either_start[] =
 
 static const char *const usage[COMMANDS] = {
   [LIST] =
-    "usage: ssd1815b list [--upright] [--after N] [TRACE]\n"
+    "usage: ssd1815b list [--upright] [--wide] [--after N] [TRACE]\n"
     "\n"
     "Prints what document 01's listing program does: `refused R at O` if the\n"
     "run was stopped, `frame 132 65`, a line for each row with lit places (64\n"
-    "is the icon line), `end`.  More than 65,536 bytes are `input too long`,\n"
-    "status 2; with --after the bytes of those records count.  Why a run was\n"
-    "stopped is said on standard error.\n",
+    "is the icon line), `end`.  With --wide it is `frame 264 65`, and the right\n"
+    "chip's places are 132 to 263.  More than 65,536 bytes are `input too\n"
+    "long`, status 2; with --after the bytes of those records count.  Why a run\n"
+    "was stopped is said on standard error.\n",
   [SHOW] =
-    "usage: ssd1815b show [--upright] [--after N] [TRACE]\n"
+    "usage: ssd1815b show [--upright] [--wide] [--after N] [TRACE]\n"
     "\n"
     "Draws the final frame, two panel rows to a line, the icon line apart, on\n"
-    "a UTF-8 terminal 134 wide.  Below it: why all is dark, if it is, and why\n"
-    "the run was stopped, if it was.\n",
+    "a UTF-8 terminal 134 wide.  With --wide it is 266 wide; on a terminal that\n"
+    "is narrower its halves stand one below the other, the left first.  Below\n"
+    "it: why all is dark, or a half is, and why the run was stopped, if it was.\n",
   [PICTURE] =
     "usage: ssd1815b picture [OPTION...] [TRACE] > FILE.pbm\n"
     "       ssd1815b picture [OPTION...] -o FILE.png [TRACE]\n"
@@ -108,18 +118,20 @@ static const char *const usage[COMMANDS] = {
     "A tool that was built without PNG says so and writes PBM, to\n"
     "FILE.png.pbm where FILE.png is asked for.\n",
   [STATE] =
-    "usage: ssd1815b state [--upright] [--after N] [TRACE]\n"
+    "usage: ssd1815b state [--upright] [--wide] [--after N] [TRACE]\n"
     "\n"
     "Prints the registers by name, which panel rows are in use, whether the\n"
     "registers are power save, the image in hex, the start, and what the run\n"
-    "answered.\n",
+    "answered.  With --wide both chips', the left's first, and what is selected\n"
+    "at the end.\n",
   [MEMORY] =
-    "usage: ssd1815b memory [--upright] [--after N] [TRACE]\n"
+    "usage: ssd1815b memory [--upright] [--wide] [--after N] [TRACE]\n"
     "\n"
     "Prints the display memory in hex, page by page, 16 columns to a line; of\n"
     "page 8 bit 0 is the icon line.  Then a line for each byte that the trace\n"
     "read: its offset and record, page and column, what the model reads\n"
-    "(dummy for the dummy read) and what was recorded.\n",
+    "(dummy for the dummy read) and what was recorded.  With --wide both chips'\n"
+    "memories, the left's first, and for each read from which of them.\n",
   [DIFF] =
     "usage: ssd1815b diff [OPTION...] FIRST SECOND\n"
     "\n"
@@ -151,6 +163,16 @@ static const char *const usage[COMMANDS] = {
     "is a listing that begins with `refused`; standard error names it, the\n"
     "number and the offset, and without --refused the status is 2.\n"
     "\n"
+    "With --wide both are of wide terminals, a listing too (`frame 264 65`), and\n"
+    "they are compared half by half, the left first:\n"
+    "\n"
+    "  left half, row 12, 40 to 47: lit, then dark\n"
+    "  left half: 1 run differs, 8 places in 1 row\n"
+    "  right half: the same, no place differs\n"
+    "\n"
+    "Places count from 0 in each half; of the right half, list --wide prints\n"
+    "them 132 higher.  With --memory it is the left chip, then the right.\n"
+    "\n"
     "--upright is for both traces and for no listing: where both are listings\n"
     "it is refused.  Of an old and a new cabinet's trace, the listing of the\n"
     "one (list --upright) is compared with the trace of the other.\n"
@@ -162,7 +184,7 @@ static const char *const usage[COMMANDS] = {
     "a listing that list does not print, a wrong command line, or input or\n"
     "output that fails.\n",
   [CHECK] =
-    "usage: ssd1815b check [--upright] [TRACE...]\n"
+    "usage: ssd1815b check [--upright] [--wide] [TRACE...]\n"
     "\n"
     "Plays each trace by itself and prints a line for each:\n"
     "\n"
@@ -182,6 +204,7 @@ void help_print(FILE *out, enum command command)
   bool draws = command != MEMORY && command != CHECK;
   fputs(usage[command], out);
   fputs(upright, out);
+  fputs(wide, out);
   if (command != CHECK) {
     fputs(after, out);
   }
