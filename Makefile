@@ -24,7 +24,7 @@ ifeq ($(origin TRACE),undefined)
   TRACE   := traces/screens/weighing.trace
   UPRIGHT ?= yes
 endif
-# option NAME: --name if NAME is yes, nothing if it is left out.
+# $(call option,NAME,OPTION): the option if NAME is yes, nothing if it is left out.
 option = $(if $(filter-out yes,$($(1))),$(error $(1) is yes or left out, not $($(1))),$(if $($(1)),$(2)))
 SHOWN  = $(strip $(call option,UPRIGHT,--upright) $(call option,WIDE,--wide))
 
@@ -84,9 +84,9 @@ tool: $(TOOL)
 	@echo '$(TOOL)'
 
 # From the start of new cabinets, or with UPRIGHT=yes of old ones; with WIDE=yes
-# on the two chips of a wide terminal.  A refused trace (status 1) is shown too; what cannot be shown (2) fails.  A typed source
-# (.txt) is made into a trace; it, and a trace that has one beside it, is told by
-# its lines.
+# on the two chips of a wide terminal.  A refused trace (status 1) is shown too;
+# what cannot be shown (2) fails.  A typed source (.txt) is made into a trace; it,
+# and a trace that has one beside it, is told by its lines.
 show: export TRACE := $(TRACE)
 show: export SSD1815B_TOOL := $(RUN) $(TOOL)
 show: $(TOOL)

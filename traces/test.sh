@@ -1,6 +1,6 @@
 #!/usr/bin/env bash
-# Tests of make.py, typed.py, list.sh, pack.py, check.sh and differ.sh: what they
-# say of sources, listings, recordings, differences and starts that are not as
+# Tests of make.py, typed.py, list.sh, halves.py, pack.py, check.sh and differ.sh:
+# what they say of sources, listings, recordings, differences and starts that are not as
 # they should be, and that they overwrite nothing that is not theirs; and of
 # packs.py and program.sh, with stand-ins for the programs that they run.  All is
 # done in a temporary copy.
@@ -22,7 +22,7 @@ tool=("${@:2}")
 # A folder of traces with one trace in it, and its stored run.
 copy=$here/copy
 mkdir -p "$copy/traces/rules" "$copy/traces/recorded" "$copy/crates/listpack"
-cp "$traces"/{check.sh,list.sh,make.py,pack.py,program.sh,typed.py} "$copy/traces"
+cp "$traces"/{check.sh,halves.py,list.sh,make.py,pack.py,program.sh,typed.py} "$copy/traces"
 cp "$traces"/rules/bits.* "$copy/traces/rules"
 "$copy/traces/pack.py"
 check_traces() { ran "$copy/traces/check.sh" "$oracle" "${tool[@]}"; }
@@ -274,6 +274,69 @@ check 'a name with a number: said' err_has 'rules/3-named.trace: not refused by 
 rm "$copy/traces/rules"/3-named.*
 "$copy/traces/pack.py"
 
+# ---- traces of a wide terminal ----
+
+mkdir "$copy/traces/wide"
+right=$copy/traces/wide/right
+printf 'select right\ncommand AF 02\nwrite 03 01\n' > "$right.txt"
+"$copy/traces/make.py" > /dev/null
+touch "$right.list" "$right.upright.list"
+"$copy/traces/list.sh" "$oracle" > /dev/null
+check 'list.sh: wide, from the old start' [ "$(cat "$right.upright.list")" = $'frame 264 65\n0 134-135\n1 134-134\nend' ]
+check 'list.sh: wide, from the new start' [ "$(cat "$right.list")" = $'frame 264 65\n62 261-261\n63 260-261\nend' ]
+cp "$copy/crates/listpack/stdin" "$here/stdin"
+"$copy/traces/pack.py"
+check 'pack.py: wide traces are left out' cmp -s "$copy/crates/listpack/stdin" "$here/stdin"
+check_traces
+check 'check.sh: wide, as it should be' status_is 0
+check 'check.sh: wide, it is compared' out_has 'traces: 2 compared from both starts, 0 differences'
+
+# A tool without --wide, one that tells of another run, and a narrow listing.
+cat > "$here/narrow" <<'END'
+#!/usr/bin/env bash
+words=()
+for word in "$@"; do [ "$word" = --wide ] || words+=("$word"); done
+exec "${words[@]}"
+END
+cat > "$here/other" <<'END'
+#!/usr/bin/env bash
+set -o pipefail
+"$@" | sed -E "$OTHER"
+END
+chmod +x "$here"/{narrow,other}
+caught 'a tool without --wide' 'wide/right.trace: upright: listing, oracle and tool' "$oracle" "$here/narrow" "${tool[@]}"
+for other in 's/^(image of the left +)../\107/' 's/^(image of the right +..)../\107/' \
+  '/^image of the left/d' '/^image of the left/{h;d}; /^image of the right/G' 's/whole records 3/whole records 2/'; do
+  OTHER=$other caught "another run of a wide trace ($other)" 'wide/right.trace: upside-down: run and registers, oracle and tool' \
+    "$oracle" "$here/other" "${tool[@]}"
+done
+"$oracle" list < "$right.trace" > "$right.list"
+caught 'the narrow listing of a wide trace' 'wide/right.trace: upside-down: the oracle, and the listing kept' "$oracle" "${tool[@]}"
+rm "$right.list"
+
+# Names that say a refusal.
+for number in 13 14; do
+  printf 'command AF\nrecord 0005 04\n' > "$copy/traces/wide/$number-named.txt"
+  "$copy/traces/make.py" > /dev/null
+  "$copy/traces/list.sh" "$oracle" > /dev/null
+  check_traces
+  check "a name with $number: status" status_is $((number - 13))
+  rm "$copy/traces/wide/$number-named".*
+done
+check 'a name with a number: said of a wide trace' err_has 'wide/14-named.trace: not refused by its number'
+
+# What each chip is left with, by halves.py: refused in the middle of a record that both have.
+printf 'write 11\nselect right\nwrite 22\nselect both\ncommand 81 05 B9 B3\n' > "$right.txt"
+"$copy/traces/make.py" > /dev/null
+ran "$copy/traces/halves.py" "$oracle" --upright < "$right.trace"
+check 'halves.py: status 0' status_is 0
+check 'halves.py: number, offset and whole records' line_is 1 '4 26 4'
+check 'halves.py: the left' line_is 2 'state 000100003F050400000000000000000000000000000001'
+check 'halves.py: its memory' line_is 3 "$("$oracle" run < <(bytes 01 00 02 00 11) | sed -n 3p)"
+check 'halves.py: the right' line_is 4 'state 000200003F050400000000000000000000000000000001'
+check 'halves.py: its memory too' line_is 5 "$("$oracle" run < <(bytes 02 00 02 00 11 22) | sed -n 3p)"
+rm -r "$copy/traces/wide"
+
 # ---- recordings are never written to ----
 
 # A recording with notes beside it, one of them a source, and what the glass showed.
@@ -366,6 +429,7 @@ makes() {
 makes '01 00 01 00 af 02 00 02 00 03 01' 'command AF  # on' '' 'write 03 01'
 makes '03 00 02 00 ab ab ab 00 00 04 00' 'write ab x 3' 'reset'
 makes '01 00 05 01 7f 01 00' 'record 0105 7F' 'bytes 01 00'
+makes '01 00 05 00 01 01 00 05 00 02 01 00 05 00 03' 'select left' 'select\tright # right' 'select both'
 makes '06 00 02 00 00 60 60 00 00 00 02 00 03 00 00 55' 'text .' 'read\t00 55'
 makes '01 00 01 00 af' '\xEF\xBB\xBFcommand AF\r'
 makes '' '# nothing'
@@ -539,6 +603,9 @@ repeat='x wants one number from 1 to 65535 after it, and nothing else'
 fault "$beginnings 'Command'" 'Command AF'
 fault "$beginnings '12'" '12 34'
 fault 'reset stands alone' 'reset 00'
+fault 'select wants one word after it: left, right or both' 'select'
+fault 'select wants one word after it: left, right or both' 'select 01'
+fault 'select wants one word after it: left, right or both' 'select left right'
 fault 'record wants a kind, 4 hexadecimal digits' 'record'
 fault "'12345' is not 4 hexadecimal digits" 'record 12345 00'
 fault "'5' is not 4 hexadecimal digits" 'record 5 00'

@@ -74,6 +74,26 @@ check 'start: of the same by its name, a new one' [ "$(cmp -s "$here/out" "$here
 ran "${make[@]}" help
 check 'start: help names it' grep -q 'UPRIGHT=yes' "$here/out"
 
+# ---- of a wide terminal ----
+
+bytes 01 00 01 00 AF 01 00 05 00 02 02 00 02 00 03 01 > "$trace"
+printf 'command AF\nselect right\nwrite 03 01\n' > "$here/typed.txt"
+for shown in "$trace" "$here/typed.txt"; do
+  ran "${make[@]}" show TRACE="$shown" WIDE=yes UPRIGHT=yes
+  check "wide: both halves (${shown##*/})" line_is 2 "│$(printf '%132s' '')█▀$(printf '%130s' '')│"
+  ran "${make[@]}" show TRACE="$shown" WIDE=yes
+  check "wide: from a new cabinet (${shown##*/})" line_is 33 "│$(printf '%262s' '')▄█│"
+  ran "${make[@]}" show TRACE="$shown"
+  check "wide: without its name (${shown##*/})" out_has '  kind 5 selects a chip of a wide terminal: --wide plays such a trace'
+done
+for wrong in no 1 Yes; do
+  ran "${make[@]}" show TRACE="$trace" WIDE="$wrong"
+  check "wide: WIDE=$wrong, status 2" status_is 2
+  check "wide: WIDE=$wrong, said" err_has "WIDE is yes or left out, not $wrong"
+done
+ran "${make[@]}" help
+check 'wide: help names it' grep -q 'WIDE=yes' "$here/out"
+
 # ---- help ----
 
 targets=$("${make[@]}" -pn help | sed -n 's/^\.PHONY: //p' | tr ' ' '\n' | sort -u)

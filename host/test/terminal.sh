@@ -1,7 +1,7 @@
 #!/usr/bin/env bash
 # Tests of the tool at a terminal, which util-linux's script plays: it waits
-# with a word, says how far long work is, sends no picture there, and draws where
-# screens differ in colours.
+# with a word, says how far long work is, sends no picture there, draws where
+# screens differ in colours, and a wide screen in halves where it does not fit.
 #
 #   terminal.sh TOOL...      the command that runs the tool
 set -euo pipefail
@@ -95,5 +95,34 @@ check 'diff: no colours in a pipe' [ "$(grep -c $'\033' "$here/out")" -eq 0 ]
 at_terminal "timeout --foreground 20 $tool diff $here/sample.trace -" < /dev/null
 check 'diff: one Ctrl-D ends it' status_is 1
 check 'diff: a word while it waits' out_says 'waiting for the bytes of a trace on standard input'
+
+# ---- a wide screen ----
+
+# Rows 0 and 1 at the left's last place, and at the right's first.
+bytes 03 00 01 00 AF 03 18 01 00 05 00 02 02 00 01 00 00 10 01 00 05 00 03 01 00 02 00 03 > "$here/wide.trace"
+wide="$tool show --wide --upright $here/wide.trace"
+said='ssd1815b: the screen is drawn 266 wide, and this terminal is'
+at_terminal "stty cols 266; $wide" < /dev/null
+check 'wide: fits in 266' line_shows 2 "│$(printf '%131s' '')██$(printf '%131s' '')│"
+check 'wide: fits in 266, nothing said' [ "$(grep -c ssd1815b "$here/out")" -eq 0 ]
+for columns in 265 134; do
+  at_terminal "stty cols $columns; $wide 2> $here/told" < /dev/null
+  check "wide: the halves in $columns, the left" line_shows 1 'left half'
+  check "wide: the halves in $columns, its last place" line_shows 3 "│$(printf '%131s' '')█│"
+  check "wide: the halves in $columns, the right" line_shows 38 'right half'
+  check "wide: the halves in $columns, its first place" line_shows 40 "│█$(printf '%131s' '')│"
+  check "wide: the halves in $columns, said" [ "$(cat "$here/told")" = "$said $columns: the halves stand one below the other" ]
+done
+at_terminal "stty cols 133; $wide 2> $here/told" < /dev/null
+check 'wide: too narrow for a half, said' \
+  [ "$(cat "$here/told")" = "$said 133: the halves stand one below the other, and do not fit either: each is 134 wide" ]
+at_terminal "stty cols 80; $wide | cat" < /dev/null
+check 'wide: whole in a pipe' line_shows 2 "│$(printf '%131s' '')██$(printf '%131s' '')│"
+check 'wide: whole in a pipe, nothing said' [ "$(grep -c ssd1815b "$here/out")" -eq 0 ]
+at_terminal "stty cols 80; $tool show --upright $here/sample.trace" < /dev/null
+check 'narrow: as it was, nothing said' [ "$(grep -c ssd1815b "$here/out")" -eq 0 ]
+at_terminal "stty cols 200; TERM=xterm $tool diff --wide --upright --show $here/wide.trace $here/sample.trace 2> $here/told" < /dev/null
+check 'wide: diff in halves, in colours' line_shows 40 "│$(cells 1 245 245)$(cells 1 214 16)$(cells 130 16 16)"$'\033[0m│'
+check 'wide: diff in halves, said' [ "$(cat "$here/told")" = "$said 200: the halves stand one below the other" ]
 
 checks_end terminal

@@ -216,7 +216,7 @@ static bool take_refusal(struct reader *reader, struct stored *stored)
 }
 
 /* Whether a listing is of a wide frame: its head says so, which comes after the
-** line of a refusal, if there is one. */
+** line of a refusal, if there is one; without a head it is as expected. */
 static bool is_wide(struct reader reader)
 {
   if (stands(&reader, "refused ")) {
@@ -225,14 +225,14 @@ static bool is_wide(struct reader reader)
     }
     passes(&reader, "\n");
   }
-  return stands(&reader, wide_head);
+  return stands(&reader, wide_head)
+         || (reader.wanted_wide && !stands(&reader, head));
 }
 
 /* The lines before the first row. */
 static bool take_head(struct reader *reader, struct stored *stored)
 {
   char expected[64];
-  const char *wanted = reader->wanted_wide ? wide_head : head;
   if (stands(reader, too_long)) {
     return fault_at(reader, "a frame, which list prints of no trace above"
                             " 65,536 bytes (diff takes the trace itself)");
@@ -241,9 +241,10 @@ static bool take_head(struct reader *reader, struct stored *stored)
   if (refused && !take_refusal(reader, stored)) {
     return false;
   }
+  const char *wanted = reader->wide ? wide_head : head;
   snprintf(expected, sizeof expected, "\"%s\"%s", wanted,
            refused ? "" : " or \"refused NUMBER at OFFSET\"");
-  return take_word(reader, reader->wide ? wide_head : head, expected)
+  return take_word(reader, wanted, expected)
          && take_newline(reader, "the end of the line");
 }
 
