@@ -7,9 +7,10 @@
 # NAME.list from the new one; only a trace in recorded/ that is taken may be
 # without one, and no listing may be without its trace.  A trace in refusals/,
 # and any other whose name begins with a number and -, is refused with that
-# number; all others are taken whole, compared reads too.  Traces in wide/ are
-# those of a wide terminal: the run is that of the oracle's listing, and the
-# registers of each chip are by the oracle's run of its own events (halves.py).
+# number; all others are taken whole, compared reads too.  Traces in wide/ and in
+# recorded/wide/ are those of a wide terminal: the run is that of the oracle's
+# listing, and the registers of each chip are by the oracle's run of its own
+# events (halves.py).
 # Traces, listings and the stored run of crates/listpack must be what make.py and
 # pack.py make.
 #
@@ -91,7 +92,9 @@ while IFS= read -r trace; do
   count=$((count + 1))
   name=${trace%.trace}
   wide=
-  [[ $trace != "$traces"/wide/* ]] || wide=--wide
+  case $trace in
+    "$traces"/wide/* | "$traces"/recorded/wide/*) wide=--wide ;;
+  esac
   if [[ $name = *.upright ]]; then
     differ "$trace" "a trace is not named so, since $name.list is that of ${name%.upright}.trace" '' ''
     continue

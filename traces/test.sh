@@ -337,6 +337,16 @@ check 'halves.py: the right' line_is 4 'state 000200003F050400000000000000000000
 check 'halves.py: its memory too' line_is 5 "$("$oracle" run < <(bytes 02 00 02 00 11 22) | sed -n 3p)"
 rm -r "$copy/traces/wide"
 
+# A recording of a wide terminal, where it belongs and where not.
+mkdir "$copy/traces/recorded/wide"
+bytes 01 00 05 00 02 01 00 01 00 AF > "$copy/traces/recorded/wide/site.trace"
+check_traces
+check 'recording: wide, taken' status_is 0
+mv "$copy/traces/recorded/wide/site.trace" "$copy/traces/recorded/site.trace"
+check_traces
+check 'recording: wide, among those of one chip' err_has 'recorded/site.trace: the model does not take this recording'
+rm -r "$copy/traces/recorded"/{wide,site.trace}
+
 # ---- recordings are never written to ----
 
 # A recording with notes beside it, one of them a source, and what the glass showed.

@@ -12,6 +12,7 @@ read -ra without <<< "$2"
 # shellcheck source=host/test/checks.sh
 . "$(dirname "$0")/checks.sh"
 traces=$(realpath "$(dirname "$0")/../../traces/wide")
+readme=$(realpath "$(dirname "$0")/../README.md")
 tool[-1]=$(realpath "${tool[-1]}")
 without[-1]=$(realpath "${without[-1]}")
 cd "$here"
@@ -396,6 +397,20 @@ run list --wide <(bytes 00 00 09 09)
 check 'looks: kinds 1 to 5' err_has 'a record begins with the length of its payload and its kind, 1 to 5,'
 run list --wide <(bytes 00 01 00 05 01)
 check 'looks: the higher byte first' err_has 'a trace whose numbers have their higher byte first'
+
+# ---- what host/README.md shows ----
+
+# shown FIRST_LINE: the lines of the README from this one to the end of its block.
+shown() { awk -v first="$1" '$0 == first { on = 1 } on && /^```/ { exit } on' "$readme"; }
+run show --wide --upright "$traces/weighing.trace"
+# Columns 81 to 139 of rows 24 to 31, after the edge.
+check 'README: the text over the middle' \
+  [ "$(shown '█▀▀▀▄ █▀▀▀▀ ▄▀▀▀▄  ▀█▀  █▀▀▀▄ █▀▀▀▀       ▀▀▀█▀ █▀▀▀▀ █▀▀▀▀')" \
+    = "$(sed -n 14,17p out | LC_ALL=C.UTF-8 sed -E 's/^.{82}(.{59}).*/\1/; s/ +$//')" ]
+run list --wide "$traces/6-by-right-alone.trace"
+check 'README: which chip refused' [ "$(shown "$(head -n 1 err)")" = "$(head -n 4 err)" ]
+run diff --wide --upright "$traces/both-at-once.trace" "$traces/left-alone.trace"
+check 'README: half by half' [ "$(shown "$(head -n 1 out)")" = "$(cat out)" ]
 
 # ---- longer than what is played at once ----
 
