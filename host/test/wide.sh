@@ -244,7 +244,8 @@ says 'refused 9 at 0 (0x0): kind not 1 to 5, or kind 4 with a payload'
 says '  selected: both, since 10 (0xA) in record 2'
 says '  refused by the right chip alone, and so neither changes'
 says '  awaited is the n of 81 (contrast), a command byte, since 9 (0x9) in record 1'
-{ selects 01; commands 0F 18; selects 02; commands 05; selects 03; writes FF; } > mine.trace
+# The right's column was above 131 later, and is not any more.
+{ selects 01; commands 0F 18; selects 02; commands 0F 18 00 10; selects 03; writes FF; } > mine.trace
 says '  refused by the left chip alone, and so neither changes'
 says '  the column is 143, above 131 since 10 (0xA) in record 1: 18 (high four bits of the column) made it 143 from 15'
 commands B9 > mine.trace
