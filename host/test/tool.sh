@@ -276,7 +276,7 @@ for command in list show picture state memory diff check; do
   helps $command -h "$here/sample.trace"
   check "help: the same of $command -h" cmp -s "$here/out" "$here/help"
 done
-for option in --upright --after --scale --png --output --memory --show --picture --brief --refused --; do
+for option in --upright --wide --after --scale --png --output --memory --show --picture --brief --refused --; do
   check "help: names $option" grep -q -- "^  .*$option" <("${tool[@]}" --help)
 done
 run --version < /dev/null

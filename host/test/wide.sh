@@ -82,6 +82,10 @@ for command in list show state memory check; do
   run "$command" --wide=yes both.trace
   check "$command: --wide takes no value" err_has 'no value is taken by --wide'
 done
+for command in list show picture state memory diff check; do
+  run "$command" --help
+  check "$command: the help names it" grep -q -- '^  --wide ' out
+done
 # The last record is a select record, which changes nothing that is seen.
 answers 0 $'frame 264 65\n0 0-1 132-133\n1 0-0 132-132\nend' list --wide --upright <(cat both.trace; selects 02)
 # One is selected, and the reset pin keeps that: AF and 0F are the left's alone.

@@ -58,7 +58,7 @@ static const char upright[] =
   "              direction 0; without it as new ones do, upside down, both 1\n";
 
 static const char wide[] =
-  "  --wide      a wide terminal: two chips side by side, each begun as above; a\n"
+  "  --wide      a wide terminal: two chips side by side, each begun so; a\n"
   "              record of kind 5 selects left (01), right (02) or both (03),\n"
   "              and before the first of them both are selected\n";
 
@@ -79,7 +79,8 @@ static const char which_start[] =
   "sees upright is printed turned by half a turn, as rows and columns are\n"
   "counted on the module, and nothing turns it back.  The reset pin puts both\n"
   "directions to 0; of the two, E2 puts the rows to 0 and leaves the columns.\n"
-  "Of a wide terminal each half is turned by itself; they do not change places.\n";
+  "Of a wide terminal each half is turned by itself, and they do not change\n"
+  "places.\n";
 
 /* For those that do not. */
 static const char either_start[] =
@@ -92,17 +93,18 @@ static const char *const usage[COMMANDS] = {
     "\n"
     "Prints what document 01's listing program does: `refused R at O` if the\n"
     "run was stopped, `frame 132 65`, a line for each row with lit places (64\n"
-    "is the icon line), `end`.  With --wide it is `frame 264 65`, and the right\n"
-    "chip's places are 132 to 263.  More than 65,536 bytes are `input too\n"
-    "long`, status 2; with --after the bytes of those records count.  Why a run\n"
-    "was stopped is said on standard error.\n",
+    "is the icon line), `end`.  With --wide it is `frame 264 65`, and the\n"
+    "right chip's places are 132 to 263.  More than 65,536 bytes are `input\n"
+    "too long`, status 2; with --after the bytes of those records count.  Why\n"
+    "a run was stopped is said on standard error.\n",
   [SHOW] =
     "usage: ssd1815b show [--upright] [--wide] [--after N] [TRACE]\n"
     "\n"
     "Draws the final frame, two panel rows to a line, the icon line apart, on\n"
-    "a UTF-8 terminal 134 wide.  With --wide it is 266 wide; on a terminal that\n"
-    "is narrower its halves stand one below the other, the left first.  Below\n"
-    "it: why all is dark, or a half is, and why the run was stopped, if it was.\n",
+    "a UTF-8 terminal 134 wide.  With --wide it is 266 wide; on a terminal\n"
+    "that is narrower its halves stand one below the other, the left first.\n"
+    "Below it: why all is dark, or a half is, and why the run was stopped, if\n"
+    "it was.\n",
   [PICTURE] =
     "usage: ssd1815b picture [OPTION...] [TRACE] > FILE.pbm\n"
     "       ssd1815b picture [OPTION...] -o FILE.png [TRACE]\n"
@@ -122,16 +124,17 @@ static const char *const usage[COMMANDS] = {
     "\n"
     "Prints the registers by name, which panel rows are in use, whether the\n"
     "registers are power save, the image in hex, the start, and what the run\n"
-    "answered.  With --wide both chips', the left's first, and what is selected\n"
-    "at the end.\n",
+    "answered.  With --wide those of both chips, the left's first, and what\n"
+    "is selected at the end.\n",
   [MEMORY] =
     "usage: ssd1815b memory [--upright] [--wide] [--after N] [TRACE]\n"
     "\n"
     "Prints the display memory in hex, page by page, 16 columns to a line; of\n"
     "page 8 bit 0 is the icon line.  Then a line for each byte that the trace\n"
     "read: its offset and record, page and column, what the model reads\n"
-    "(dummy for the dummy read) and what was recorded.  With --wide both chips'\n"
-    "memories, the left's first, and for each read from which of them.\n",
+    "(dummy for the dummy read) and what was recorded.  With --wide the\n"
+    "memories of both chips, the left's first, and which of them each byte\n"
+    "was read from.\n",
   [DIFF] =
     "usage: ssd1815b diff [OPTION...] FIRST SECOND\n"
     "\n"
@@ -163,8 +166,8 @@ static const char *const usage[COMMANDS] = {
     "is a listing that begins with `refused`; standard error names it, the\n"
     "number and the offset, and without --refused the status is 2.\n"
     "\n"
-    "With --wide both are of wide terminals, a listing too (`frame 264 65`), and\n"
-    "they are compared half by half, the left first:\n"
+    "With --wide both are of wide terminals, a listing too (`frame 264 65`),\n"
+    "and they are compared half by half, the left first:\n"
     "\n"
     "  left half, row 12, 40 to 47: lit, then dark\n"
     "  left half: 1 run differs, 8 places in 1 row\n"

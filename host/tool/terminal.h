@@ -23,12 +23,6 @@ static inline size_t columns_of(bool wide)
   return wide ? SSD1815B_WIDE_COLUMNS : SSD1815B_COLUMNS;
 }
 
-/* Places of the whole frame. */
-static inline size_t frame_size_of(bool wide)
-{
-  return wide ? SSD1815B_WIDE_FRAME_SIZE : SSD1815B_FRAME_SIZE;
-}
-
 /* What is selected before the first record. */
 static inline uint8_t first_selection(bool wide)
 {
