@@ -581,6 +581,16 @@ for text in 'command B9' 'notes, and no source' '# notes'; do
   check "typed.py: a trace beside another text is shown ($text)" [ -n "$(line_of 'refused 4 at 8')" ]
   check "typed.py: a trace beside another text, without lines ($text)" [ -z "$(line_of '.*mine.txt')" ]
 done
+# Of a wide terminal: the lines of what was selected, and of what is awaited.
+printf 'select right\ncommand 81\nselect both\nwrite 00\n' > "$own/wide.txt"
+typed --wide "$own/wide.txt"
+check 'typed.py: --wide, the line' out_has "$own/wide.txt:4: write 00"
+check 'typed.py: --wide, what is selected' out_has "  $own/wide.txt:3: select both"
+check 'typed.py: --wide, what is awaited' out_has "  $own/wide.txt:2: command 81"
+typed "$own/wide.txt"
+check 'typed.py: without --wide, the line' out_has "$own/wide.txt:1: select right"
+rm "$own/wide.txt"
+
 rm "$own/mine.txt"
 typed "$own/mine.trace"
 check 'typed.py: a trace by itself' [ -n "$(line_of 'refused 4 at 8')" ]

@@ -8,7 +8,8 @@
                                                FILE.txt, if it was made from that
 
 An OPTION is the tool's.  With --upright it begins as an old cabinet does,
-without as a new one.
+without as a new one; --wide is for a source of a wide terminal, one with select
+lines.
 
 Where the trace is refused, the line that the refused byte came from stands
 before the tool's own words, and that of an earlier byte after them:

@@ -231,9 +231,11 @@ reads 00 > mine.trace
 says 'refused 14 at 4 (0x4): a data read with both chips selected'
 says '  selected: both, as every run begins'
 says '  a read is from one chip: a select record before it names the left (01) or the right (02)'
+says '  no record selected anything before: if this is the trace of one chip, it is played without --wide'
 { selects 01; reads 00; selects 03; reads 55; } > mine.trace
 says 'refused 14 at 19 (0x13): a data read with both chips selected'
 says '  selected: both, since 10 (0xA) in record 2'
+check 'refused: of a trace that selects, no word of one chip' [ "$(grep -c 'without --wide' err)" -eq 0 ]
 says '  record 3, data read, payload of 1 byte from 19, its byte 0 is 55 (hex); records and bytes count from 0'
 # 8 goes before 13, and 14 before 6.
 bytes 02 00 05 00 01 > mine.trace

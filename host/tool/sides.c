@@ -13,25 +13,38 @@ const char *selection_name(uint8_t selection)
          : side_name(selection == SSD1815B_LEFT ? SIDE_LEFT : SIDE_RIGHT);
 }
 
-void selection_print(FILE *out, const struct played *played)
+/* The last select record of those done, its offset in *at; answers which record
+** it is, or how many are done where there is none. */
+static size_t last_select(const struct played *played, size_t *at)
 {
-  size_t at = 0;
-  size_t selected_at = 0;
-  size_t selected_in = played->count;
+  size_t found = played->count;
+  size_t first = 0;
   for (size_t record = 0; record < played->count; record++) {
     size_t kind;
     size_t next;
-    ssd1815b_record(played->trace, played->trace_len, at, &kind, &next);
+    ssd1815b_record(played->trace, played->trace_len, first, &kind, &next);
     if (kind == KIND_SELECT) {
-      selected_at = at;
-      selected_in = record;
+      found = record;
+      *at = first;
     }
-    at = next;
+    first = next;
   }
+  return found;
+}
+
+bool is_selected_by_record(const struct played *played)
+{
+  size_t at;
+  return last_select(played, &at) < played->count;
+}
+
+void selection_print(FILE *out, const struct played *played)
+{
+  size_t at = 0;
+  size_t record = last_select(played, &at);
   fprintf(out, "  selected: %s, ", selection_name(played->selection));
-  if (selected_in < played->count) {
-    fprintf(out, "since %zu (0x%zX) in record %zu\n", selected_at, selected_at,
-            selected_in);
+  if (record < played->count) {
+    fprintf(out, "since %zu (0x%zX) in record %zu\n", at, at, record);
   } else {
     fputs("as every run begins\n", out);
   }

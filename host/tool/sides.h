@@ -14,7 +14,11 @@ const char *side_name(enum side side);
 /* "left", "right" or "both". */
 const char *selection_name(uint8_t selection);
 
-/* A line about what was selected where the run stopped, and since when. */
+/* Whether a record selected what was selected where the run stopped, and not
+** the beginning of the run. */
+bool is_selected_by_record(const struct played *played);
+
+/* A line about what was selected there, and since when. */
 void selection_print(FILE *out, const struct played *played);
 
 /* The chip whose refusal the run answered, at a byte of a record of this

@@ -93,6 +93,17 @@ static void print_select(FILE *out, const struct played *played,
   }
 }
 
+/* What a read wants that both chips would answer. */
+static void print_read_of_both(FILE *out, const struct played *played)
+{
+  fputs("  a read is from one chip: a select record before it names the left"
+        " (01) or the right (02)\n", out);
+  if (!is_selected_by_record(played)) {
+    fputs("  no record selected anything before: if this is the trace of one"
+          " chip, it is played without --wide\n", out);
+  }
+}
+
 /* What a header says that is refused. */
 static void print_header(FILE *out, const struct played *played,
                          struct record record)
@@ -163,8 +174,7 @@ static void print_particulars(FILE *out, const struct played *played,
     selection_print(out, played);
   }
   if (played->number == SSD1815B_BOTH_SELECTED) {
-    fputs("  a read is from one chip: a select record before it names the left"
-          " (01) or the right (02)\n", out);
+    print_read_of_both(out, played);
     return;
   }
   refusing_print(out, played, record.kind);
