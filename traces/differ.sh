@@ -4,7 +4,8 @@
 # screens and their memories, from both starts.  The tool's lines are turned
 # back into the oracle's numbers, ROW FIRST LAST WAS IS and PLACE WAS IS; its
 # last line and its status must be those of just these lines.  Traces in wide/ are
-# left out, as the oracle compares no wide screens: host/test/wide.sh has those.
+# compared half by half: the oracle has each chip's own events (halves.py), and
+# the tool's lines are those of that half.
 #
 #   differ.sh ORACLE TOOL...      TOOL... is the command that runs the tool
 set -euo pipefail
@@ -61,23 +62,61 @@ count_numbers() {
        END { for (line in lines) sum++; print NR + 0, places + 0, sum + 0 }'
 }
 
-# compare NUMBERS OPTION...: the two traces by oracle and tool.
-compare() {
-  local numbers=$1 status=0 expected found
-  shift
-  count=$((count + 1))
-  "$oracle" differ "$@" "$first" "$second" > "$here/oracle" || { differ "the oracle fails ($*)" '' ''; exit 1; }
-  # A trace that is refused is compared as it stands there.
-  "${tool[@]}" diff --refused "$@" "$first" "$second" > "$here/tool" 2> "$here/said" || status=$?
+# half TRACE SIDE: the name of a file with the events of that chip.
+half() {
+  local name
+  name=$here/$(basename "$1").$2
+  [ -e "$name" ] || "$traces/halves.py" "$oracle" "$2" < "$1" > "$name"
+  echo "$name"
+}
+
+# one_side SIDE NUMBERS OPTION...: what the oracle and the tool say of one chip,
+# or of the only one where SIDE is empty, are the same.
+one_side() {
+  local side=$1 numbers=$2 one=$first other=$second expected found
+  shift 2
+  cp "$here/all" "$here/tool"
+  if [ -n "$side" ]; then
+    one=$(half "$first" "$side")
+    other=$(half "$second" "$side")
+    sed -nE "s/^$side (half|chip)[,:] //p" "$here/all" > "$here/tool"
+  fi
+  "$oracle" differ "$@" "$one" "$other" > "$here/oracle" || { differ "the oracle fails ($*)" '' ''; exit 1; }
   expected=$(cat "$here/oracle")
   found=$(sed '$d' "$here/tool" | "$numbers")
-  [ "$expected" = "$found" ] || differ "oracle and tool ($*)" "$expected" "$found"
-  expected="$(count_numbers < "$here/oracle"), status $((${#expected} > 0))"
-  found="$(sum_numbers < "$here/tool"), status $status"
-  [ "$expected" = "$found" ] || differ "counts and status, by the oracle's lines and the tool's ($*)" "$expected" "$found"
+  [ "$expected" = "$found" ] || differ "oracle and tool ($side $*)" "$expected" "$found"
+  expected=$(count_numbers < "$here/oracle")
+  found=$(sum_numbers < "$here/tool")
+  [ "$expected" = "$found" ] || differ "counts, by the oracle's lines and the tool's ($side $*)" "$expected" "$found"
+}
+
+# compare NUMBERS OPTION...: the two traces by oracle and tool; $wide is --wide and
+# $sides names the chips where there are two.
+compare() {
+  local numbers=$1 status=0 expected=0 side
+  shift
+  count=$((count + 1))
+  # A trace that is refused is compared as it stands there.
+  # shellcheck disable=SC2086  # no word where $wide is empty
+  "${tool[@]}" diff --refused $wide "$@" "$first" "$second" > "$here/all" 2> "$here/said" || status=$?
+  for side in "${sides[@]}"; do
+    one_side "$side" "$numbers" "$@"
+    [ ! -s "$here/oracle" ] || expected=1
+  done
+  [ "$expected" -eq "$status" ] || differ "status, by the oracle's lines and the tool's ($*)" "$expected" "$status"
 }
 
 while IFS= read -r folder; do
+  wide=
+  sides=('')
+  if [ "$folder" = "$traces/wide" ]; then
+    wide=--wide
+    sides=(left right)
+    if ! command -v python3 > /dev/null; then
+      echo 'differ: wide traces not compared, as there is no python3'
+      continue
+    fi
+  fi
   mapfile -t found < <(find "$folder" -maxdepth 1 -name '*.trace' | sort)
   for i in "${!found[@]}"; do
     first=${found[i]}
@@ -88,7 +127,7 @@ while IFS= read -r folder; do
       compare memory_numbers --memory --upright
     done
   done
-done < <(find "$traces" -mindepth 1 -maxdepth 1 -type d ! -name wide | sort)
+done < <(find "$traces" -mindepth 1 -maxdepth 1 -type d | sort)
 
 echo "differ: $count compared, $failed differences"
 [ "$count" -gt 0 ] && [ "$failed" -eq 0 ]

@@ -1,9 +1,12 @@
 #!/usr/bin/env python3
-"""halves.py ORACLE [--upright] < TRACE: what a wide trace leaves in each chip, by the oracle's run of one chip.
+"""A wide trace as two traces, one for each chip.
+
+  halves.py ORACLE left < TRACE           the left chip's own trace; or right
+  halves.py ORACLE [--upright] < TRACE    what each chip is left with, by the oracle's run of its own trace
 
 Document 02, Order 4: "Demand 2 reads for each chip over the events it was selected for".  So the events of each chip, up to the
-byte at which the oracle's wide listing stops, are put together as a trace of its own, which the oracle runs.  Prints what
-`oracle run` does: number, offset and whole records of the wide run, then state and memory of the left chip, then of the right.
+byte at which the oracle's wide listing stops, are put together as a trace of its own.  The second form prints as `oracle run`
+does: number, offset and whole records of the wide run, then state and memory of the left chip, then of the right.
 """
 
 import re
@@ -25,8 +28,8 @@ def stop_of(oracle, options, trace):
 
 
 def halves(trace, until):
-    """The traces of the left chip and of the right, of the bytes before an offset; and how many records end there."""
-    left, right, count, at, selected = b"", b"", 0, 0, SELECTIONS["both"]
+    """The trace of each chip, of the bytes before an offset; and how many records end there."""
+    own, count, at, selected = {"left": b"", "right": b""}, 0, 0, SELECTIONS["both"]
     while at < until:
         length, kind = (int.from_bytes(trace[place:place + 2], "little") for place in (at, at + 2))
         payload = trace[at + 4:min(at + 4 + length, until)]
@@ -34,25 +37,35 @@ def halves(trace, until):
         count += at <= until
         if kind == SELECT:
             selected = payload[0]
-        else:
-            left += record(kind, payload) if selected & SELECTIONS["left"] else b""
-            right += record(kind, payload) if selected & SELECTIONS["right"] else b""
-    return left, right, count
+            continue
+        for side in own:
+            if selected & SELECTIONS[side]:
+                own[side] += record(kind, payload)
+    return own, count
 
 
-def main(oracle, *options):
-    trace = sys.stdin.buffer.read()
+def print_runs(oracle, options, trace):
+    """What each chip is left with."""
     number, offset = stop_of(oracle, options, trace)
-    *both, count = halves(trace, offset)
+    own, count = halves(trace, offset)
     print(number, offset, count)
-    for half in both:
+    for half in own.values():
         answer, _, left = output(oracle, ["run", *options], half).partition("\n")
         if not answer.startswith("0 "):
             sys.exit(f"halves.py: the events of one chip are refused: {answer}")
         print(left, end="")
 
 
+def main(oracle, options):
+    trace = sys.stdin.buffer.read()
+    if options in (["left"], ["right"]):
+        own, _ = halves(trace, stop_of(oracle, [], trace)[1])
+        sys.stdout.buffer.write(own[options[0]])
+    else:
+        print_runs(oracle, options, trace)
+
+
 if __name__ == "__main__":
-    if len(sys.argv) < 2:
+    if len(sys.argv) < 2 or sys.argv[2:] not in ([], ["--upright"], ["left"], ["right"]):
         sys.exit(__doc__)
-    main(*sys.argv[1:])
+    main(sys.argv[1], sys.argv[2:])

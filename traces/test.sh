@@ -335,6 +335,15 @@ check 'halves.py: the left' line_is 2 'state 000100003F0504000000000000000000000
 check 'halves.py: its memory' line_is 3 "$("$oracle" run < <(bytes 01 00 02 00 11) | sed -n 3p)"
 check 'halves.py: the right' line_is 4 'state 000200003F050400000000000000000000000000000001'
 check 'halves.py: its memory too' line_is 5 "$("$oracle" run < <(bytes 02 00 02 00 11 22) | sed -n 3p)"
+# half SIDE BYTES...: the trace of one chip.
+half() {
+  "$copy/traces/halves.py" "$oracle" "$1" < "$right.trace" > "$here/half"
+  check "halves.py: the $1 chip's own trace" cmp -s "$here/half" <(bytes "${@:2}")
+}
+half left 01 00 02 00 11 02 00 01 00 81 05
+half right 01 00 02 00 11 01 00 02 00 22 02 00 01 00 81 05
+ran "$copy/traces/halves.py" "$oracle" both < "$right.trace"
+check 'halves.py: no such half' status_is 1
 rm -r "$copy/traces/wide"
 
 # A recording of a wide terminal, where it belongs and where not.
@@ -722,6 +731,34 @@ not_so a-b '62 131 131 1 0\n63 130 130 1 0\n64 131 131 0 1\n'
 not_so a-b '0 1 1 1 0\n1 0 0 1 0\n64 131 131 0 1\n'
 not_so memory-a-b '0 3 1\n1 1 0\n1187 0 255\n'
 not_so memory-a-b '0 3 1\n1 1 0\n1186 0 1\n'
+# Of a wide terminal, half by half: the left has a's picture and the right b's, and the other way round.
+mkdir "$pairs/traces/wide"
+cp "$traces/halves.py" "$traces/make.py" "$pairs/traces"
+apart() { cat <(bytes 01 00 05 00 "$1") "$pairs/traces/folder/a.trace" <(bytes 01 00 05 00 "$2") "$pairs/traces/folder/b.trace"; }
+apart 01 02 > "$pairs/traces/wide/a.trace"
+apart 02 01 > "$pairs/traces/wide/b.trace"
+# The oracle itself, or one that finds no difference between a half and another.
+wide_differs() { ran "$pairs/traces/differ.sh" "$@"; }
+mv "$pairs/traces/folder" "$pairs"
+wide_differs "$oracle" "${tool[@]}"
+check 'differ.sh: wide, as it should be' status_is 0
+check 'differ.sh: wide, each with itself and with the next' out_is 'differ: 12 compared, 0 differences'
+cat > "$pairs/blind" <<END
+#!/bin/sh
+[ "\$1" = differ ] || exec "$oracle" "\$@"
+END
+chmod +x "$pairs/blind"
+wide_differs "$pairs/blind" "${tool[@]}"
+check 'differ.sh: wide, an oracle that finds nothing, fails' status_is 1
+check 'differ.sh: wide, of the left' err_has 'oracle and tool (left '
+check 'differ.sh: wide, of the right' err_has 'oracle and tool (right --memory --upright)'
+OTHER='s/^left/up/; s/^right/left/; s/^up/right/' wide_differs "$oracle" "$here/other" "${tool[@]}"
+check 'differ.sh: wide, one half for the other, fails' status_is 1
+wide_differs "$oracle" "$here/narrow" "${tool[@]}"
+check 'differ.sh: wide, a tool without --wide, fails' status_is 1
+rm -r "$pairs/traces/wide"
+mv "$pairs/folder" "$pairs/traces"
+
 answers
 differs true
 check 'differ.sh: a tool that prints nothing, fails' status_is 1
