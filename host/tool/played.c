@@ -42,6 +42,7 @@ void start_chip(enum hung hung, uint8_t *state, uint8_t *memory)
   }
 }
 
+/* Starts one chip, or the two of a wide terminal. */
 static void begin(struct played *played, enum hung hung, bool wide)
 {
   *played = (struct played){ .hung = hung, .wide = wide,

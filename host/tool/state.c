@@ -44,6 +44,7 @@ static void tell_register(char *words, const uint8_t *image, int place)
   snprintf(words, LONGEST_WORDS, "%u%s", value, more);
 }
 
+/* Whether the registers are power save, and which. */
 static void tell_power_save(char *words, const uint8_t *image, int place)
 {
   static const char *const names[] = {

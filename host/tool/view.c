@@ -33,6 +33,7 @@ static bool in_halves(FILE *out)
   return true;
 }
 
+/* Draws one view, edges round it. */
 static void draw(FILE *out, const struct view *view, row_printer *print)
 {
   edge_print(out, "┌", view->width, "┐");
