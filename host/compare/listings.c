@@ -1,8 +1,8 @@
 /*
 ** Listings: the start that the case names, a run, the frame and its text, one
-** call after the other, of one chip and of two.  For one chip the tool's own
-** function (tool/listing.h) is asked for the same text; a trace that is too
-** long to be listed is for it alone to answer.
+** call after the other, of one chip and of two.  The tool's own function
+** (tool/listing.h) is asked for the same text; a trace that is too long to be
+** listed is for it alone to answer.
 */
 #include "cases.h"
 
@@ -16,7 +16,8 @@
 #include "ssd1815b.h"
 #include "tally.h"
 
-/* A listing call: its frame, and a text that is enough for every listing. */
+/* A listing call: its frame, a text that is enough for every listing, and the
+** tool's function for the whole. */
 struct form {
   const char *name;
   uint8_t (*list)(uint8_t, size_t, const uint8_t *, size_t, uint8_t *, size_t,
@@ -25,12 +26,15 @@ struct form {
   size_t text_size;
   enum thing frame;
   enum call call[2]; /* by the start */
+  enum listing (*by_tool)(struct played *, enum hung, const uint8_t *, size_t,
+                          uint8_t *, size_t *);
 };
 
 /* The listing of one chip's frame. */
 static const struct form narrow = {
   "list", ssd1815b_list, SSD1815B_FRAME_SIZE, SSD1815B_TEXT_SIZE, THE_FRAME,
-  { [START_UPSIDE_DOWN] = CALL_LIST, [START_UPRIGHT] = CALL_LIST_UPRIGHT }
+  { [START_UPSIDE_DOWN] = CALL_LIST, [START_UPRIGHT] = CALL_LIST_UPRIGHT },
+  listing_of
 };
 
 /* The listing of a wide frame. */
@@ -38,7 +42,8 @@ static const struct form wide = {
   "wide_list", ssd1815b_wide_list, SSD1815B_WIDE_FRAME_SIZE,
   SSD1815B_WIDE_TEXT_SIZE, THE_WIDE_FRAME,
   { [START_UPSIDE_DOWN] = CALL_WIDE_LIST,
-    [START_UPRIGHT] = CALL_WIDE_LIST_UPRIGHT }
+    [START_UPRIGHT] = CALL_WIDE_LIST_UPRIGHT },
+  wide_listing_of
 };
 
 /* A case. */
@@ -150,30 +155,6 @@ static bool compare_calls(const struct listing_case *listing)
   return same;
 }
 
-/* Asks the tool for the same listing. */
-static void compare_tool(const struct listing_case *listing)
-{
-  static struct played played;
-  static uint8_t listed[SSD1815B_TEXT_SIZE];
-  size_t length;
-  report_call("the tool's listing");
-  listing_of(&played,
-             listing->start == START_UPRIGHT ? HUNG_UPRIGHT : HUNG_UPSIDE_DOWN,
-             listing->trace.at, listing->trace.length, listed, &length);
-  if (same_number(THE_LENGTH, listing->text.length, length)) {
-    same_bytes(THE_TEXT, listing->text.at, listed, length);
-  }
-}
-
-void compare_listing(struct body *body)
-{
-  struct listing_case listing = take_listing(body);
-  if (listing.trace.length > LISTING_LONGEST_TRACE
-      || compare_calls(&listing)) {
-    compare_tool(&listing);
-  }
-}
-
 /* ---- two chips ---- */
 
 /* Lends two chips that hold nothing sensible, and starts both as the case
@@ -187,8 +168,9 @@ static void start_both_as(enum start start)
   start_chip_as(start, &chip_rooms[RIGHT_STATE], &chip_rooms[RIGHT_MEMORY]);
 }
 
-/* Makes the calls of a program that lists a wide trace. */
-static void compare_wide_calls(const struct listing_case *listing)
+/* Makes the calls of a program that lists a wide trace; whether the text is as
+** expected. */
+static bool compare_wide_calls(const struct listing_case *listing)
 {
   uint8_t *frame = room_lend(&frame_room, blank, SSD1815B_WIDE_FRAME_SIZE);
   room_lend(&trace_room, listing->trace.at, listing->trace.length);
@@ -202,20 +184,44 @@ static void compare_wide_calls(const struct listing_case *listing)
   report_call("wide_draw");
   same_number(THE_NUMBER, SSD1815B_TAKEN,
               ssd1815b_wide_draw(LENT_CHIPS, frame, SSD1815B_WIDE_FRAME_SIZE));
-  compare_text(&wide, listing->start, stop, listing->text);
+  bool same = compare_text(&wide, listing->start, stop, listing->text);
   same_guards_of_chips();
+  return same;
 }
 
-/* The library has no call that answers a trace which is too long to be listed;
-** of those the stream's own text is compared. */
+/* ---- the tool ---- */
+
+/* Asks the tool for the same listing. */
+static void compare_tool(const struct form *form,
+                         const struct listing_case *listing)
+{
+  static struct played played;
+  static uint8_t listed[SSD1815B_WIDE_TEXT_SIZE];
+  size_t length;
+  report_call("the tool's listing");
+  form->by_tool(&played,
+                listing->start == START_UPRIGHT ? HUNG_UPRIGHT
+                                                : HUNG_UPSIDE_DOWN,
+                listing->trace.at, listing->trace.length, listed, &length);
+  if (same_number(THE_LENGTH, listing->text.length, length)) {
+    same_bytes(THE_TEXT, listing->text.at, listed, length);
+  }
+}
+
+void compare_listing(struct body *body)
+{
+  struct listing_case listing = take_listing(body);
+  if (listing.trace.length > LISTING_LONGEST_TRACE
+      || compare_calls(&listing)) {
+    compare_tool(&narrow, &listing);
+  }
+}
+
 void compare_wide_listing(struct body *body)
 {
-  static const char too_long[] = "input too long\n";
   struct listing_case listing = take_listing(body);
-  if (listing.trace.length <= LISTING_LONGEST_TRACE) {
-    compare_wide_calls(&listing);
-  } else if (listing.text.length != sizeof too_long - 1
-             || memcmp(listing.text.at, too_long, listing.text.length) != 0) {
-    malformed("a wide trace that is too long, and yet listed");
+  if (listing.trace.length > LISTING_LONGEST_TRACE
+      || compare_wide_calls(&listing)) {
+    compare_tool(&wide, &listing);
   }
 }
