@@ -28,7 +28,7 @@ fi
 # calls of single events are compiled apart from the run: each object then has
 # one call of what both use, and the compiler puts it into the run's loop
 # (DECISIONS 58); and so are the calls of the wide terminal (DECISIONS 136).
-own=(host hostbus hostwide)
+own=(host hostbus hostwide hostwiderun)
 under=$(sed -nE "s/^($(IFS='|'; echo "${own[*]}")): *//p" crates.txt | tr ' ' '\n' | sort -u | wc -l)
 mkdir -p target
 log=target/staticlib.log

@@ -116,10 +116,10 @@ cp Makefile "$copy"
 cp host/prove.sh host/ssd1815b.h host/cross.sh "$copy/host"
 cp bench/*.[ch] "$copy/bench"
 printf 'int main(void)\n{\n  return 0;\n}\n' > "$copy/host/tool/main.c"
-printf 'codes:\nbus: codes\nhost: bus codes\nhostbus: bus codes\nhostwide: bus codes\n' > "$copy/crates.txt"
+printf 'codes:\nbus: codes\nhost: bus codes\nhostbus: bus codes\nhostwide: bus codes\nhostwiderun: bus codes\n' > "$copy/crates.txt"
 cat > "$here/bin/rt" <<'END'
 #!/bin/sh
-case $* in 'staticlib host' | 'staticlib hostbus' | 'staticlib hostwide') ;; *) exit 2 ;; esac
+case $* in 'staticlib host' | 'staticlib hostbus' | 'staticlib hostwide' | 'staticlib hostwiderun') ;; *) exit 2 ;; esac
 cp ../out said
 echo 'fn codes::command_of: proved'
 echo 'logic=proved functions=5'
@@ -136,9 +136,9 @@ building=("${apart[@]}" PATH="$here/bin:$PATH" "$MAKE" --no-print-directory -C "
 ran "${building[@]}"
 check 'building: status 0' status_is 0
 check 'building: that it takes minutes is said before' grep -q "^proving the library's 5 crates: some minutes" "$copy/said"
-sed -i -E '1d; s/(host|hostbus|hostwide) \([0-9]* s\)/\1 (N s)/' "$here/out"
+sed -i -E '1d; s/(host|hostbus|hostwide|hostwiderun) \([0-9]* s\)/\1 (N s)/' "$here/out"
 check 'building: a line for each crate, and the tool' \
-  out_is $'proved codes (6 s)\nproved bus (unchanged since it was last proved)\nproved host (N s)\nproved hostbus (N s)\nproved hostwide (N s)\ntarget/c/proved/ssd1815b'
+  out_is $'proved codes (6 s)\nproved bus (unchanged since it was last proved)\nproved host (N s)\nproved hostbus (N s)\nproved hostwide (N s)\nproved hostwiderun (N s)\ntarget/c/proved/ssd1815b'
 check 'building: nothing on standard error' nothing_on err
 ran "${building[@]}"
 check 'building again: the tool alone' out_is target/c/proved/ssd1815b

@@ -3,4 +3,3 @@ pub mod draw;
 pub mod events;
 pub mod list;
 pub mod page;
-pub mod run;

@@ -140,7 +140,8 @@ pub fn reset_pin(selection: Selection, registers: Both) -> WideStretch
 fn on_left(stretch: Stretch, right: Registers) -> WideStretch
     ensures { λ r. ⌜ r ≡ record { registers = record { left = stretch .registers; right = right }; count = stretch .count; number = stretch .number } ⌝ }
 {
-    let left = stretch.registers;
+    let left = parted(stretch.registers);
+    let right = parted(right);
     WideStretch {
         registers: Both { left, right },
         count: stretch.count,
@@ -152,7 +153,8 @@ fn on_left(stretch: Stretch, right: Registers) -> WideStretch
 fn on_right(stretch: Stretch, left: Registers) -> WideStretch
     ensures { λ r. ⌜ r ≡ record { registers = record { left = left; right = stretch .registers }; count = stretch .count; number = stretch .number } ⌝ }
 {
-    let right = stretch.registers;
+    let left = parted(left);
+    let right = parted(stretch.registers);
     WideStretch {
         registers: Both { left, right },
         count: stretch.count,
@@ -168,5 +170,36 @@ fn halted(number: u8, registers: Both) -> WideStretch
         registers,
         count: 0,
         number,
+    }
+}
+
+// The same registers, named one by one: the compiler then keeps each by itself, and a stretch touches those that it uses (DECISIONS 152).
+fn parted(registers: Registers) -> Registers
+    ensures { λ r. ⌜ r ≡ registers ⌝ }
+{
+    Registers {
+        page: registers.page,
+        column: registers.column,
+        start: registers.start,
+        offset: registers.offset,
+        multiplex: registers.multiplex,
+        contrast: registers.contrast,
+        ratio: registers.ratio,
+        power: registers.power,
+        bias: registers.bias,
+        quarter: registers.quarter,
+        held: registers.held,
+        phases: registers.phases,
+        column_direction: registers.column_direction,
+        row_direction: registers.row_direction,
+        entire: registers.entire,
+        reverse: registers.reverse,
+        on: registers.on,
+        indicator: registers.indicator,
+        mode: registers.mode,
+        awaited: registers.awaited,
+        modify: registers.modify,
+        saved: registers.saved,
+        fresh: registers.fresh,
     }
 }
