@@ -14,3 +14,7 @@ pub mod OneChip
 pub mod Conclusions
 -- how the calls of the code end
 pub mod CallCode
+-- how a call ends, in full
+pub mod Endings
+-- what a call leaves as it was
+pub mod WideUntouched

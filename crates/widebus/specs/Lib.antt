@@ -13,3 +13,8 @@ pub mod WideCalls
 pub mod WideStretch
 -- the page that is handed back
 pub mod Page
+-- 2. Laws.
+-- each number exactly when
+pub mod WideGiven
+-- what a call leaves as it was
+pub mod WideUntouched

@@ -1,0 +1,59 @@
+-- Documents 01 and 02, the numbers given, for the call of a single event over two chips: each number exactly when its line says so. What a chip's own call gives, and when, is bus/specs/Given.
+use Prim.Native.Nat.{ℕ, _≤_}
+use mathlib.Core.Path.{_≡_}
+use mathlib.Core.Bool.{true, false}
+use mathlib.Core.Logic.{_↔_, _⊎_, _≢_}
+use Rattle.constants.specs.Numbers.{taken, tooShort, outOfRange, columnAbove, noSelection, bothSelected}
+use Rattle.bus.specs.Image.{legal}
+use Rattle.bus.specs.Chip.{Event, dataRead, resetPulse}
+use Rattle.bus.specs.declared.calls.Reply.{Reply}
+use Rattle.widebus.specs.Pair.{Pair, Lent}
+use Rattle.widebus.specs.Asked.{anyShort}
+use Rattle.widebus.specs.WideCalls.{callOn, wideCall}
+
+-- What the call of an event replies, and the number in it.
+abbrev pub wideReplyTo : ℕ → Event → Pair Lent → Reply
+wideReplyTo number event all = wideCall number event all .reply
+
+abbrev pub wideNumber : ℕ → Event → Pair Lent → ℕ
+wideNumber number event all = wideReplyTo number event all .number
+
+-- What the call of one chip replies on what it is lent.
+abbrev pub replyOn : Event → Lent → Reply
+replyOn event one = callOn event one .reply
+
+-- Neither 1 nor 2 holds of what is lent: all of it long enough, and both images in their ranges, which a single reset-pin event does not ask.
+pub record TakenUp (event : Event) (all : Pair Lent) : Type 0 where
+  pub longEnough : anyShort all ≡ false
+  pub inRanges : event ≢ resetPulse → (legal (all .left .state) ≡ true) × (legal (all .right .state) ≡ true)
+
+-- Each selected chip takes the event, which is no read where both are selected.
+abbrev pub EachTakes : ℕ → Event → Pair Lent → Type 0
+EachTakes number event all =
+    ((number ≡ 1) × (replyOn event (all .left) .number ≡ taken)) ⊎
+    ((number ≡ 2) × (replyOn event (all .right) .number ≡ taken)) ⊎
+    ((number ≡ 3) × (event ≢ dataRead) × (replyOn event (all .left) .number ≡ taken) × (replyOn event (all .right) .number ≡ taken))
+
+pub record WideGiven (number : ℕ) (event : Event) (all : Pair Lent) : Type 0 where
+  -- 0: each selected chip takes the event.
+  pub number0 : wideNumber number event all ≡ taken ↔ TakenUp event all × EachTakes number event all
+  -- 1: a lent state or memory of either chip is too short.
+  pub number1 : wideNumber number event all ≡ tooShort ↔ anyShort all ≡ true
+  -- 2: either image is out of its ranges, whichever chip is selected (not asked at a single reset-pin event), where 1 does not go first.
+  pub number2 : wideNumber number event all ≡ outOfRange ↔ (anyShort all ≡ false) × (event ≢ resetPulse) × ((legal (all .left .state) ≡ false) ⊎ (legal (all .right .state) ≡ false))
+  -- 13: the selection's number is not 1, 2 or 3, where neither 1 nor 2 goes first.
+  pub number13 : wideNumber number event all ≡ noSelection ↔ TakenUp event all × (number ≢ 1) × (number ≢ 2) × (number ≢ 3)
+  -- 14: a read with both selected, where none of these goes first.
+  pub number14 : wideNumber number event all ≡ bothSelected ↔ TakenUp event all × (number ≡ 3) × (event ≡ dataRead)
+  -- Otherwise, with the left chip selected, its own reply.
+  pub leftReplies : TakenUp event all → number ≡ 1 → wideReplyTo number event all ≡ replyOn event (all .left)
+  -- With the right chip selected, its own.
+  pub rightReplies : TakenUp event all → number ≡ 2 → wideReplyTo number event all ≡ replyOn event (all .right)
+  -- With both selected, the left's number where the left refuses,
+  pub leftRefuses : TakenUp event all → number ≡ 3 → event ≢ dataRead → replyOn event (all .left) .number ≢ taken → wideNumber number event all ≡ replyOn event (all .left) .number
+  -- else the right's.
+  pub rightReplyCounts : TakenUp event all → number ≡ 3 → event ≢ dataRead → replyOn event (all .left) .number ≡ taken → wideNumber number event all ≡ replyOn event (all .right) .number
+  -- No other number is given.
+  pub noOther : (wideNumber number event all ≤ columnAbove) ⊎ (wideNumber number event all ≡ noSelection) ⊎ (wideNumber number event all ≡ bothSelected)
+  -- A refusal, and each taken event but a read, replies byte 0 and not "dummy".
+  pub silent : (wideNumber number event all ≢ taken) ⊎ (event ≢ dataRead) → (wideReplyTo number event all .byte ≡ 0) × (wideReplyTo number event all .dummy ≡ false)
