@@ -7,14 +7,19 @@ use Prim.Native.Nat.{ℕ}
 use lib.Dec.{eqb}
 use borrow.Author.Tests.{eq-eqb, ne-eqb, eqb-true, eqb-false}
 use Rattle.constants.specs.Numbers.{taken, tooShort, outOfRange, noSelection, bothSelected}
-use Rattle.bus.specs.Image.{legal}
+use Rattle.bus.specs.Image.{short, legal}
 use Rattle.bus.specs.Chip.{Event, commandByte, dataWritten, dataRead, resetPulse}
+use Rattle.bus.specs.Events.{numberOf, byteOf, dummyOf}
+use Rattle.bus.specs.Calls.{replyOf}
+use Rattle.bus.specs.declared.calls.Reply.{Reply}
 use Rattle.widebus.specs.Selection.{selectionOf}
-use Rattle.widebus.specs.Pair.{Pair, _beside_, Lent}
+use Rattle.widebus.specs.Pair.{Pair, _beside_, at, Lent}
 use Rattle.widebus.specs.Asked.{anyShort}
 use Rattle.widebus.specs.Events.{isRead}
-use Rattle.widebus.specs.WideCalls.{wideCalled, refusedWide, leaves, callOn, callBoth, callSelected, asksRanges, wideCall}
-use Rattle.widebus.specs.WideGiven.{replyOn, TakenUp}
+use Rattle.widebus.specs.WideCalls.{WideCalled, wideCalled, refusedWide, leaves, callOn, callBoth, callSelected, asksRanges, wideCall}
+use Rattle.widebus.specs.WideGiven.{wideReplyTo, wideNumber, replyOn, TakenUp}
+use Rattle.widebus.specs.WideUntouched.{leftBy}
+use Rattle.widebus.specs.declared.selection.Side.{Side}
 
 -- what the tests on an event say
 is-read : (event : Event) → isRead event ≡ true → event ≡ dataRead
@@ -36,7 +41,7 @@ asks dataRead n = refl
 asks resetPulse n = absurd (n refl)
 
 -- an image is out of its ranges
-abbrev Outside : Pair Lent → Type 0
+abbrev pub Outside : Pair Lent → Type 0
 Outside all = (legal (all .left .state) ≡ false) ⊎ (legal (all .right .state) ≡ false)
 
 abbrev rangesFail : Event → Pair Lent → Bool
@@ -72,7 +77,35 @@ taken-up event all s r = record { longEnough = s; inRanges = λ n. by (legal (al
     by true false e = absurd (true≢false e)
     by false q e = absurd (true≢false e)
 
+-- what is taken up holds of each side
+pub of-side : (event : Event) (all : Pair Lent) → TakenUp event all → (side : Side) → (short (at side all .state) (at side all .memory) ≡ false) × (event ≢ resetPulse → legal (at side all .state) ≡ true)
+of-side event all t = by (short (all .left .state) (all .left .memory)) refl (t .longEnough)
+  where
+    by : (s : Bool) → short (all .left .state) (all .left .memory) ≡ s → (s || short (all .right .state) (all .right .memory)) ≡ false
+        → (side : Side) → (short (at side all .state) (at side all .memory) ≡ false) × (event ≢ resetPulse → legal (at side all .state) ≡ true)
+    by true s e side = absurd (true≢false e)
+    by false s e Side.Left = (s, λ n. t .inRanges n .0)
+    by false s e Side.Right = (e, λ n. t .inRanges n .1)
+
 module _ (number : ℕ) (event : Event) (all : Pair Lent) where
+  -- an ending says what is left and what is replied; a refusal leaves all, and says its number alone
+  pub leaves-so : {c : WideCalled} → wideCall number event all ≡ c → leftBy number event all ≡ c .lent
+  leaves-so e = ap (λ (c : WideCalled). c .lent) e
+
+  pub replies-so : {c : WideCalled} → wideCall number event all ≡ c → wideReplyTo number event all ≡ c .reply
+  replies-so e = ap (λ (c : WideCalled). c .reply) e
+
+  pub refusal-leaves : (n : ℕ) → wideCall number event all ≡ refusedWide n all → leftBy number event all ≡ all
+  unfolding refusedWide
+  refusal-leaves n e = leaves-so e
+
+  pub refusal-replies : (n : ℕ) → wideCall number event all ≡ refusedWide n all → wideReplyTo number event all ≡ record { number = n; byte = 0; dummy = false }
+  unfolding refusedWide replyOf numberOf byteOf dummyOf
+  refusal-replies n e = replies-so e
+
+  pub refusal-says : (n : ℕ) → wideCall number event all ≡ refusedWide n all → wideNumber number event all ≡ n
+  refusal-says n e = ap (λ (r : Reply). r .number) (refusal-replies n e)
+
   pub short-ends : anyShort all ≡ true → wideCall number event all ≡ refusedWide tooShort all
   unfolding wideCall
   short-ends s = rw s

@@ -16,5 +16,7 @@ pub mod Conclusions
 pub mod CallCode
 -- how a call ends, in full
 pub mod Endings
+-- each number exactly when
+pub mod WideGiven
 -- what a call leaves as it was
 pub mod WideUntouched

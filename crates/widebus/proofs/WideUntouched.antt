@@ -8,32 +8,25 @@ use lib.ListN.{length, drop}
 use Rattle.constants.specs.Sizes.{imageSize, memorySize}
 use Rattle.constants.specs.Numbers.{taken}
 use Rattle.bus.specs.Chip.{Event}
-use Rattle.bus.specs.Calls.{replyOf}
-use Rattle.bus.specs.Events.{numberOf}
+use Rattle.bus.specs.declared.calls.Reply.{Reply}
 use Rattle.bus.proofs.Untouched.{untouched}
 use Rattle.widebus.specs.Pair.{Pair, _beside_, at, Lent}
 use Rattle.widebus.specs.WideCalls.{WideCalled, refusedWide, leaves, callOn, wideCall}
 use Rattle.widebus.specs.WideGiven.{wideNumber, replyOn, TakenUp}
 use Rattle.widebus.specs.WideUntouched.{leftBy, WideUntouched}
 use Rattle.widebus.specs.declared.selection.Side.{Side}
-use Rattle.widebus.proofs.Endings.{Ending, tooShortFirst, rangesFirst, noneSelected, leftAlone, rightAlone, bothRead, leftRefuses, rightRefuses, bothTake, ending, short-ends, ranges-end, none-ends, left-ends, right-ends, read-ends, left-refuses, right-refuses, both-take}
+use Rattle.widebus.proofs.Endings.{Ending, tooShortFirst, rangesFirst, noneSelected, leftAlone, rightAlone, bothRead, leftRefuses, rightRefuses, bothTake, ending, leaves-so, replies-so, refusal-leaves, refusal-says, short-ends, ranges-end, none-ends, left-ends, right-ends, read-ends, left-refuses, right-refuses, both-take}
 
 -- a chip's own call that refuses leaves what it is lent
 own : (event : Event) (one : Lent) → replyOn event one .number ≢ taken → leaves (callOn event one) ≡ one
 own event one n = let u = untouched event (one .state) (one .memory) .refused n in rw (u .0, u .1)
 
 module _ (number : ℕ) (event : Event) (all : Pair Lent) where
-  -- the call's ending, in what it leaves and in its number
   later : {c : WideCalled} → wideCall number event all ≡ c → leftBy number event all ≡ c .lent
-  later e = ap (λ (c : WideCalled). c .lent) e
+  later = leaves-so number event all
 
-  gives-number : {c : WideCalled} → wideCall number event all ≡ c → wideNumber number event all ≡ c .reply .number
-  gives-number e = ap (λ (c : WideCalled). c .reply .number) e
-
-  -- a refusal leaves all
   kept : (n : ℕ) → wideCall number event all ≡ refusedWide n all → leftBy number event all ≡ all
-  unfolding refusedWide
-  kept n e = ap (λ (c : WideCalled). c .lent) e
+  kept = refusal-leaves number event all
 
   -- what each chip is left as: as it was, or as its own call leaves it
   each : (side : Side) (P : Lent → Type 0) → P (at side all) → P (leaves (callOn event (at side all))) → P (at side (leftBy number event all))
@@ -60,12 +53,12 @@ module _ (number : ℕ) (event : Event) (all : Pair Lent) where
   refused (tooShortFirst s) n = kept _ (short-ends number event all s)
   refused (rangesFirst s p o) n = kept _ (ranges-end number event all s p o)
   refused (noneSelected t a b c) n = kept _ (none-ends number event all t a b c)
-  refused (leftAlone t a) n = let e = left-ends number event all t a in rw (later e, own event (all .left) (λ z. n (gives-number e ∙ z)))
-  refused (rightAlone t a) n = let e = right-ends number event all t a in rw (later e, own event (all .right) (λ z. n (gives-number e ∙ z)))
+  refused (leftAlone t a) n = let e = left-ends number event all t a in rw (later e, own event (all .left) (λ z. n (ap (λ (r : Reply). r .number) (replies-so number event all e) ∙ z)))
+  refused (rightAlone t a) n = let e = right-ends number event all t a in rw (later e, own event (all .right) (λ z. n (ap (λ (r : Reply). r .number) (replies-so number event all e) ∙ z)))
   refused (bothRead t a r) n = kept _ (read-ends number event all t a r)
   refused (leftRefuses t a other l) n = kept _ (left-refuses number event all t a other l)
   refused (rightRefuses t a other l r) n = kept _ (right-refuses number event all t a other l r)
-  refused (bothTake t a other l r) n = absurd (n (gives-number (both-take number event all t a other l r) ∙ l))
+  refused (bothTake t a other l r) n = absurd (n (ap (λ (r : Reply). r .number) (replies-so number event all (both-take number event all t a other l r)) ∙ l))
 
   right-stays : Ending number event all → number ≡ 1 → leftBy number event all .right ≡ all .right
   right-stays (tooShortFirst s) n = rw (kept _ (short-ends number event all s))
@@ -89,10 +82,8 @@ module _ (number : ℕ) (event : Event) (all : Pair Lent) where
   left-stays (rightRefuses t a other l r) n = absurd (omega arith)
   left-stays (bothTake t a other l r) n = absurd (omega arith)
 
-  -- a refusal is not taken
   says : (n : ℕ) → wideCall number event all ≡ refusedWide n all → wideNumber number event all ≡ n
-  unfolding refusedWide replyOf numberOf
-  says n e = ap (λ (c : WideCalled). c .reply .number) e
+  says = refusal-says number event all
 
   both-change : Ending number event all → number ≡ 3 → wideNumber number event all ≡ taken → (leftBy number event all .left ≡ leaves (callOn event (all .left))) × (leftBy number event all .right ≡ leaves (callOn event (all .right)))
   both-change (tooShortFirst s) n z = absurd (omega (arith, says _ (short-ends number event all s), z))
