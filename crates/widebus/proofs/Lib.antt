@@ -20,3 +20,7 @@ pub mod Endings
 pub mod WideGiven
 -- what a call leaves as it was
 pub mod WideUntouched
+-- what the page call hands back
+pub mod PageLaws
+-- an event on the selected machines
+pub mod Chips

@@ -18,3 +18,7 @@ pub mod Page
 pub mod WideGiven
 -- what a call leaves as it was
 pub mod WideUntouched
+-- what the page call hands back
+pub mod PageLaws
+-- an event on the selected machines
+pub mod Chips
