@@ -29,7 +29,7 @@ module _ (number : ℕ) (event : Event) (all : Pair Lent) where
   kept = refusal-leaves number event all
 
   -- what each chip is left as: as it was, or as its own call leaves it
-  each : (side : Side) (P : Lent → Type 0) → P (at side all) → P (leaves (callOn event (at side all))) → P (at side (leftBy number event all))
+  pub each : (side : Side) (P : Lent → Type 0) → P (at side all) → P (leaves (callOn event (at side all))) → P (at side (leftBy number event all))
   each side P same called = by (ending number event all) side same called
     where
       all-kept : (n : ℕ) → wideCall number event all ≡ refusedWide n all → (side : Side) → P (at side all) → P (at side (leftBy number event all))

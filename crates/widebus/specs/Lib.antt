@@ -22,3 +22,7 @@ pub mod WideUntouched
 pub mod PageLaws
 -- an event on the selected machines
 pub mod Chips
+-- legal states stay legal
+pub mod WideStaysLegal
+-- one result for each call
+pub mod Settled
