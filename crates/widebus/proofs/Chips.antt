@@ -8,7 +8,7 @@ use Rattle.bus.specs.Chip.{Chip}
 use Rattle.bus.specs.Result.{Result, refuses, gives, onResult}
 use Rattle.bus.specs.Recorded.{Recorded, replay}
 use Rattle.widebus.specs.Pair.{Pair, _beside_}
-use Rattle.widebus.specs.Events.{toSelected, readsData, areBoth, replayOn}
+use Rattle.widebus.specs.Events.{toSelected, areBoth, replayOn}
 use Rattle.widebus.specs.Chips.{OnTheSelected, OnTheChips}
 use Rattle.widebus.specs.declared.selection.Selection.{Selection}
 use Rattle.widebus.proofs.Selected.{no-read}

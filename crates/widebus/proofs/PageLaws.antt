@@ -1,7 +1,7 @@
 -- What the page call hands back, by its tests.
 -- Assumes nothing.
-use mathlib.Core.Path.{_≡_, refl, sym, _∙_, ap}
-use mathlib.Core.Bool.{Bool, true, false, cond, _||_}
+use mathlib.Core.Path.{_≡_, refl, _∙_, ap}
+use mathlib.Core.Bool.{Bool, true, false}
 use mathlib.Core.Logic.{_↔_, _⊎_, inl, inr, ⊎-elim, _≢_}
 use mathlib.Core.List.{List, []}
 use Prim.Native.Nat.{ℕ, _+_, _*_, _≤_, _<_}
@@ -12,10 +12,9 @@ use lib.ListN.{length, getD, take, drop, length-drop}
 use lib.Seq.{length-take-le, getD-take, getD-drop}
 use Rattle.constants.specs.Sizes.{width, pages, memorySize}
 use Rattle.constants.specs.Numbers.{taken, tooShort, noPage}
-use Rattle.bus.specs.Chip.{Event}
-use Rattle.widebus.specs.Pair.{Pair, _beside_, at, Lent}
+use Rattle.widebus.specs.Pair.{_beside_, at, Lent}
 use Rattle.widebus.specs.Page.{Handed, handed, pageIn, pageOf}
-use Rattle.widebus.specs.PageLaws.{LongEnough, PageLaws, pageFrom, OneSidesPage}
+use Rattle.widebus.specs.PageLaws.{LongEnough, PageLaws, OneSidesPage}
 use Rattle.widebus.specs.WideUntouched.{leftBy}
 use Rattle.widebus.specs.declared.selection.Side.{Side}
 use Rattle.widebus.proofs.WideUntouched.{wideUntouched}

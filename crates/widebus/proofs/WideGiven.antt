@@ -1,12 +1,11 @@
 -- The numbers that a call over two chips gives, by how it ends.
 -- Assumes nothing.
 use mathlib.Core.Path.{_≡_, refl, sym, _∙_, ap}
-use mathlib.Core.Logic.{_↔_, _⊎_, inl, inr, ⊎-elim, _≢_}
+use mathlib.Core.Logic.{_⊎_, inl, inr, ⊎-elim, _≢_}
 use mathlib.Core.Bool.{true, false, true≢false}
 use Prim.Native.Nat.{ℕ, _≤_}
 use native.Mathlib.Omega.{arith}
 use Rattle.constants.specs.Numbers.{taken, tooShort, outOfRange, columnAbove, noSelection, bothSelected}
-use Rattle.bus.specs.Image.{legal}
 use Rattle.bus.specs.Chip.{Event, dataRead, resetPulse}
 use Rattle.bus.specs.declared.calls.Reply.{Reply}
 use Rattle.bus.proofs.Given.{given}

@@ -1,11 +1,11 @@
 -- Legal states stay legal under the calls over two chips, as each chip's own does.
 -- Assumes nothing.
-use mathlib.Core.Path.{_≡_, refl, sym, _∙_, ap}
+use mathlib.Core.Path.{_≡_, refl, sym, ap}
 use mathlib.Core.Bool.{false, true≢false}
-use mathlib.Core.Logic.{_⊎_, ⊎-elim, _≢_}
+use mathlib.Core.Logic.{_⊎_, ⊎-elim}
 use Prim.Native.Nat.{ℕ}
 use Rattle.constants.specs.Numbers.{taken}
-use Rattle.bus.specs.Chip.{Event, dataRead, resetPulse}
+use Rattle.bus.specs.Chip.{dataRead, resetPulse}
 use Rattle.bus.specs.Calls.{Called}
 use Rattle.bus.proofs.CallsOnChip.{callsOnChip}
 use Rattle.bus.proofs.StaysLegal.{staysLegal}
@@ -13,7 +13,7 @@ use Rattle.widebus.specs.Pair.{Pair, at, Lent}
 use Rattle.widebus.specs.Asked.{anyShort}
 use Rattle.widebus.specs.Events.{isRead}
 use Rattle.widebus.specs.WideCalls.{leaves, callOn}
-use Rattle.widebus.specs.WideGiven.{wideNumber, replyOn, TakenUp}
+use Rattle.widebus.specs.WideGiven.{replyOn, TakenUp}
 use Rattle.widebus.specs.WideUntouched.{leftBy}
 use Rattle.widebus.specs.WideStaysLegal.{IsAccepted, WideStaysLegal}
 use Rattle.widebus.specs.declared.selection.Side.{Side}

@@ -10,9 +10,9 @@ use Rattle.constants.specs.Numbers.{taken}
 use Rattle.bus.specs.Chip.{Event}
 use Rattle.bus.specs.declared.calls.Reply.{Reply}
 use Rattle.bus.proofs.Untouched.{untouched}
-use Rattle.widebus.specs.Pair.{Pair, _beside_, at, Lent}
+use Rattle.widebus.specs.Pair.{Pair, at, Lent}
 use Rattle.widebus.specs.WideCalls.{WideCalled, refusedWide, leaves, callOn, wideCall}
-use Rattle.widebus.specs.WideGiven.{wideNumber, replyOn, TakenUp}
+use Rattle.widebus.specs.WideGiven.{wideNumber, replyOn}
 use Rattle.widebus.specs.WideUntouched.{leftBy, WideUntouched}
 use Rattle.widebus.specs.declared.selection.Side.{Side}
 use Rattle.widebus.proofs.Endings.{Ending, tooShortFirst, rangesFirst, noneSelected, leftAlone, rightAlone, bothRead, leftRefuses, rightRefuses, bothTake, ending, leaves-so, replies-so, refusal-leaves, refusal-says, short-ends, ranges-end, none-ends, left-ends, right-ends, read-ends, left-refuses, right-refuses, both-take}
