@@ -2,7 +2,7 @@
 -- Assumes nothing.
 use mathlib.Core.Path.{_≡_, refl, sym, _∙_, ap}
 use mathlib.Core.Bool.{Bool, true, false, true≢false, false≢true}
-use mathlib.Core.Logic.{_↔_}
+use mathlib.Core.Logic.{_↔_, _⊎_, inl, inr}
 use Prim.Native.Nat.{ℕ}
 use Rattle.bus.specs.Chip.{Chip}
 use Rattle.bus.specs.Result.{Result, refuses, gives, onResult}
@@ -47,6 +47,15 @@ module _ {S E : Type 0} (step : E → S → Result S) (event : E) (pair later : 
   both-take (refuses n) (gives r) = (λ e. absurd (refuses-not e), λ h. absurd (refuses-not (h .0)))
   both-take (refuses n) (refuses m) = (λ e. absurd (refuses-not e), λ h. absurd (refuses-not (h .0)))
 
+  abbrev leftOf : Result (Pair S) → Result S
+  leftOf r = onResult r refuses (λ p. gives (p .left))
+
+  one-refuses : (x y : Result S) → onResult x refuses (λ l. onResult y refuses (λ r. gives (l beside r))) ≡ refuses number → (x ≡ refuses number) ⊎ (y ≡ refuses number)
+  one-refuses (gives l) (gives r) e = absurd (gives-not e)
+  one-refuses (gives l) (refuses m) e = inr (ap leftOf e)
+  one-refuses (refuses n) (gives r) e = inl (ap leftOf e)
+  one-refuses (refuses n) (refuses m) e = inl (ap leftOf e)
+
   pub onTheSelected : OnTheSelected step event pair later number
   unfolding toSelected
   onTheSelected =
@@ -56,6 +65,7 @@ module _ {S E : Type 0} (step : E → S → Result S) (event : E) (pair later : 
         rightTakes = takes (λ s. pair .left beside s) (λ p. p .right) (λ p. p .left) (λ s. refl) (step event (pair .right)) later (λ p e f. rw (e, f)) (λ s t. refl);
         rightRefuses = refuse (λ s. pair .left beside s) (λ p. p .right) (λ p. p .left) (λ s. refl) (step event (pair .right)) number;
         bothTake = both-take (step event (pair .left)) (step event (pair .right));
+        oneRefuses = one-refuses (step event (pair .left)) (step event (pair .right));
         leftFirst = λ l. rw l;
         thenRight = λ left l r. rw (l, r);
       }

@@ -24,7 +24,7 @@ pub mod WideUntouched
 pub mod PageLaws
 -- an event on the selected machines
 pub mod Chips
--- legal states stay legal
+-- what is legal stays legal
 pub mod WideStaysLegal
--- one result for each call
+-- one result for each statement
 pub mod Settled

@@ -2,7 +2,7 @@
 use Prim.Native.Nat.{ℕ}
 use mathlib.Core.Path.{_≡_}
 use mathlib.Core.Bool.{true, false}
-use mathlib.Core.Logic.{_↔_}
+use mathlib.Core.Logic.{_↔_, _⊎_}
 use Rattle.constants.specs.Numbers.{bothSelected}
 use Rattle.bus.specs.Chip.{Chip}
 use Rattle.bus.specs.Result.{Result, refuses, gives}
@@ -22,6 +22,8 @@ pub record OnTheSelected {S E : Type 0} (step : E → S → Result S) (event : E
   pub rightRefuses : toSelected step Selection.Right event pair ≡ refuses number ↔ step event (pair .right) ≡ refuses number
   -- With both selected, it is taken where both take it, each by its own step.
   pub bothTake : toSelected step Selection.Both event pair ≡ gives later ↔ (step event (pair .left) ≡ gives (later .left)) × (step event (pair .right) ≡ gives (later .right))
+  -- It is refused only with the number of one that refuses it.
+  pub oneRefuses : toSelected step Selection.Both event pair ≡ refuses number → (step event (pair .left) ≡ refuses number) ⊎ (step event (pair .right) ≡ refuses number)
   -- Where the left refuses, the number is the left's, whatever the right does;
   pub leftFirst : step event (pair .left) ≡ refuses number → toSelected step Selection.Both event pair ≡ refuses number
   -- where the left takes it, the right's.

@@ -13,7 +13,7 @@ pub mod WideCalls
 pub mod WideStretch
 -- the page that is handed back
 pub mod Page
--- 2. Laws.
+-- 2. Laws, each proved in the file of that name in proofs/.
 -- each number exactly when
 pub mod WideGiven
 -- what a call leaves as it was
@@ -22,7 +22,7 @@ pub mod WideUntouched
 pub mod PageLaws
 -- an event on the selected machines
 pub mod Chips
--- legal states stay legal
+-- what is legal stays legal
 pub mod WideStaysLegal
--- one result for each call
+-- one result for each statement
 pub mod Settled
