@@ -105,6 +105,11 @@ pub read-both : (all : Pair Lent) {reply : Reply} → reply ≡ replyOf (Answer.
 unfolding callSelected refusedWide
 read-both all p = rw p
 
+pub read-of-both : (number : ℕ) (all : Pair Lent) {asking : BothAsked} → asking ≡ askedBoth all → {both : Both} → asking ≡ BothAsked.Found both
+    → (chosen : Selected) → resultOf chosen ≡ selectionOf number → {selection : Selection} → chosen ≡ Selected.Chips selection → selection ≡ Selection.Both
+    → {reply : Reply} → reply ≡ replyOf (Answer.Refused bothSelected) → wideCalled reply all ≡ wideCall number dataRead all
+read-of-both number all a f chosen s c b p = selected number dataRead refl all a f chosen s c (rw b (read-both all p))
+
 -- a pulse on the reset pin: the lengths alone are asked
 module _ (number : ℕ) (all : Pair Lent) where
   pub pin-left-short : {s : Bool} → s ≡ short (all .left .state) (all .left .memory) → s ≡ true → {reply : Reply} → reply ≡ replyOf (Answer.Refused tooShort) → wideCalled reply all ≡ wideCall number resetPulse all

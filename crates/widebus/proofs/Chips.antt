@@ -31,9 +31,10 @@ module _ {A : Type 0} where
 module _ {S : Type 0} (with : S → Pair S) (mine other : Pair S → S) (its : (s : S) → mine (with s) ≡ s) where
   takes : (x : Result S) (later : Pair S) → ((p : Pair S) → mine p ≡ mine later → other p ≡ other later → p ≡ later) → ((s t : S) → other (with s) ≡ other (with t))
       → onResult x refuses (λ s. gives (with s)) ≡ gives later ↔ (x ≡ gives (mine later)) × (other later ≡ other (with (mine later)))
-  takes (gives s) later join any =
-      ((λ e. let p = same e in (ap (λ t. gives t) (sym (its s) ∙ ap mine p), sym (ap other p) ∙ any s (mine later))),
-      λ h. ap (λ p. gives p) (join (with s) (its s ∙ same (h .0)) (any s (mine later) ∙ sym (h .1))))
+  takes (gives s) later join any = (
+    (λ e. let p = same e in (ap (λ t. gives t) (sym (its s) ∙ ap mine p), sym (ap other p) ∙ any s (mine later))),
+    λ h. ap (λ p. gives p) (join (with s) (its s ∙ same (h .0)) (any s (mine later) ∙ sym (h .1))),
+  )
   takes (refuses n) later join any = (λ e. absurd (refuses-not e), λ h. absurd (refuses-not (h .0)))
 
   refuse : (x : Result S) (n : ℕ) → onResult x refuses (λ s. gives (with s)) ≡ refuses n ↔ x ≡ refuses n

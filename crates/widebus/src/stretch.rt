@@ -87,9 +87,9 @@ fn writes_for_both(
     if met != TAKEN {
         return halted(met, registers);
     }
-    let met = right.access(right_memory.len());
-    if met != TAKEN {
-        return halted(met, registers);
+    let other = right.access(right_memory.len());
+    if other != TAKEN {
+        return halted(other, registers);
     }
     let first = bus::stretch::writes(left, left_memory, bytes);
     let second = bus::stretch::writes(right, right_memory, bytes);

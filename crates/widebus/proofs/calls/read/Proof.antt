@@ -3,7 +3,7 @@
 use borrow.Author.Needs.{needs}
 use Rattle.widebus.proofs.calls.read.Statement.{statement}
 use Rattle.widebus.proofs.calls.read.Tie as tie
-use Rattle.widebus.proofs.CallCode.{refused-first, found, not-selected, selected, read-left, read-right, read-both}
+use Rattle.widebus.proofs.CallCode.{refused-first, found, not-selected, selected, read-left, read-right, read-of-both}
 use Rattle.bus.specs.Chip.{dataRead}
 use Rattle.widebus.specs.Pair.{bothLent}
 use mathlib.Core.Path.{refl}
@@ -90,10 +90,7 @@ same-length-6 : tie.Need-same-length-6
 same-length-6 c = search needs
 
 returns-3 : tie.Need-returns-3
-returns-3 c =
-    let a = c .before .before .before .before .before .before .before .before .before .before .before .before .before .before .before .before .before .before .before .args in
-    let all = bothLent (now (a .left-state)) (now (a .left-memory)) (now (a .right-state)) (now (a .right-memory)) in
-    selected (a .selection) dataRead refl all (c .before .before .before .before .before .before .before .before .before .before .before .before .ask .ensures) (c .before .before .before .before .before .before .before .before .before .before .registers .given .1) (c .before .before .before .before .before .before .before .before .selection-of .result) (c .before .before .before .before .before .before .before .before .selection-of .ensures) (c .before .before .before .before .before .before .chips .given .1) (rw (c .before .enum-told3 .given .1) (read-both all (c .refuse .ensures)))
+returns-3 c = search (needs, read-of-both)
 
 same-length-7 : tie.Need-same-length-7
 same-length-7 c = search needs
