@@ -37,13 +37,13 @@ pub fn obey(
     header: Header,
     selection: Selection,
     registers: Both,
-    left_memory: &mut [u8],
-    right_memory: &mut [u8],
+    left: &mut [u8],
+    right: &mut [u8],
     trace: &[u8],
     at: usize,
 ) -> WideEnding
     requires { ⌜ frontOf (drop at (now trace)) ≡ Front.Whole header ⌝ }
-    ensures { λ r. ⌜ wideEndingOf r (now («left_memory» .exit)) (now («right_memory» .exit)) ≡ playRecord theTerminal (recordAt at (drop at (now (trace .entry)))) (terminal (chipsOf registers (now («left_memory» .entry)) (now («right_memory» .entry))) selection) ⌝ }
+    ensures { λ r. ⌜ wideEndingOf r (now (left .exit)) (now (right .exit)) ≡ playRecord theTerminal (recordAt at (drop at (now (trace .entry)))) (terminal (chipsOf registers (now (left .entry)) (now (right .entry))) selection) ⌝ }
 {
     let kind = header.kind;
     let length = header.length;
@@ -56,23 +56,11 @@ pub fn obey(
             from,
         ),
         2 => {
-            let stretch = writes(
-                selection,
-                registers,
-                left_memory,
-                right_memory,
-                &trace[from..to],
-            );
+            let stretch = writes(selection, registers, left, right, &trace[from..to]);
             ended(stretch, selection, from)
         }
         3 => {
-            let stretch = reads(
-                selection,
-                registers,
-                left_memory,
-                right_memory,
-                &trace[from..to],
-            );
+            let stretch = reads(selection, registers, left, right, &trace[from..to]);
             ended(stretch, selection, from)
         }
         4 => {
