@@ -4,3 +4,13 @@ pub mod TerminalStretches
 pub mod TerminalKinds
 -- how the run of the code ends
 pub mod WideRunCode
+-- what a record's kind and payload are made of
+pub mod TerminalHeaders
+-- what one step does to the chip on a side
+pub mod TerminalHeard
+-- a run on what is lent: refused first, or played from the chips that are lent
+pub mod WideRunOnLent
+-- each chip over the events it was selected for
+pub mod EachChip
+-- what a run does as a whole
+pub mod WideRunLaws

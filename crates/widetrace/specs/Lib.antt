@@ -5,3 +5,10 @@ pub mod Terminal
 pub mod WideRun
 -- what the code's types stand for
 pub mod Code
+-- 2. What is proved of them.
+-- each chip over the events it was selected for
+pub mod EachChip
+-- what a run does as a whole
+pub mod WideRunLaws
+-- when a run gives 13, 14 and 9
+pub mod WideGivenRun

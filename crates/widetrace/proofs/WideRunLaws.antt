@@ -1,0 +1,162 @@
+-- What a run of the wide terminal does as a whole.
+-- Assumes nothing.
+use mathlib.Core.Path.{_≡_, refl, sym, _∙_, ap, subst}
+use mathlib.Core.List.{List, [], _++_}
+use Prim.Native.Nat.{ℕ, _≤_}
+use native.Mathlib.Omega.{arith}
+use lib.Dec.{eqb}
+use lib.ListN.{length, drop, length-drop}
+use Rattle.codes.proofs.Tests.{chosen}
+use Rattle.constants.specs.Numbers.{taken, kindUnknown}
+use Rattle.constants.specs.Sizes.{imageSize, memorySize}
+use Rattle.bus.specs.Bytes.{Bytes}
+use Rattle.bus.specs.Chip.{Chip}
+use Rattle.bus.specs.CallsOnChip.{chipIn}
+use Rattle.bus.specs.Image.{asked, stored, Accepted}
+use Rattle.bus.specs.Registers.{registersOf}
+use Rattle.bus.specs.declared.image.Asked.{Asked}
+use Rattle.bus.specs.declared.registers.Registers.{Registers}
+use Rattle.bus.proofs.Asking.{found-legal}
+use Rattle.bus.proofs.Kept.{asked-legal}
+use Rattle.bus.proofs.Legal.{long}
+use Rattle.bus.proofs.Stored.{stored-long, stored-own, stored-again, stored-past, asked-stored}
+use Rattle.trace.specs.Records.{split, recordsIn}
+use Rattle.trace.specs.Play.{Played, played, play}
+use Rattle.trace.specs.AnyMachine.{Sound, AnyMachine}
+use Rattle.trace.specs.Run.{stopOf}
+use Rattle.trace.proofs.AnyMachine.{any-machine}
+use Rattle.trace.proofs.PlayedKeeps.{all-any}
+use Rattle.trace.proofs.ChipKeeps.{Held, Aside, Brings, Anything, brings, brings-any, replay-held, replay-aside}
+use Rattle.widebus.specs.Pair.{Pair, _beside_, Lent, lent, at}
+use Rattle.widebus.specs.declared.selection.Selection.{Selection}
+use Rattle.widebus.specs.declared.selection.Side.{Side}
+use Rattle.widetrace.specs.Terminal.{Terminal, terminal, theTerminal}
+use Rattle.widetrace.specs.WideRun.{WideRan, wideRan, lentAfter, wideRanOf, wideRun}
+use Rattle.widetrace.specs.WideRunLaws.{BothAccepted, terminalIn, wideRunFrom, selectedAfter, wideFurther, WideRunLaws, TerminalAsMachine}
+use Rattle.widetrace.proofs.TerminalStretches.{terminal-never-zero}
+use Rattle.widetrace.proofs.TerminalHeaders.{header-never-zero}
+use Rattle.widetrace.proofs.TerminalHeard.{WideBrings, wide-brings, step-keeps}
+use Rattle.widetrace.proofs.WideRunOnLent.{plays, run-found, run-refused, by-asking, accepted, accepted-on, the-chip, the-lent}
+
+pub terminal-as-machine : TerminalAsMachine
+terminal-as-machine = record { sound = record { events = header-never-zero; step = terminal-never-zero }; laws = any-machine theTerminal }
+
+abbrev laws : AnyMachine theTerminal
+laws = any-machine theTerminal
+
+-- what is found of a state and memory that are accepted
+is-found : (one : Lent) → Accepted (one .state) (one .memory) → asked (one .state) (one .memory) ≡ Asked.Found (registersOf (one .state))
+unfolding asked
+is-found one a = rw (a .longEnough, a .inRanges)
+
+module _ (all : Pair Lent) (ok : BothAccepted all) where
+  image : (side : Side) → imageSize ≤ length (at side all .state)
+  image side = long _ _ (accepted-on all side ok .longEnough) .0
+
+  -- the chip on a side that a played trace leaves
+  abbrev chip : List ℕ → Side → Chip
+  chip trace side = at side (plays all trace .state .chips)
+
+  aside : (trace : List ℕ) (side : Side) → Aside (at side all .memory) (chip trace side)
+  aside trace side =
+      let P : Chip → Type 0 = Aside (at side all .memory) in
+      laws .kept _ (λ (t : Terminal). P (at side (t .chips))) (WideBrings Anything) (wide-brings _ Anything brings-any) (step-keeps P Anything (replay-aside (at side all .memory)) side) trace (terminalIn all Selection.Both) (all-any trace)
+      (subst P (sym (the-chip all side)) (record { size = refl; past = refl }))
+
+  held : (trace : List ℕ) → Bytes trace → (side : Side) → Held (at side all .memory) (chip trace side)
+  held trace bytes side =
+      let P : Chip → Type 0 = Held (at side all .memory) in
+      let legal = asked-legal (at side all .state) (at side all .memory) _ (is-found (at side all) (accepted-on all side ok)) in
+      laws .kept _ (λ (t : Terminal). P (at side (t .chips))) (WideBrings Brings) (wide-brings _ Brings brings) (step-keeps P Brings (replay-held (at side all .memory)) side) trace (terminalIn all Selection.Both) bytes
+      (subst P (sym (the-chip all side)) (record { registers = legal; size = refl; past = refl }))
+
+  -- what is left on a side is found legal, with its registers
+  left-found : (trace : List ℕ) → Bytes trace → (side : Side) → asked (stored (chip trace side .registers) (at side all .state)) (chip trace side .memory) ≡ Asked.Found (chip trace side .registers)
+  left-found trace bytes side =
+      let h = held trace bytes side in
+      asked-stored (at side all .state) (image side) _ _ (omega (arith, h .size, long _ _ (accepted-on all side ok .longEnough) .1)) (h .registers)
+
+  left-accepted : (trace : List ℕ) → Bytes trace → (side : Side) → Accepted (stored (chip trace side .registers) (at side all .state)) (chip trace side .memory)
+  left-accepted trace bytes side = let l = found-legal _ _ (left-found trace bytes side) in record { longEnough = l .0; inRanges = l .1 }
+
+  legal-found : (trace : List ℕ) → Bytes trace → BothAccepted (wideRun all trace .lent)
+  unfolding wideRanOf
+  legal-found trace bytes = rw (run-found all ok trace) (left-accepted trace bytes Side.Left, left-accepted trace bytes Side.Right)
+
+  -- an empty trace leaves the images that were lent
+  empty-found : wideRun all [] ≡ wideRan (stopOf taken 0 0) all
+  unfolding wideRanOf
+  empty-found = run-found all ok [] ∙ ap (λ (p : Played Terminal). wideRanOf p all) (laws .empty (terminalIn all Selection.Both)) ∙ rw (stored-own (all .left .state) (image Side.Left), stored-own (all .right .state) (image Side.Right))
+
+  -- on a side: bytes past the needed lengths, and the lengths
+  record Stays (side : Side) (later : Lent) : Type 0 where
+    statePast : drop imageSize (later .state) ≡ drop imageSize (at side all .state)
+    memoryPast : drop memorySize (later .memory) ≡ drop memorySize (at side all .memory)
+    stateLength : length (later .state) ≡ length (at side all .state)
+    memoryLength : length (later .memory) ≡ length (at side all .memory)
+
+  stays-found : (trace : List ℕ) (side : Side) → Stays side (at side (wideRun all trace .lent))
+  stays-found trace side =
+      let r = chip trace side .registers in
+      let whole : length (stored r (at side all .state)) ≡ length (at side all .state) = rw (stored-long (at side all .state) (image side) r, length-drop imageSize (at side all .state)) (omega (arith, image side)) in
+      rw (run-found all ok trace, the-lent all (plays all trace) side)
+      (record { statePast = stored-past (at side all .state) (image side) r; memoryPast = aside trace side .past; stateLength = whole; memoryLength = aside trace side .size })
+
+  whole-found : (trace : List ℕ) → wideRun all trace .stop .number ≡ taken → (wideRun all trace .stop .offset ≡ length trace) × (wideRun all trace .stop .count ≡ recordsIn (split trace))
+  unfolding wideRanOf
+  whole-found trace h =
+      let e = run-found all ok trace in
+      let w = laws .whole (terminal-as-machine .sound) trace (terminalIn all Selection.Both) (ap (λ (o : WideRan). o .stop .number) (sym e) ∙ h) in
+      (ap (λ (o : WideRan). o .stop .offset) e ∙ w .0, ap (λ (o : WideRan). o .stop .count) e ∙ w .1)
+
+  -- `a`, then `b`
+  module _ (a : List ℕ) (bytes : Bytes a) where
+    -- what `a` leaves is lent again as the terminal that it left
+    same-registers : (side : Side) → registersOf (stored (chip a side .registers) (at side all .state)) ≡ chip a side .registers
+    same-registers side = found-legal _ _ (left-found a bytes side) .2
+
+    again : terminalIn (wideRanOf (plays all a) all .lent) (selectedAfter all a) ≡ plays all a .state
+    unfolding wideRanOf
+    again = rw (same-registers Side.Left, same-registers Side.Right)
+
+    -- and its images are stored over
+    twice : (p : Played Terminal) → wideRanOf p (wideRanOf (plays all a) all .lent) ≡ wideRanOf p all
+    unfolding wideRanOf
+    twice p = rw (stored-again (all .left .state) (image Side.Left) (chip a Side.Left .registers) (p .state .chips .left .registers), stored-again (all .right .state) (image Side.Right) (chip a Side.Right .registers) (p .state .chips .right .registers))
+
+    joined-found : (b : List ℕ) → wideRun all a .stop .number ≡ taken → wideRun all (a ++ b) ≡ wideFurther (wideRun all a .stop) (wideRunFrom (selectedAfter all a) (wideRun all a .lent) b)
+    unfolding wideRanOf
+    joined-found b h =
+        let e = run-found all ok a in
+        let n = ap (λ (o : WideRan). o .stop .number) (sym e) ∙ h in
+        run-found all ok (a ++ b) ∙ ap (λ (p : Played Terminal). wideRanOf p all) (laws .joined (terminal-as-machine .sound) a b (terminalIn all Selection.Both) n)
+        ∙ rw (e, again) (ap (λ (o : WideRan). wideFurther (wideRanOf (plays all a) all .stop) o) (sym (twice (play theTerminal (split b) (plays all a .state)))))
+
+module _ (all : Pair Lent) where
+  stays : (trace : List ℕ) (side : Side) → (drop imageSize (at side (wideRun all trace .lent) .state) ≡ drop imageSize (at side all .state)) × (drop memorySize (at side (wideRun all trace .lent) .memory) ≡ drop memorySize (at side all .memory))
+      × (length (at side (wideRun all trace .lent) .state) ≡ length (at side all .state)) × (length (at side (wideRun all trace .lent) .memory) ≡ length (at side all .memory))
+  stays trace side = by-asking all _ (λ a. let s = stays-found all a trace side in (s .statePast, s .memoryPast, s .stateLength, s .memoryLength)) (λ number e n. rw (run-refused all trace e) (refl, refl, refl, refl))
+
+  joined : (a b : List ℕ) → Bytes a → wideRun all a .stop .number ≡ taken → wideRun all (a ++ b) ≡ wideFurther (wideRun all a .stop) (wideRunFrom (selectedAfter all a) (wideRun all a .lent) b)
+  joined a b bytes h = joined-found all (accepted all a h) a bytes b h
+
+  two-runs : (a b : List ℕ) → Bytes a → wideRun all a .stop .number ≡ taken → selectedAfter all a ≡ Selection.Both → wideRun all (a ++ b) ≡ wideFurther (wideRun all a .stop) (wideRun (wideRun all a .lent) b)
+  two-runs a b bytes h both =
+      joined a b bytes h ∙ ap (λ (selection : Selection). wideFurther (wideRun all a .stop) (wideRunFrom selection (wideRun all a .lent) b)) both
+      ∙ ap (λ (o : WideRan). wideFurther (wideRun all a .stop) o) (sym (run-found (wideRun all a .lent) (legal-found all (accepted all a h) a bytes) b))
+
+pub wide-run-laws : (all : Pair Lent) → WideRunLaws all
+wide-run-laws all =
+    record {
+      bySteps = λ a trace. run-found all a trace ∙ ap (λ (p : Played Terminal). wideRanOf p all) (laws .byEvents trace (terminalIn all Selection.Both));
+      empty = λ a. empty-found all a;
+      refused = λ trace number e. run-refused all trace e;
+      whole = λ trace h. whole-found all (accepted all trace h) trace h;
+      joined = joined all;
+      twoRuns = two-runs all;
+      staysLegal = λ a trace bytes. legal-found all a trace bytes;
+      statePast = λ trace side. stays all trace side .0;
+      memoryPast = λ trace side. stays all trace side .1;
+      stateLength = λ trace side. stays all trace side .2;
+      memoryLength = λ trace side. stays all trace side .3;
+    }
