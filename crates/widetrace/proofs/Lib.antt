@@ -14,3 +14,5 @@ pub mod WideRunOnLent
 pub mod EachChip
 -- what a run does as a whole
 pub mod WideRunLaws
+-- one result for each public call
+pub mod Settled

@@ -12,3 +12,5 @@ pub mod EachChip
 pub mod WideRunLaws
 -- when a run gives 13, 14 and 9
 pub mod WideGivenRun
+-- one result for each public call
+pub mod Settled
