@@ -83,6 +83,18 @@ module _ {S E : Type 0} (step : E → S → Result S) (never : NeverZero step) (
       by (refuses refusal) n h later = absurd (n refusal refl h)
       by (gives t) n h later = later t h
 
+-- they come to one state in any case
+module _ {S E : Type 0} (step : E → S → Result S) (number offset count : ℕ) where
+  pub applied-state : (list : List (Placed E)) (s : S) → applied step list number offset count s .state ≡ stretch step (unplaced list) s .state
+  unfolding applied stretch
+  applied-state [] s = refl
+  applied-state (p ∷ rest) s = by (step (p .event) s) (applied-state rest)
+    where
+      by : (x : Result S) → ((t : S) → applied step rest number offset count t .state ≡ stretch step (unplaced rest) t .state)
+          → onResult x (λ refusal. played refusal (p .offset) (p .before) s) (λ t. applied step rest number offset count t) .state ≡ onResult x (λ number. stretched s 0 number) (λ t. countedOn 1 (stretch step (unplaced rest) t)) .state
+      by (refuses refusal) later = refl
+      by (gives t) later = later t
+
 module _ (all : Pair Lent) (trace : List ℕ) (h : wideRun all trace .stop .number ≡ taken) (side : Side) where
   abbrev alone : Stretched Chip
   alone = stretch replay (heardIn side trace) (chipIn (at side all .state) (at side all .memory))

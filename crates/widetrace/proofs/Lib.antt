@@ -14,5 +14,7 @@ pub mod WideRunOnLent
 pub mod EachChip
 -- what a run does as a whole
 pub mod WideRunLaws
+-- one chip alone: what is not selected stays
+pub mod OneChipAlone
 -- one result for each public call
 pub mod Settled

@@ -12,5 +12,7 @@ pub mod EachChip
 pub mod WideRunLaws
 -- when a run gives 13, 14 and 9
 pub mod WideGivenRun
+-- one chip alone: what is not selected stays
+pub mod OneChipAlone
 -- one result for each public call
 pub mod Settled
