@@ -6,6 +6,8 @@ pub mod TerminalKinds
 pub mod WideRunCode
 -- what a record's kind and payload are made of
 pub mod TerminalHeaders
+-- what events are refused with
+pub mod TerminalRefusals
 -- what one step does to the chip on a side
 pub mod TerminalHeard
 -- a run on what is lent: refused first, or played from the chips that are lent
@@ -16,5 +18,7 @@ pub mod EachChip
 pub mod WideRunLaws
 -- one chip alone: what is not selected stays
 pub mod OneChipAlone
+-- when a run gives 13, 14 and 9
+pub mod WideGivenRun
 -- one result for each public call
 pub mod Settled

@@ -66,7 +66,7 @@ module _ (side : Side) (all : Pair Lent) (trace : List ℕ) (h : heardIn side tr
   not-heard-in-run : at side (wideRun all trace .lent) ≡ at side all
   not-heard-in-run = by-asking all _ not-heard-found (λ number e n. ap (λ (o : WideRan). at side (o .lent)) (run-refused all trace e))
 
-keeps : (recorded : Recorded) (t later : Terminal) → wideStep (happens recorded) t ≡ gives later → later .selection ≡ t .selection
+pub keeps : (recorded : Recorded) (t later : Terminal) → wideStep (happens recorded) t ≡ gives later → later .selection ≡ t .selection
 unfolding wideStep
 keeps recorded t later e = subst (Gives (λ (u : Terminal). u .selection ≡ t .selection)) e (by (replayOn (t .selection) recorded (t .chips)))
   where

@@ -11,13 +11,15 @@ use lib.Dec.{eqb}
 use lib.ListN.{length}
 use Rattle.codes.proofs.Tests.{chosen}
 use Rattle.constants.specs.Numbers.{taken, kindUnknown, noSelection}
+use Rattle.bus.specs.Bytes.{All}
 use Rattle.trace.specs.Play.{Result, refuses, gives, onResult}
-use Rattle.trace.specs.Kinds.{Recorded, eventsOf}
+use Rattle.trace.specs.Kinds.{Recorded, readAs, recordedCommand, recordedWrite, eventsOf}
 use Rattle.trace.specs.Given.{Unknown}
 use Rattle.trace.specs.Given as narrow
 use Rattle.trace.proofs.ChipKinds.{Kind, by-kind}
 use Rattle.trace.proofs.ChipKinds as kinds
 use Rattle.widebus.specs.Selection.{selectionOf}
+use Rattle.widebus.specs.Events.{readsData}
 use Rattle.widebus.specs.declared.selection.Selection.{Selection}
 use Rattle.widetrace.specs.Terminal.{WideEvent, selects, happens, selectedBy, wideEventsOf}
 use Rattle.widetrace.specs.WideGivenRun.{OneOfThree, WideUnknown, noKind, loaded, NoSelection}
@@ -97,3 +99,52 @@ header-never-zero kind payload number e zero = by (refused-header kind payload n
     by : ((number ≡ noSelection) × NoSelection kind payload) ⊎ ((number ≡ kindUnknown) × WideUnknown kind (length payload)) → ⊥
     by (inl h) = omega (arith, h .0)
     by (inr h) = omega (arith, h .0)
+
+-- and the record that is so is refused so
+pub selects-nothing : (kind : ℕ) (payload : List ℕ) → NoSelection kind payload → wideEventsOf kind payload ≡ refuses noSelection
+selects-nothing kind payload n = by (by-header kind payload)
+  where
+    by : {x : Result (List WideEvent)} → Headed kind payload x → x ≡ refuses noSelection
+    by (known events a b) = absurd (a n)
+    by (unselected m) = refl
+    by (unknown u) = absurd (not-unknown (inr (inr (inr (n .selects)))) u)
+
+pub stands-for-nothing : (kind : ℕ) (payload : List ℕ) → WideUnknown kind (length payload) → wideEventsOf kind payload ≡ refuses kindUnknown
+stands-for-nothing kind payload u = by (by-header kind payload)
+  where
+    by : {x : Result (List WideEvent)} → Headed kind payload x → x ≡ refuses kindUnknown
+    by (known events a b) = absurd (b u)
+    by (unselected m) = absurd (not-unknown (inr (inr (inr (m .selects)))) u)
+    by (unknown v) = refl
+
+-- events that read are of kind 3 alone
+abbrev pub NoRead : WideEvent → Type 0
+NoRead (selects selection) = Unit {0}
+NoRead (happens recorded) = readsData recorded ≡ false
+
+abbrev Reading : ℕ → List ℕ → Result (List WideEvent) → Type 0
+Reading kind payload (refuses number) = Unit {0}
+Reading kind payload (gives events) = ((kind ≡ 3) × (events ≡ map happens (map readAs payload))) ⊎ All NoRead events
+
+module _ (kind : ℕ) (payload : List ℕ) where
+  none-reads : (means : ℕ → Recorded) → ((b : ℕ) → readsData (means b) ≡ false) → (bytes : List ℕ) → All NoRead (map happens (map means bytes))
+  none-reads means h [] = tt
+  none-reads means h (b ∷ rest) = (h b, none-reads means h rest)
+
+  of-selection : (x : Result Selection) → Reading kind payload (onResult x refuses (λ selection. gives (selects selection ∷ [])))
+  of-selection (refuses number) = tt
+  of-selection (gives selection) = inr (tt, tt)
+
+  of-kind : {x : Result (List Recorded)} → Kind kind payload x → Reading kind payload (onResult x refuses (λ events. gives (map happens events)))
+  of-kind (kinds.commands k) = inr (none-reads recordedCommand (λ b. refl) payload)
+  of-kind (kinds.writes k) = inr (none-reads recordedWrite (λ b. refl) payload)
+  of-kind (kinds.reads k) = inl (k, refl)
+  of-kind (kinds.reset k e) = inr (refl, tt)
+  of-kind (kinds.none u) = tt
+
+  reading : Reading kind payload (wideEventsOf kind payload)
+  unfolding wideEventsOf
+  reading = chosen (Reading kind payload) (eqb kind 5) _ _ (λ e. of-selection (selectedBy payload)) (λ e. of-kind (by-kind kind payload))
+
+  pub what-reads : (events : List WideEvent) → wideEventsOf kind payload ≡ gives events → ((kind ≡ 3) × (events ≡ map happens (map readAs payload))) ⊎ All NoRead events
+  what-reads events e = subst (Reading kind payload) e reading

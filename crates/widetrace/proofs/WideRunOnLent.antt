@@ -3,10 +3,11 @@
 use mathlib.Core.Path.{_≡_, refl, sym, _∙_, ap, subst}
 use mathlib.Core.Bool.{Bool, true, false, _||_}
 use mathlib.Core.List.{List}
-use Prim.Native.Nat.{ℕ}
+use Prim.Native.Nat.{ℕ, _≤_, _<_}
 use native.Mathlib.Omega.{arith}
 use borrow.Author.Tests.{le-ltb}
-use Rattle.constants.specs.Numbers.{taken}
+use lib.Dec.{lit≤}
+use Rattle.constants.specs.Numbers.{taken, outOfRange}
 use Rattle.bus.specs.Chip.{Chip}
 use Rattle.bus.specs.CallsOnChip.{chipIn}
 use Rattle.bus.specs.Image.{short, legal, askedState, Accepted}
@@ -29,22 +30,22 @@ module _ (all : Pair Lent) where
   abbrev own : Both
   own = record { left = registersOf (all .left .state); right = registersOf (all .right .state) }
 
-  -- what was asked of both: they are accepted and their own registers are found, or it is refused with no 0
+  -- what was asked of both: they are accepted and their own registers are found, or it is refused with 1 or 2
   abbrev Asks : BothAsked → Type 0
   Asks (BothAsked.Found both) = BothAccepted all × (both ≡ own)
-  Asks (BothAsked.Refused number) = number ≡ taken → ⊥
+  Asks (BothAsked.Refused number) = (taken < number) × (number ≤ outOfRange)
 
   asks : Asks (askedBoth all)
   unfolding askedBoth bothFound askedState
   asks = by (short (all .left .state) (all .left .memory)) refl (short (all .right .state) (all .right .memory)) refl (legal (all .left .state)) refl (legal (all .right .state)) refl
     where
       by : (s : Bool) → short (all .left .state) (all .left .memory) ≡ s → (t : Bool) → short (all .right .state) (all .right .memory) ≡ t → (p : Bool) → legal (all .left .state) ≡ p → (q : Bool) → legal (all .right .state) ≡ q → Asks (askedBoth all)
-      by true a t b p f q g = rw a (λ z. omega arith)
-      by false a true b p f q g = rw (a, b) (λ z. omega arith)
+      by true a t b p f q g = rw a (lit≤ tt, lit≤ tt)
+      by false a true b p f q g = rw (a, b) (lit≤ tt, lit≤ tt)
       by false a false b true f true g = rw (a, b, le-ltb _ _ (long _ _ a .0), le-ltb _ _ (long _ _ b .0), f, g) ((record { longEnough = a; inRanges = f }, record { longEnough = b; inRanges = g }), refl)
-      by false a false b true f false g = rw (a, b, le-ltb _ _ (long _ _ a .0), le-ltb _ _ (long _ _ b .0), f, g) (λ z. omega arith)
-      by false a false b false f true g = rw (a, b, le-ltb _ _ (long _ _ a .0), le-ltb _ _ (long _ _ b .0), f, g) (λ z. omega arith)
-      by false a false b false f false g = rw (a, b, le-ltb _ _ (long _ _ a .0), le-ltb _ _ (long _ _ b .0), f, g) (λ z. omega arith)
+      by false a false b true f false g = rw (a, b, le-ltb _ _ (long _ _ a .0), le-ltb _ _ (long _ _ b .0), f, g) (lit≤ tt, lit≤ tt)
+      by false a false b false f true g = rw (a, b, le-ltb _ _ (long _ _ a .0), le-ltb _ _ (long _ _ b .0), f, g) (lit≤ tt, lit≤ tt)
+      by false a false b false f false g = rw (a, b, le-ltb _ _ (long _ _ a .0), le-ltb _ _ (long _ _ b .0), f, g) (lit≤ tt, lit≤ tt)
 
   -- accepted: both are found
   found : BothAccepted all → askedBoth all ≡ BothAsked.Found own
@@ -67,7 +68,7 @@ module _ (all : Pair Lent) where
   run-refused trace e = rw e
 
   -- either way
-  pub by-asking : (P : Type 0) → (BothAccepted all → P) → ((number : ℕ) → askedBoth all ≡ BothAsked.Refused number → (number ≡ taken → ⊥) → P) → P
+  pub by-asking : (P : Type 0) → (BothAccepted all → P) → ((number : ℕ) → askedBoth all ≡ BothAsked.Refused number → (taken < number) × (number ≤ outOfRange) → P) → P
   by-asking P legal refused = by (askedBoth all) refl asks
     where
       by : (x : BothAsked) → askedBoth all ≡ x → Asks x → P
@@ -76,7 +77,7 @@ module _ (all : Pair Lent) where
 
   -- a run without a refusal is one on what is accepted
   pub accepted : (trace : List ℕ) → wideRun all trace .stop .number ≡ taken → BothAccepted all
-  accepted trace h = by-asking _ (λ a. a) (λ number e n. absurd (n (ap (λ (o : WideRan). o .stop .number) (sym (run-refused trace e)) ∙ h)))
+  accepted trace h = by-asking _ (λ a. a) (λ number e n. absurd (omega (arith, n .0, ap (λ (o : WideRan). o .stop .number) (sym (run-refused trace e)) ∙ h)))
 
   pub accepted-on : (side : Side) → BothAccepted all → Accepted (at side all .state) (at side all .memory)
   accepted-on Side.Left a = a .0

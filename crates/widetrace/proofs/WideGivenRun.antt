@@ -1,0 +1,194 @@
+-- When a run of the wide terminal gives 13, 9 and 14, and what it leaves then.
+-- Assumes nothing.
+use mathlib.Core.Path.{_≡_, refl, sym, _∙_, ap, subst}
+use mathlib.Core.Logic.{_≢_, _⊎_, inl, inr, _↔_}
+use mathlib.Core.Bool.{Bool, true, false}
+use mathlib.Core.List.{List, [], _∷_, _++_, map}
+use Prim.Native.Nat.{ℕ, _+_, _≤_, _<_}
+use native.Mathlib.Nat.{add-zero}
+use native.Mathlib.Omega.{arith}
+use lib.ListN.{length, take, drop}
+use lib.Seq.{length-take-le}
+use Rattle.constants.specs.Numbers.{taken, headerCut, kindUnknown, noSelection, bothSelected}
+use Rattle.constants.specs.Sizes.{headerSize}
+use Rattle.bus.specs.Bytes.{All}
+use Rattle.trace.specs.Records.{kindOf, payloadOf, whole, split}
+use Rattle.trace.specs.Play.{Result, refuses, gives, Played, played, playEvents}
+use Rattle.trace.specs.Kinds.{Recorded, readAs, eventsOf}
+use Rattle.trace.specs.AnyMachine.{AnyMachine, Reached, EndsAs, allTaken, headerIsCut, headerRefused, eventRefused}
+use Rattle.trace.proofs.AnyMachine.{any-machine}
+use Rattle.trace.proofs.WhatStands.{where-left, whole-left}
+use Rattle.widebus.specs.Pair.{Pair, Lent}
+use Rattle.widebus.specs.declared.selection.Selection.{Selection}
+use Rattle.widetrace.specs.Terminal.{Terminal, WideEvent, happens, wideEventsOf, wideStep, theTerminal}
+use Rattle.widetrace.specs.WideRun.{WideRan, wideRan, wideRanOf, wideRun}
+use Rattle.widetrace.specs.WideRunLaws.{BothAccepted, terminalIn, selectedAfter}
+use Rattle.widetrace.specs.WideGivenRun.{WideUnknown, NoSelection, WideHeaderAt, WideGivesAt, wideStoppedAfter, WholeRecord, BothRead, WideGivenRun, WideHeaders}
+use Rattle.widetrace.proofs.TerminalHeaders.{NoRead, refused-header, selects-nothing, stands-for-nothing, what-reads}
+use Rattle.widetrace.proofs.TerminalRefusals.{OfChip, OfTerminal, readsWide, refused-step, both-refuse, middle, none-before}
+use Rattle.widetrace.proofs.WideRunOnLent.{plays, run-found, run-refused, by-asking, accepted}
+use Rattle.widetrace.proofs.WideRunLaws.{terminal-as-machine, wide-run-laws}
+
+abbrev laws : AnyMachine theTerminal
+laws = any-machine theTerminal
+
+-- a kind of record that is not taken, with the number that its header is refused with
+abbrev UnknownRecord : ℕ → List ℕ → Type 0
+UnknownRecord kind payload = WideUnknown kind (length payload)
+
+-- the numbers of headers are no events'
+of-header : {reads : Bool} {selection : Selection} {number : ℕ} → OfTerminal reads selection number → (number ≡ noSelection) ⊎ (number ≡ kindUnknown) → ⊥
+of-header (inl (inl h)) (inl e) = omega (arith, h .1, e)
+of-header (inl (inl h)) (inr e) = omega (arith, h .1, e)
+of-header (inl (inr h)) (inl e) = omega (arith, h, e)
+of-header (inl (inr h)) (inr e) = omega (arith, h, e)
+of-header (inr h) (inl e) = omega (arith, h .0, e)
+of-header (inr h) (inr e) = omega (arith, h .0, e)
+
+of-both : {reads : Bool} {selection : Selection} {number : ℕ} → OfTerminal reads selection number → number ≡ bothSelected → (selection ≡ Selection.Both) × (reads ≡ true)
+of-both (inl (inl h)) e = absurd (omega (arith, h .1, e))
+of-both (inl (inr h)) e = absurd (omega (arith, h, e))
+of-both (inr h) e = (h .1, h .2)
+
+module _ (all : Pair Lent) (trace : List ℕ) where
+  abbrev start : Terminal
+  start = terminalIn all Selection.Both
+
+  -- a header is reached: the bytes before it run, and all are taken
+  header-at : BothAccepted all → {at count : ℕ} {t : Terminal} → Reached theTerminal trace start at count t → WideHeaderAt all trace at
+  unfolding wideRanOf
+  header-at a {at} r = ap (λ (o : WideRan). o .stop .number) (run-found all a (take at trace)) ∙ ap (λ (p : Played Terminal). p .number) r
+
+  its-whole : (p : Played Terminal) (at : ℕ) → p .number ≡ taken → p .offset ≡ at → p ≡ played taken at (p .count) (p .state)
+  its-whole p at n o = rw (← n, ← o)
+
+  module _ (at : ℕ) (h : WideHeaderAt all trace at) (w : whole (drop at trace) ≡ true) where
+    ok : BothAccepted all
+    ok = accepted all (take at trace) h
+
+    abbrev before : Played Terminal
+    before = plays all (take at trace)
+
+    reached : Reached theTerminal trace start at (before .count) (before .state)
+    unfolding wideRanOf
+    reached =
+        let e = run-found all ok (take at trace) in
+        let size = length-take-le at trace (where-left trace at (whole-left trace at w)) in
+        its-whole before at (ap (λ (o : WideRan). o .stop .number) (sym e) ∙ h) (ap (λ (o : WideRan). o .stop .offset) (sym e) ∙ wide-run-laws all .whole (take at trace) h .0 ∙ size)
+
+    -- the run is where the trace is played
+    stops : (number offset : ℕ) → EndsAs theTerminal trace start (played number offset (before .count) (before .state)) → wideRun all trace ≡ wideStoppedAfter number offset (wideRun all (take at trace))
+    unfolding wideRanOf
+    stops number offset e = run-found all ok trace ∙ ap (λ (p : Played Terminal). wideRanOf p all) (laws .ends (terminal-as-machine .sound) trace start _ .1 e) ∙ rw (run-found all ok (take at trace))
+
+    header-stops : (number : ℕ) → wideEventsOf (kindOf (drop at trace)) (payloadOf (drop at trace)) ≡ refuses number → wideRun all trace ≡ wideStoppedAfter number at (wideRun all (take at trace))
+    header-stops number e = stops number at (headerRefused at (before .count) number (before .state) reached w e)
+
+  thirteen-leaves : (offset : ℕ) → WholeRecord NoSelection all trace offset → wideRun all trace ≡ wideStoppedAfter noSelection offset (wideRun all (take offset trace))
+  thirteen-leaves offset h = header-stops offset (h .header) (h .complete) noSelection (selects-nothing _ _ (h .kind))
+
+  nine-leaves : (offset : ℕ) → WholeRecord UnknownRecord all trace offset → wideRun all trace ≡ wideStoppedAfter kindUnknown offset (wideRun all (take offset trace))
+  nine-leaves offset h = header-stops offset (h .header) (h .complete) kindUnknown (stands-for-nothing _ _ (h .kind))
+
+  -- what a read record's events begin with
+  first-read : (kind : ℕ) (payload : List ℕ) → kind ≡ 3 → payload ≢ [] → (at : ℕ) (count : ℕ) (t : Terminal) → kindOf (drop at trace) ≡ kind → payloadOf (drop at trace) ≡ payload → Reached theTerminal trace start at count t → whole (drop at trace) ≡ true
+      → t .selection ≡ Selection.Both → EndsAs theTerminal trace start (played bothSelected (at + headerSize) count t)
+  unfolding wideEventsOf eventsOf playEvents
+  first-read kind [] k n at count t e f r w s = absurd (n refl)
+  first-read kind (byte ∷ rest) k n at count t e f r w s =
+      let it = eventRefused at count bothSelected t t [] (happens (readAs byte)) (map happens (map readAs rest)) r w (rw (e, f, k)) refl (both-refuse byte t s) in
+      rw (add-zero (at + headerSize)) at it
+
+  fourteen-leaves : (offset : ℕ) (h : BothRead all trace offset) → wideRun all trace ≡ wideStoppedAfter bothSelected offset (wideRun all (take (h .place) trace))
+  fourteen-leaves offset h =
+      let r = h .reads in
+      rw (h .first) (stops (h .place) (r .header) (r .complete) bothSelected (h .place + headerSize) (first-read _ _ (r .kind .0) (r .kind .1) (h .place) _ _ refl refl (reached (h .place) (r .header) (r .complete)) (r .complete) (h .both)))
+
+  -- the other way: how the played trace ends
+  module _ (a : BothAccepted all) where
+    is-thirteen : {p : Played Terminal} → EndsAs theTerminal trace start p → p .number ≡ noSelection → WholeRecord NoSelection all trace (p .offset)
+    is-thirteen (allTaken count t r) e = absurd (omega arith)
+    is-thirteen (headerIsCut at count t r c) e = absurd (omega arith)
+    is-thirteen (headerRefused at count number t r w f) e = by (refused-header _ _ number f)
+      where
+        by : ((number ≡ noSelection) × NoSelection (kindOf (drop at trace)) (payloadOf (drop at trace))) ⊎ ((number ≡ kindUnknown) × WideUnknown (kindOf (drop at trace)) (length (payloadOf (drop at trace)))) → WholeRecord NoSelection all trace at
+        by (inl h) = record { header = header-at a r; complete = w; kind = h .1 }
+        by (inr h) = absurd (omega (arith, h .0, e))
+    is-thirteen (eventRefused at count number t u before event rest r w f d s) e = absurd (of-header (refused-step event u number s) (inl e))
+
+    is-nine : {p : Played Terminal} → EndsAs theTerminal trace start p → p .number ≡ kindUnknown → WholeRecord UnknownRecord all trace (p .offset)
+    is-nine (allTaken count t r) e = absurd (omega arith)
+    is-nine (headerIsCut at count t r c) e = absurd (omega arith)
+    is-nine (headerRefused at count number t r w f) e = by (refused-header _ _ number f)
+      where
+        by : ((number ≡ noSelection) × NoSelection (kindOf (drop at trace)) (payloadOf (drop at trace))) ⊎ ((number ≡ kindUnknown) × WideUnknown (kindOf (drop at trace)) (length (payloadOf (drop at trace)))) → WholeRecord UnknownRecord all trace at
+        by (inl h) = absurd (omega (arith, h .0, e))
+        by (inr h) = record { header = header-at a r; complete = w; kind = h .1 }
+    is-nine (eventRefused at count number t u before event rest r w f d s) e = absurd (of-header (refused-step event u number s) (inr e))
+
+    is-fourteen : {p : Played Terminal} → EndsAs theTerminal trace start p → p .number ≡ bothSelected → BothRead all trace (p .offset)
+    is-fourteen (allTaken count t r) e = absurd (omega arith)
+    is-fourteen (headerIsCut at count t r c) e = absurd (omega arith)
+    is-fourteen (headerRefused at count number t r w f) e = by (refused-header _ _ number f)
+      where
+        by : ((number ≡ noSelection) × NoSelection (kindOf (drop at trace)) (payloadOf (drop at trace))) ⊎ ((number ≡ kindUnknown) × WideUnknown (kindOf (drop at trace)) (length (payloadOf (drop at trace)))) → BothRead all trace at
+        by (inl h) = absurd (omega (arith, h .0, e))
+        by (inr h) = absurd (omega (arith, h .0, e))
+    is-fourteen (eventRefused at count number t u before event rest r w f d s) e = by (what-reads _ _ _ f) (of-both (refused-step event u number s) e)
+      where
+        by : ((kindOf (drop at trace) ≡ 3) × (before ++ event ∷ rest ≡ map happens (map readAs (payloadOf (drop at trace))))) ⊎ All NoRead (before ++ event ∷ rest) → (u .selection ≡ Selection.Both) × (readsWide event ≡ true) → BothRead all trace (at + headerSize + length before)
+        by (inr none) h = absurd (middle before event rest none (h .1))
+        by (inl reads) h =
+            let n = none-before before event rest (payloadOf (drop at trace)) (at + headerSize) t u (reads .1) d (h .0) in
+            let some : payloadOf (drop at trace) ≢ [] = λ z. omega (arith, ap (λ (list : List WideEvent). length list) (sym (rw (n .0) at (reads .1))), ap (λ (list : List ℕ). length (map happens (map readAs list))) z) in
+            record {
+              place = at;
+              reads = record { header = header-at a r; complete = w; kind = (reads .0, some) };
+              both = ap (λ (p : Played Terminal). p .state .selection) r ∙ ap (λ (v : Terminal). v .selection) (n .1) ∙ h .0;
+              first = rw (n .0) (add-zero (at + headerSize));
+            }
+
+    -- a run's number and offset are those of the played trace
+    ends : EndsAs theTerminal trace start (plays all trace)
+    ends = laws .ends (terminal-as-machine .sound) trace start _ .0 refl
+
+  -- refused first, the number is 1 or 2
+  given : (A : ℕ → Type 0) (number : ℕ) → 2 < number → (BothAccepted all → plays all trace .number ≡ number → A (plays all trace .offset)) → (offset : ℕ) → WideGivesAt (wideRun all trace) number offset → A offset
+  unfolding wideRanOf
+  given A number big go offset h =
+      by-asking all _
+      (λ a. let e = run-found all a trace in subst A (ap (λ (o : WideRan). o .stop .offset) (sym e) ∙ h .1) (go a (ap (λ (o : WideRan). o .stop .number) (sym e) ∙ h .0)))
+      (λ refusal e n. absurd (omega (arith, big, n .1, ap (λ (o : WideRan). o .stop .number) (sym (run-refused all trace e)) ∙ h .0)))
+
+pub wide-given-run : (all : Pair Lent) (trace : List ℕ) → WideGivenRun all trace
+wide-given-run all trace =
+    record {
+      number13 = λ offset. (given all trace (WholeRecord NoSelection all trace) noSelection (omega arith) (λ a. is-thirteen all trace a (ends all trace a)) offset, λ h. rw (thirteen-leaves all trace offset h) (refl, refl));
+      number13Leaves = thirteen-leaves all trace;
+      number9 = λ offset. (given all trace (WholeRecord UnknownRecord all trace) kindUnknown (omega arith) (λ a. is-nine all trace a (ends all trace a)) offset, λ h. rw (nine-leaves all trace offset h) (refl, refl));
+      number9Leaves = nine-leaves all trace;
+      number14 = λ offset. (given all trace (BothRead all trace) bothSelected (omega arith) (λ a. is-fourteen all trace a (ends all trace a)) offset, λ h. rw (fourteen-leaves all trace offset h) (refl, refl));
+      number14Leaves = fourteen-leaves all trace;
+    }
+
+other : {A B : Type 0} {number : ℕ} → ((number ≡ noSelection) × A) ⊎ ((number ≡ kindUnknown) × B) → (number ≡ noSelection) ⊎ (number ≡ kindUnknown)
+other (inl h) = inl (h .0)
+other (inr h) = inr (h .0)
+
+is-first : {A B : Type 0} → ((noSelection ≡ noSelection) × A) ⊎ ((noSelection ≡ kindUnknown) × B) → A
+is-first (inl h) = h .1
+is-first (inr h) = absurd (omega (arith, h .0))
+
+is-second : {A B : Type 0} → ((kindUnknown ≡ noSelection) × A) ⊎ ((kindUnknown ≡ kindUnknown) × B) → B
+is-second (inl h) = absurd (omega (arith, h .0))
+is-second (inr h) = h .1
+
+pub wide-headers : (kind : ℕ) (payload : List ℕ) → WideHeaders kind payload
+unfolding wideEventsOf eventsOf
+wide-headers kind payload =
+    record {
+      refused13 = (λ e. is-first (refused-header kind payload noSelection e), selects-nothing kind payload);
+      refused9 = (λ e. is-second (refused-header kind payload kindUnknown e), stands-for-nothing kind payload);
+      noOther = λ number e. other (refused-header kind payload number e);
+      emptyRead = refl;
+    }
