@@ -20,5 +20,7 @@ pub mod WideRunLaws
 pub mod OneChipAlone
 -- when a run gives 13, 14 and 9
 pub mod WideGivenRun
+-- the events of a run by the calls of the wide bus
+pub mod WideByCalls
 -- one result for each public call
 pub mod Settled

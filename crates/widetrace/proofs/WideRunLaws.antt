@@ -63,12 +63,14 @@ module _ (all : Pair Lent) (ok : BothAccepted all) where
       laws .kept _ (λ (t : Terminal). P (at side (t .chips))) (WideBrings Anything) (wide-brings _ Anything brings-any) (step-keeps P Anything (replay-aside (at side all .memory)) side) trace (terminalIn all Selection.Both) (all-any trace)
       (subst P (sym (the-chip all side)) (record { size = refl; past = refl }))
 
+  -- the chips that are lent are legal, and a trace of bytes keeps them so
+  pub at-start : (side : Side) → Held (at side all .memory) (at side (terminalIn all Selection.Both .chips))
+  at-start side = subst (Held (at side all .memory)) (sym (the-chip all side)) (record { registers = asked-legal (at side all .state) (at side all .memory) _ (is-found (at side all) (accepted-on all side ok)); size = refl; past = refl })
+
   held : (trace : List ℕ) → Bytes trace → (side : Side) → Held (at side all .memory) (chip trace side)
   held trace bytes side =
       let P : Chip → Type 0 = Held (at side all .memory) in
-      let legal = asked-legal (at side all .state) (at side all .memory) _ (is-found (at side all) (accepted-on all side ok)) in
-      laws .kept _ (λ (t : Terminal). P (at side (t .chips))) (WideBrings Brings) (wide-brings _ Brings brings) (step-keeps P Brings (replay-held (at side all .memory)) side) trace (terminalIn all Selection.Both) bytes
-      (subst P (sym (the-chip all side)) (record { registers = legal; size = refl; past = refl }))
+      laws .kept _ (λ (t : Terminal). P (at side (t .chips))) (WideBrings Brings) (wide-brings _ Brings brings) (step-keeps P Brings (replay-held (at side all .memory)) side) trace (terminalIn all Selection.Both) bytes (at-start side)
 
   -- what is left on a side is found legal, with its registers
   left-found : (trace : List ℕ) → Bytes trace → (side : Side) → asked (stored (chip trace side .registers) (at side all .state)) (chip trace side .memory) ≡ Asked.Found (chip trace side .registers)

@@ -14,5 +14,7 @@ pub mod WideRunLaws
 pub mod WideGivenRun
 -- one chip alone: what is not selected stays
 pub mod OneChipAlone
+-- the events of a run by the calls of the wide bus
+pub mod WideByCalls
 -- one result for each public call
 pub mod Settled
