@@ -60,8 +60,8 @@ module _ (left right : List ℕ) (page : ℕ) where
       let P : Handed → Type 0 = λ h. Answers number (ofHanded page h) in
       chosen P (ltb (length left) memorySize || ltb (length right) memorySize) _ _ (λ e. short (is-short e))
       (λ e. chosen P (ltb page pages) _ _
-        (λ p. rw (page-long (at side (left beside right)) (sized side (long e)) (ltb-true page pages p)) (there (neither (long e)) n (ltb-true page pages p)))
-        (λ p. above (neither (long e)) n (ltb-false page pages p)))
+      (λ p. rw (page-long (at side (left beside right)) (sized side (long e)) (ltb-true page pages p)) (there (neither (long e)) n (ltb-true page pages p)))
+      (λ p. above (neither (long e)) n (ltb-false page pages p)))
 
   answers : (side : ℕ) → Answers side (pageReplyOf side left right page)
   unfolding pageReplyOf

@@ -4,12 +4,10 @@ use mathlib.Core.Path.{_≡_}
 use mathlib.Core.List.{List}
 use Rattle.constants.specs.Settles.{Settles}
 use Rattle.bus.specs.Chip.{commandByte, dataWritten, dataRead, resetPulse}
-use Rattle.trace.specs.Run.{stopOf}
 use Rattle.picture.specs.Draw.{drawn}
 use Rattle.framelisting.specs.Listing.{listedWide}
 use Rattle.widebus.specs.Pair.{Pair, Lent}
 use Rattle.widebus.specs.WideCalls.{wideCall}
-use Rattle.widetrace.specs.WideRun.{wideRan, wideRun}
 use Rattle.widepicture.specs.WideDraw.{drawWide}
 use Rattle.hostwide.specs.Events.{statesReply, lentReply, readReply, ofStates, ofLent, ofRead}
 use Rattle.hostwide.specs.Page.{pageReply, pageReplyOf}
@@ -24,8 +22,6 @@ pub record Settled : Type 0 where
   pub «ssd1815b_wide_read» : (all : Pair Lent) (selection : ℕ) → Settles (λ (o : ℕ × ℕ × ℕ × List ℕ × List ℕ). readReply (o .0) (o .1) (o .2) (o .3) (o .4) ≡ ofRead (wideCall selection dataRead all))
   -- number, left state, right state
   pub «ssd1815b_wide_reset» : (all : Pair Lent) (selection : ℕ) → Settles (λ (o : ℕ × List ℕ × List ℕ). statesReply (o .0) (o .1) (o .2) ≡ ofStates (wideCall selection resetPulse all))
-  -- number, offset, count, states and memories
-  pub «ssd1815b_wide_run» : (all : Pair Lent) (bytes : List ℕ) → Settles (λ (o : ℕ × ℕ × ℕ × Pair Lent). wideRan (stopOf (o .0) (o .1) (o .2)) (o .3) ≡ wideRun all bytes)
   -- number, frame
   pub «ssd1815b_wide_draw» : (all : Pair Lent) (frame : List ℕ) → Settles (λ (o : ℕ × List ℕ). drawn (o .0) (o .1) ≡ drawWide all frame)
   -- number, length, text

@@ -1,0 +1,2 @@
+-- What the exported call states has one result.
+pub mod Settled

@@ -1,0 +1,2 @@
+-- one result for the exported call
+pub mod Settled

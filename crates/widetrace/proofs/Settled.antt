@@ -5,4 +5,4 @@ use Rattle.widetrace.specs.WideRun.{WideRan}
 use Rattle.widetrace.specs.Settled.{Settled}
 
 pub settled : Settled
-settled = record { «run::run» = λ all trace a b p q. ap (λ (o : WideRan). (o .stop, o .lent)) (p ∙ sym q); }
+settled = record { «run::run» = λ all trace a b p q. ap (λ (o : WideRan). (o .stop, o .lent)) (p ∙ sym q) }

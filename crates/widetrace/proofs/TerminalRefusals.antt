@@ -32,6 +32,7 @@ chip-refuses recorded c = by (replay recorded c) refl
     number-of : {number : ℕ} → Refusal recorded c number → OfChip number
     number-of (own p q) = inl (p, q)
     number-of (differing byte after r a d b n) = inr n
+
     by : (x : Result Chip) → replay recorded c ≡ x → Refusing OfChip x
     by (refuses number) e = number-of (refused-event recorded c number e)
     by (gives t) e = tt
