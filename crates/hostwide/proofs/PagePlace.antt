@@ -1,9 +1,9 @@
 -- Where the part that the page call hands back lies, and what the call answers.
 -- Assumes nothing.
-use mathlib.Core.Path.{_≡_, refl, sym, _∙_, ap, subst}
+use mathlib.Core.Path.{_≡_, refl, sym, _∙_}
 use mathlib.Core.Logic.{_≢_, _⊎_, inl, inr, _↔_}
-use mathlib.Core.Bool.{Bool, true, false, cond, _||_, false≢true}
-use mathlib.Core.List.{List, []}
+use mathlib.Core.Bool.{Bool, true, false, _||_, false≢true}
+use mathlib.Core.List.{List}
 use Prim.Native.Nat.{ℕ, _*_, _-_, _≤_, _<_}
 use native.Mathlib.Omega.{arith}
 use borrow.Author.Tests.{eqb-true, eqb-false, ltb-true, ltb-false}
@@ -14,7 +14,7 @@ use Rattle.codes.proofs.Tests.{chosen, either}
 use Rattle.constants.specs.Sizes.{width, pages, memorySize}
 use Rattle.constants.specs.Numbers.{taken, tooShort, noPage, noSelection}
 use Rattle.widebus.specs.Pair.{_beside_, at}
-use Rattle.widebus.specs.Page.{Handed, handed, pageIn, pageOf}
+use Rattle.widebus.specs.Page.{Handed, pageIn, pageOf}
 use Rattle.widebus.specs.declared.selection.Side.{Side}
 use Rattle.hostwide.specs.Page.{PageReply, pageReply, ofHanded, pageReplyOf}
 use Rattle.hostwide.specs.PagePlace.{sideNumber, TooShort, PagePlace}

@@ -1,6 +1,6 @@
 -- One chip alone: what is not selected stays, and the selection is kept.
 -- Assumes nothing.
-use mathlib.Core.Path.{_≡_, refl, sym, _∙_, ap, subst}
+use mathlib.Core.Path.{_≡_, refl, _∙_, ap, subst}
 use mathlib.Core.Bool.{Bool, true, false, cond}
 use mathlib.Core.List.{List, [], _∷_, map}
 use Prim.Native.Nat.{ℕ}
@@ -9,8 +9,7 @@ use lib.ListN.{length}
 use Rattle.bus.specs.Chip.{Chip, resetPulse, step}
 use Rattle.bus.specs.CallsOnChip.{chipIn}
 use Rattle.bus.specs.Events.{resetPin}
-use Rattle.bus.specs.Registers.{powerOn}
-use Rattle.bus.specs.Stretch.{Stretched, stretched, countedOn, stretch}
+use Rattle.bus.specs.Stretch.{stretched, countedOn, stretch}
 use Rattle.bus.proofs.Legal.{long}
 use Rattle.bus.proofs.Stored.{stored-own}
 use Rattle.trace.specs.Records.{split}

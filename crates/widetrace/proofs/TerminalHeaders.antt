@@ -1,10 +1,10 @@
 -- What the terminal makes of a record's kind and payload: events, 13 or 9.
 -- Assumes nothing.
-use mathlib.Core.Path.{_≡_, refl, sym, _∙_, ap, subst}
-use mathlib.Core.Logic.{_≢_, _⊎_, inl, inr}
-use mathlib.Core.Bool.{Bool, true, false, cond}
+use mathlib.Core.Path.{_≡_, refl, subst}
+use mathlib.Core.Logic.{_⊎_, inl, inr}
+use mathlib.Core.Bool.{false}
 use mathlib.Core.List.{List, [], _∷_, map}
-use Prim.Native.Nat.{ℕ, _≤_}
+use Prim.Native.Nat.{ℕ}
 use native.Mathlib.Omega.{arith}
 use borrow.Author.Tests.{eqb-true, eqb-false}
 use lib.Dec.{eqb}
@@ -13,8 +13,7 @@ use Rattle.codes.proofs.Tests.{chosen}
 use Rattle.constants.specs.Numbers.{taken, kindUnknown, noSelection}
 use Rattle.bus.specs.Bytes.{All}
 use Rattle.trace.specs.Play.{Result, refuses, gives, onResult}
-use Rattle.trace.specs.Kinds.{Recorded, readAs, recordedCommand, recordedWrite, eventsOf}
-use Rattle.trace.specs.Given.{Unknown}
+use Rattle.trace.specs.Kinds.{Recorded, readAs, recordedCommand, recordedWrite}
 use Rattle.trace.specs.Given as narrow
 use Rattle.trace.proofs.ChipKinds.{Kind, by-kind}
 use Rattle.trace.proofs.ChipKinds as kinds

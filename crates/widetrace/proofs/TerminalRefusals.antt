@@ -11,11 +11,10 @@ use Rattle.codes.proofs.Tests.{chosen}
 use Rattle.constants.specs.Numbers.{taken, columnAbove, readDiffers, bothSelected}
 use Rattle.bus.specs.Bytes.{All}
 use Rattle.bus.specs.Chip.{Chip}
-use Rattle.trace.specs.Play.{Result, refuses, gives, onResult, Ending, stopped, done, playEvents}
+use Rattle.trace.specs.Play.{Result, refuses, gives, onResult, stopped, done, playEvents}
 use Rattle.trace.specs.Kinds.{Recorded, readAs, replay}
-use Rattle.trace.specs.AnyMachine.{Gives}
 use Rattle.trace.proofs.ChipRefusals.{Refusing, Refusal, own, differing, refused-event}
-use Rattle.widebus.specs.Pair.{Pair, _beside_}
+use Rattle.widebus.specs.Pair.{Pair}
 use Rattle.widebus.specs.Events.{toSelected, areBoth, readsData, replayOn}
 use Rattle.widebus.specs.declared.selection.Selection.{Selection}
 use Rattle.widetrace.specs.Terminal.{Terminal, terminal, WideEvent, selects, happens, wideStep, theTerminal}

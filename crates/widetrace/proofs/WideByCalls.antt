@@ -1,25 +1,24 @@
 -- A run is what the wide terminal's event calls give one by one, up to the first refused one.
 -- Assumes nothing.
-use mathlib.Core.Path.{_≡_, refl, sym, _∙_, ap, subst}
+use mathlib.Core.Path.{_≡_, refl, _∙_, ap}
 use mathlib.Core.Logic.{_≢_}
 use mathlib.Core.Bool.{Bool, true, false, cond, not, _&&_, _||_}
 use mathlib.Core.List.{List, [], _∷_, _++_}
-use Prim.Native.Nat.{ℕ, _+_, _≤_, _<_}
+use Prim.Native.Nat.{ℕ, _+_, _≤_}
 use native.Mathlib.Omega.{arith}
 use borrow.Author.Tests.{ne-eqb}
 use lib.Dec.{eqb}
 use lib.ListN.{length}
-use Rattle.constants.specs.Numbers.{taken, readDiffers, bothSelected}
+use Rattle.constants.specs.Numbers.{taken, readDiffers}
 use Rattle.constants.specs.Sizes.{imageSize, memorySize, headerSize}
 use Rattle.bus.specs.Bytes.{All, Bytes}
 use Rattle.bus.specs.Chip.{Chip, Event, commandByte, dataWritten, dataRead, resetPulse, step}
 use Rattle.bus.specs.Events.{numberOf, byteOf, dummyOf}
-use Rattle.bus.specs.Image.{short, legal, asked, stored, Accepted}
+use Rattle.bus.specs.Image.{short, legal, stored}
 use Rattle.bus.specs.StaysLegal.{LegalRegisters}
 use Rattle.bus.specs.Calls.{Called, replyOf, stateAfter, concluded, call}
 use Rattle.bus.specs.declared.registers.Registers.{Registers}
 use Rattle.bus.specs.declared.answer.Answer.{Answer}
-use Rattle.bus.specs.declared.image.Asked.{Asked}
 use Rattle.bus.proofs.Answers.{StandsFor, step-answers}
 use Rattle.bus.proofs.Asking.{found-legal}
 use Rattle.bus.proofs.Legal.{long}
@@ -37,11 +36,11 @@ use Rattle.trace.proofs.ChipKeeps.{Held, Brings, brings, replay-held}
 use Rattle.widebus.specs.Pair.{Pair, _beside_, Lent, lent, at}
 use Rattle.widebus.specs.Selection.{selectionOf}
 use Rattle.widebus.specs.Events.{toSelected, isRead, replayOn}
-use Rattle.widebus.specs.WideCalls.{WideCalled, refusedWide, leaves, callOn, callBoth, callSelected, asksRanges, wideCall}
+use Rattle.widebus.specs.WideCalls.{WideCalled, refusedWide, leaves, callBoth, callSelected, asksRanges, wideCall}
 use Rattle.widebus.specs.declared.selection.Selection.{Selection}
 use Rattle.widebus.specs.declared.selection.Side.{Side}
 use Rattle.widetrace.specs.Terminal.{Terminal, terminal, WideEvent, selects, happens, wideStep, theTerminal}
-use Rattle.widetrace.specs.WideRun.{WideRan, wideRan, lentAfter, wideRanOf, wideRun}
+use Rattle.widetrace.specs.WideRun.{wideRan, lentAfter, wideRanOf, wideRun}
 use Rattle.widetrace.specs.WideRunLaws.{BothAccepted, terminalIn}
 use Rattle.widetrace.specs.WideByCalls.{selectionNumber, onEvent, wideByCalls, wideRunByCalls, WideByCalls}
 use Rattle.widetrace.proofs.TerminalHeard.{WideBrings, wide-brings, step-keeps}

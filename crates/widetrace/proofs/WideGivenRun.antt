@@ -1,31 +1,31 @@
 -- When a run of the wide terminal gives 13, 9 and 14, and what it leaves then.
 -- Assumes nothing.
 use mathlib.Core.Path.{_≡_, refl, sym, _∙_, ap, subst}
-use mathlib.Core.Logic.{_≢_, _⊎_, inl, inr, _↔_}
-use mathlib.Core.Bool.{Bool, true, false}
+use mathlib.Core.Logic.{_≢_, _⊎_, inl, inr}
+use mathlib.Core.Bool.{Bool, true}
 use mathlib.Core.List.{List, [], _∷_, _++_, map}
-use Prim.Native.Nat.{ℕ, _+_, _≤_, _<_}
+use Prim.Native.Nat.{ℕ, _+_, _<_}
 use native.Mathlib.Nat.{add-zero}
 use native.Mathlib.Omega.{arith}
 use lib.ListN.{length, take, drop}
 use lib.Seq.{length-take-le}
-use Rattle.constants.specs.Numbers.{taken, headerCut, kindUnknown, noSelection, bothSelected}
+use Rattle.constants.specs.Numbers.{taken, kindUnknown, noSelection, bothSelected}
 use Rattle.constants.specs.Sizes.{headerSize}
 use Rattle.bus.specs.Bytes.{All}
-use Rattle.trace.specs.Records.{kindOf, payloadOf, whole, split}
-use Rattle.trace.specs.Play.{Result, refuses, gives, Played, played, playEvents}
-use Rattle.trace.specs.Kinds.{Recorded, readAs, eventsOf}
+use Rattle.trace.specs.Records.{kindOf, payloadOf, whole}
+use Rattle.trace.specs.Play.{refuses, Played, played, playEvents}
+use Rattle.trace.specs.Kinds.{readAs, eventsOf}
 use Rattle.trace.specs.AnyMachine.{AnyMachine, Reached, EndsAs, allTaken, headerIsCut, headerRefused, eventRefused}
 use Rattle.trace.proofs.AnyMachine.{any-machine}
 use Rattle.trace.proofs.WhatStands.{where-left, whole-left}
 use Rattle.widebus.specs.Pair.{Pair, Lent}
 use Rattle.widebus.specs.declared.selection.Selection.{Selection}
-use Rattle.widetrace.specs.Terminal.{Terminal, WideEvent, happens, wideEventsOf, wideStep, theTerminal}
-use Rattle.widetrace.specs.WideRun.{WideRan, wideRan, wideRanOf, wideRun}
-use Rattle.widetrace.specs.WideRunLaws.{BothAccepted, terminalIn, selectedAfter}
+use Rattle.widetrace.specs.Terminal.{Terminal, WideEvent, happens, wideEventsOf, theTerminal}
+use Rattle.widetrace.specs.WideRun.{WideRan, wideRanOf, wideRun}
+use Rattle.widetrace.specs.WideRunLaws.{BothAccepted, terminalIn}
 use Rattle.widetrace.specs.WideGivenRun.{WideUnknown, NoSelection, WideHeaderAt, WideGivesAt, wideStoppedAfter, WholeRecord, BothRead, WideGivenRun, WideHeaders}
 use Rattle.widetrace.proofs.TerminalHeaders.{NoRead, refused-header, selects-nothing, stands-for-nothing, what-reads}
-use Rattle.widetrace.proofs.TerminalRefusals.{OfChip, OfTerminal, readsWide, refused-step, both-refuse, middle, none-before}
+use Rattle.widetrace.proofs.TerminalRefusals.{OfTerminal, readsWide, refused-step, both-refuse, middle, none-before}
 use Rattle.widetrace.proofs.WideRunOnLent.{plays, run-found, run-refused, by-asking, accepted}
 use Rattle.widetrace.proofs.WideRunLaws.{terminal-as-machine, wide-run-laws}
 

@@ -4,34 +4,30 @@ use mathlib.Core.Path.{_≡_, refl, sym, _∙_, ap, subst}
 use mathlib.Core.List.{List, [], _++_}
 use Prim.Native.Nat.{ℕ, _≤_}
 use native.Mathlib.Omega.{arith}
-use lib.Dec.{eqb}
 use lib.ListN.{length, drop, length-drop}
-use Rattle.codes.proofs.Tests.{chosen}
-use Rattle.constants.specs.Numbers.{taken, kindUnknown}
+use Rattle.constants.specs.Numbers.{taken}
 use Rattle.constants.specs.Sizes.{imageSize, memorySize}
 use Rattle.bus.specs.Bytes.{Bytes}
 use Rattle.bus.specs.Chip.{Chip}
-use Rattle.bus.specs.CallsOnChip.{chipIn}
 use Rattle.bus.specs.Image.{asked, stored, Accepted}
 use Rattle.bus.specs.Registers.{registersOf}
 use Rattle.bus.specs.declared.image.Asked.{Asked}
-use Rattle.bus.specs.declared.registers.Registers.{Registers}
 use Rattle.bus.proofs.Asking.{found-legal}
 use Rattle.bus.proofs.Kept.{asked-legal}
 use Rattle.bus.proofs.Legal.{long}
 use Rattle.bus.proofs.Stored.{stored-long, stored-own, stored-again, stored-past, asked-stored}
 use Rattle.trace.specs.Records.{split, recordsIn}
-use Rattle.trace.specs.Play.{Played, played, play}
-use Rattle.trace.specs.AnyMachine.{Sound, AnyMachine}
+use Rattle.trace.specs.Play.{Played, play}
+use Rattle.trace.specs.AnyMachine.{AnyMachine}
 use Rattle.trace.specs.Run.{stopOf}
 use Rattle.trace.proofs.AnyMachine.{any-machine}
 use Rattle.trace.proofs.PlayedKeeps.{all-any}
 use Rattle.trace.proofs.ChipKeeps.{Held, Aside, Brings, Anything, brings, brings-any, replay-held, replay-aside}
-use Rattle.widebus.specs.Pair.{Pair, _beside_, Lent, lent, at}
+use Rattle.widebus.specs.Pair.{Pair, Lent, at}
 use Rattle.widebus.specs.declared.selection.Selection.{Selection}
 use Rattle.widebus.specs.declared.selection.Side.{Side}
-use Rattle.widetrace.specs.Terminal.{Terminal, terminal, theTerminal}
-use Rattle.widetrace.specs.WideRun.{WideRan, wideRan, lentAfter, wideRanOf, wideRun}
+use Rattle.widetrace.specs.Terminal.{Terminal, theTerminal}
+use Rattle.widetrace.specs.WideRun.{WideRan, wideRan, wideRanOf, wideRun}
 use Rattle.widetrace.specs.WideRunLaws.{BothAccepted, terminalIn, wideRunFrom, selectedAfter, wideFurther, WideRunLaws, TerminalAsMachine}
 use Rattle.widetrace.proofs.TerminalStretches.{terminal-never-zero}
 use Rattle.widetrace.proofs.TerminalHeaders.{header-never-zero}

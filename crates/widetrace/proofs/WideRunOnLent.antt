@@ -1,14 +1,13 @@
 -- A run on the lent states and memories of both chips: refused first, or played from the chips that are lent.
 -- Assumes nothing.
-use mathlib.Core.Path.{_≡_, refl, sym, _∙_, ap, subst}
-use mathlib.Core.Bool.{Bool, true, false, _||_}
+use mathlib.Core.Path.{_≡_, refl, sym, _∙_, ap}
+use mathlib.Core.Bool.{Bool, true, false}
 use mathlib.Core.List.{List}
 use Prim.Native.Nat.{ℕ, _≤_, _<_}
 use native.Mathlib.Omega.{arith}
 use borrow.Author.Tests.{le-ltb}
 use lib.Dec.{lit≤}
 use Rattle.constants.specs.Numbers.{taken, outOfRange}
-use Rattle.bus.specs.Chip.{Chip}
 use Rattle.bus.specs.CallsOnChip.{chipIn}
 use Rattle.bus.specs.Image.{short, legal, askedState, Accepted}
 use Rattle.bus.specs.Registers.{registersOf}
@@ -16,13 +15,13 @@ use Rattle.bus.proofs.Legal.{long}
 use Rattle.trace.specs.Records.{split}
 use Rattle.trace.specs.Play.{Played, play}
 use Rattle.trace.specs.Run.{stopOf}
-use Rattle.widebus.specs.Pair.{Pair, _beside_, Lent, lent, at, chipsOf}
+use Rattle.widebus.specs.Pair.{Pair, Lent, at}
 use Rattle.widebus.specs.Asked.{bothFound, askedBoth}
 use Rattle.widebus.specs.declared.both.Both.{Both}
 use Rattle.widebus.specs.declared.both.BothAsked.{BothAsked}
 use Rattle.widebus.specs.declared.selection.Selection.{Selection}
 use Rattle.widebus.specs.declared.selection.Side.{Side}
-use Rattle.widetrace.specs.Terminal.{Terminal, terminal, theTerminal}
+use Rattle.widetrace.specs.Terminal.{Terminal, theTerminal}
 use Rattle.widetrace.specs.WideRun.{WideRan, wideRan, lentAfter, wideRanOf, wideRunOn, wideRun}
 use Rattle.widetrace.specs.WideRunLaws.{BothAccepted, terminalIn}
 
