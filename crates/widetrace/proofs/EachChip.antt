@@ -10,12 +10,11 @@ use Rattle.constants.specs.Numbers.{taken}
 use Rattle.bus.specs.Chip.{Chip}
 use Rattle.bus.specs.CallsOnChip.{chipIn}
 use Rattle.bus.specs.Stretch.{Stretched, stretched, countedOn, stretch}
-use Rattle.bus.specs.StretchLaws.{NeverZero}
 use Rattle.trace.specs.Records.{split}
 use Rattle.trace.specs.Play.{Result, refuses, gives, onResult, Played, played}
 use Rattle.trace.specs.Kinds.{Recorded, replay, theChip}
 use Rattle.trace.specs.AnyMachine.{Gives}
-use Rattle.trace.specs.OneByOne.{Placed, scriptFrom, applied}
+use Rattle.trace.specs.OneByOne.{scriptFrom}
 use Rattle.trace.specs.Run.{Ran, ranOf, run}
 use Rattle.bus.proofs.StretchLaws.{the-chip-never-zero}
 use Rattle.trace.proofs.AnyMachine.{any-machine}
@@ -29,6 +28,7 @@ use Rattle.widetrace.specs.WideRun.{WideRan, lentAfter, wideRanOf, wideR
 use Rattle.widetrace.specs.WideRunLaws.{terminalIn}
 use Rattle.widetrace.specs.EachChip.{hears, heardBy, unplaced, heardIn, EachChip}
 use Rattle.widetrace.proofs.TerminalStretches.{terminal-never-zero}
+use Rattle.widetrace.proofs.AppliedStretches.{none-refused, all-applied}
 use Rattle.widetrace.proofs.TerminalHeard.{Heard, heard}
 use Rattle.widetrace.proofs.WideRunOnLent.{plays, run-found, accepted, accepted-on, the-chip, the-lent}
 
@@ -56,44 +56,6 @@ over-events side (happens recorded ∷ rest) t h =
         stretch replay whole (at side (t .chips)) ≡ stretched (at side (onResult (onResult x refuses (λ chips. gives (terminal chips (t .selection)))) (λ number. stretched t 0 number) (λ u. countedOn 1 (stretch wideStep rest u)) .state .chips)) (length whole) taken
     by (refuses number) g n h later = absurd (n number refl h)
     by (gives next) g n h later = before (hears side (t .selection)) side recorded (t .chips) next (stretch wideStep rest (terminal next (t .selection)) .state .chips) _ g (later (terminal next (t .selection)) h)
-
--- a script's events one by one and its events in a stretch: where none is refused they come to one state
-module _ {S E : Type 0} (step : E → S → Result S) (never : NeverZero step) (number offset count : ℕ) where
-  none-refused : (list : List (Placed E)) (s : S) → applied step list number offset count s .number ≡ taken
-      → (stretch step (unplaced list) s .number ≡ taken) × (stretch step (unplaced list) s .state ≡ applied step list number offset count s .state)
-  unfolding applied stretch
-  none-refused [] s h = (refl, refl)
-  none-refused (p ∷ rest) s h = by (step (p .event) s) (never (p .event) s) h (none-refused rest)
-    where
-      by : (x : Result S) → ((number : ℕ) → x ≡ refuses number → number ≡ taken → ⊥) → onResult x (λ refusal. played refusal (p .offset) (p .before) s) (λ t. applied step rest number offset count t) .number ≡ taken
-          → ((t : S) → applied step rest number offset count t .number ≡ taken → (stretch step (unplaced rest) t .number ≡ taken) × (stretch step (unplaced rest) t .state ≡ applied step rest number offset count t .state))
-          → let s′ = onResult x (λ number. stretched s 0 number) (λ t. countedOn 1 (stretch step (unplaced rest) t)) in
-          (s′ .number ≡ taken) × (s′ .state ≡ onResult x (λ refusal. played refusal (p .offset) (p .before) s) (λ t. applied step rest number offset count t) .state)
-      by (refuses refusal) n h later = absurd (n refusal refl h)
-      by (gives t) n h later = later t h
-
-  all-applied : (list : List (Placed E)) (s : S) → stretch step (unplaced list) s .number ≡ taken → applied step list number offset count s ≡ played number offset count (stretch step (unplaced list) s .state)
-  unfolding applied stretch
-  all-applied [] s h = refl
-  all-applied (p ∷ rest) s h = by (step (p .event) s) (never (p .event) s) h (all-applied rest)
-    where
-      by : (x : Result S) → ((number : ℕ) → x ≡ refuses number → number ≡ taken → ⊥) → onResult x (λ number. stretched s 0 number) (λ t. countedOn 1 (stretch step (unplaced rest) t)) .number ≡ taken
-          → ((t : S) → stretch step (unplaced rest) t .number ≡ taken → applied step rest number offset count t ≡ played number offset count (stretch step (unplaced rest) t .state))
-          → onResult x (λ refusal. played refusal (p .offset) (p .before) s) (λ t. applied step rest number offset count t) ≡ played number offset count (onResult x (λ number. stretched s 0 number) (λ t. countedOn 1 (stretch step (unplaced rest) t)) .state)
-      by (refuses refusal) n h later = absurd (n refusal refl h)
-      by (gives t) n h later = later t h
-
--- they come to one state in any case
-module _ {S E : Type 0} (step : E → S → Result S) (number offset count : ℕ) where
-  pub applied-state : (list : List (Placed E)) (s : S) → applied step list number offset count s .state ≡ stretch step (unplaced list) s .state
-  unfolding applied stretch
-  applied-state [] s = refl
-  applied-state (p ∷ rest) s = by (step (p .event) s) (applied-state rest)
-    where
-      by : (x : Result S) → ((t : S) → applied step rest number offset count t .state ≡ stretch step (unplaced rest) t .state)
-          → onResult x (λ refusal. played refusal (p .offset) (p .before) s) (λ t. applied step rest number offset count t) .state ≡ onResult x (λ number. stretched s 0 number) (λ t. countedOn 1 (stretch step (unplaced rest) t)) .state
-      by (refuses refusal) later = refl
-      by (gives t) later = later t
 
 module _ (all : Pair Lent) (trace : List ℕ) (h : wideRun all trace .stop .number ≡ taken) (side : Side) where
   abbrev alone : Stretched Chip

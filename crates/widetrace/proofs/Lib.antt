@@ -4,6 +4,8 @@ pub mod TerminalStretches
 pub mod TerminalKinds
 -- how the run of the code ends
 pub mod WideRunCode
+-- a script's events one by one, and in a stretch
+pub mod AppliedStretches
 -- what a record's kind and payload are made of
 pub mod TerminalHeaders
 -- what events are refused with

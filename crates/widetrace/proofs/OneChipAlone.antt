@@ -32,7 +32,7 @@ use Rattle.widetrace.specs.OneChipAlone.{alone, withOn, afterPulse, OneC
 use Rattle.widetrace.proofs.TerminalStretches.{happening}
 use Rattle.widetrace.proofs.TerminalHeard.{Heard, heard}
 use Rattle.widetrace.proofs.WideRunOnLent.{plays, run-found, run-refused, by-asking, accepted-on, the-chip, the-lent}
-use Rattle.widetrace.proofs.EachChip.{applied-state}
+use Rattle.widetrace.proofs.AppliedStretches.{applied-state}
 
 as-alone : (side : Side) (events : List Recorded) (chips : Pair Chip) → let s = stretch replay events (at side chips) in
     stretch wideStep (map happens events) (terminal chips (alone side)) ≡ stretched (terminal (withOn side (s .state) chips) (alone side)) (s .count) (s .number)

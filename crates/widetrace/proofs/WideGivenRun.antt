@@ -4,26 +4,26 @@ use mathlib.Core.Path.{_≡_, refl, sym, _∙_, ap, subst}
 use mathlib.Core.Logic.{_≢_, _⊎_, inl, inr}
 use mathlib.Core.Bool.{Bool, true}
 use mathlib.Core.List.{List, [], _∷_, _++_, map}
-use Prim.Native.Nat.{ℕ, _+_, _<_}
+use Prim.Native.Nat.{ℕ, _+_, _≤_, _<_}
 use native.Mathlib.Nat.{add-zero}
 use native.Mathlib.Omega.{arith}
 use lib.ListN.{length, take, drop}
 use lib.Seq.{length-take-le}
-use Rattle.constants.specs.Numbers.{taken, kindUnknown, noSelection, bothSelected}
+use Rattle.constants.specs.Numbers.{taken, headerCut, readDiffers, kindUnknown, noSelection, bothSelected}
 use Rattle.constants.specs.Sizes.{headerSize}
 use Rattle.bus.specs.Bytes.{All}
-use Rattle.trace.specs.Records.{kindOf, payloadOf, whole}
+use Rattle.trace.specs.Records.{kindOf, payloadOf, whole, CutShort}
 use Rattle.trace.specs.Play.{refuses, Played, played, playEvents}
 use Rattle.trace.specs.Kinds.{readAs, eventsOf}
 use Rattle.trace.specs.AnyMachine.{AnyMachine, Reached, EndsAs, allTaken, headerIsCut, headerRefused, eventRefused}
 use Rattle.trace.proofs.AnyMachine.{any-machine}
-use Rattle.trace.proofs.WhatStands.{where-left, whole-left}
+use Rattle.trace.proofs.WhatStands.{cut-tests, where-left, whole-left}
 use Rattle.widebus.specs.Pair.{Pair, Lent}
 use Rattle.widebus.specs.declared.selection.Selection.{Selection}
 use Rattle.widetrace.specs.Terminal.{Terminal, WideEvent, happens, wideEventsOf, theTerminal}
 use Rattle.widetrace.specs.WideRun.{WideRan, wideRanOf, wideRun}
 use Rattle.widetrace.specs.WideRunLaws.{BothAccepted, terminalIn}
-use Rattle.widetrace.specs.WideGivenRun.{WideUnknown, NoSelection, WideHeaderAt, WideGivesAt, wideStoppedAfter, WholeRecord, BothRead, WideGivenRun, WideHeaders}
+use Rattle.widetrace.specs.WideGivenRun.{WideUnknown, UnknownRecord, NoSelection, WideHeaderAt, WideGivesAt, wideStoppedAfter, WholeRecord, BothRead, WideGivenRun, WideHeaders}
 use Rattle.widetrace.proofs.TerminalHeaders.{NoRead, refused-header, selects-nothing, stands-for-nothing, what-reads}
 use Rattle.widetrace.proofs.TerminalRefusals.{OfTerminal, readsWide, refused-step, both-refuse, middle, none-before}
 use Rattle.widetrace.proofs.WideRunOnLent.{plays, run-found, run-refused, by-asking, accepted}
@@ -31,10 +31,6 @@ use Rattle.widetrace.proofs.WideRunLaws.{terminal-as-machine, wide-run-
 
 abbrev laws : AnyMachine theTerminal
 laws = any-machine theTerminal
-
--- a kind of record that is not taken, with the number that its header is refused with
-abbrev UnknownRecord : ℕ → List ℕ → Type 0
-UnknownRecord kind payload = WideUnknown kind (length payload)
 
 -- the numbers of headers are no events'
 of-header : {reads : Bool} {selection : Selection} {number : ℕ} → OfTerminal reads selection number → (number ≡ noSelection) ⊎ (number ≡ kindUnknown) → ⊥
@@ -45,10 +41,31 @@ of-header (inl (inr h)) (inr e) = omega (arith, h, e)
 of-header (inr h) (inl e) = omega (arith, h .0, e)
 of-header (inr h) (inr e) = omega (arith, h .0, e)
 
+of-cut : {reads : Bool} {selection : Selection} {number : ℕ} → OfTerminal reads selection number → number ≡ headerCut → ⊥
+of-cut (inl (inl h)) e = omega (arith, h .1, e)
+of-cut (inl (inr h)) e = omega (arith, h, e)
+of-cut (inr h) e = omega (arith, h .0, e)
+
+abbrev Known : ℕ → Type 0
+Known number = (number ≤ readDiffers) ⊎ (number ≡ noSelection) ⊎ (number ≡ bothSelected)
+
+of-known : {reads : Bool} {selection : Selection} {number : ℕ} → OfTerminal reads selection number → Known number
+of-known (inl (inl h)) = inl (omega (arith, h .1))
+of-known (inl (inr h)) = inl (omega (arith, h))
+of-known (inr h) = inr (inr (h .0))
+
 of-both : {reads : Bool} {selection : Selection} {number : ℕ} → OfTerminal reads selection number → number ≡ bothSelected → (selection ≡ Selection.Both) × (reads ≡ true)
 of-both (inl (inl h)) e = absurd (omega (arith, h .1, e))
 of-both (inl (inr h)) e = absurd (omega (arith, h, e))
 of-both (inr h) e = (h .1, h .2)
+
+no-header : {A B : Type 0} {number : ℕ} → ((number ≡ noSelection) × A) ⊎ ((number ≡ kindUnknown) × B) → number ≡ headerCut → ⊥
+no-header (inl h) e = omega (arith, h .0, e)
+no-header (inr h) e = omega (arith, h .0, e)
+
+header-known : {A B : Type 0} {number : ℕ} → ((number ≡ noSelection) × A) ⊎ ((number ≡ kindUnknown) × B) → Known number
+header-known (inl h) = inr (inl (h .0))
+header-known (inr h) = inl (omega (arith, h .0))
 
 module _ (all : Pair Lent) (trace : List ℕ) where
   abbrev start : Terminal
@@ -62,7 +79,7 @@ module _ (all : Pair Lent) (trace : List ℕ) where
   its-whole : (p : Played Terminal) (at : ℕ) → p .number ≡ taken → p .offset ≡ at → p ≡ played taken at (p .count) (p .state)
   its-whole p at n o = rw (← n, ← o)
 
-  module _ (at : ℕ) (h : WideHeaderAt all trace at) (w : whole (drop at trace) ≡ true) where
+  module _ (at : ℕ) (h : WideHeaderAt all trace at) (some : length (drop at trace) ≡ 0 → ⊥) where
     ok : BothAccepted all
     ok = accepted all (take at trace) h
 
@@ -73,7 +90,7 @@ module _ (all : Pair Lent) (trace : List ℕ) where
     unfolding wideRanOf
     reached =
         let e = run-found all ok (take at trace) in
-        let size = length-take-le at trace (where-left trace at (whole-left trace at w)) in
+        let size = length-take-le at trace (where-left trace at some) in
         its-whole before at (ap (λ (o : WideRan). o .stop .number) (sym e) ∙ h) (ap (λ (o : WideRan). o .stop .offset) (sym e) ∙ wide-run-laws all .whole (take at trace) h .0 ∙ size)
 
     -- the run is where the trace is played
@@ -81,8 +98,11 @@ module _ (all : Pair Lent) (trace : List ℕ) where
     unfolding wideRanOf
     stops number offset e = run-found all ok trace ∙ ap (λ (p : Played Terminal). wideRanOf p all) (laws .ends (terminal-as-machine .sound) trace start _ .1 e) ∙ rw (run-found all ok (take at trace))
 
-    header-stops : (number : ℕ) → wideEventsOf (kindOf (drop at trace)) (payloadOf (drop at trace)) ≡ refuses number → wideRun all trace ≡ wideStoppedAfter number at (wideRun all (take at trace))
-    header-stops number e = stops number at (headerRefused at (before .count) number (before .state) reached w e)
+  header-stops : (at : ℕ) → WideHeaderAt all trace at → whole (drop at trace) ≡ true → (number : ℕ) → wideEventsOf (kindOf (drop at trace)) (payloadOf (drop at trace)) ≡ refuses number → wideRun all trace ≡ wideStoppedAfter number at (wideRun all (take at trace))
+  header-stops at h w number e = let some = whole-left trace at w in stops at h some number at (headerRefused at _ number _ (reached at h some) w e)
+
+  eight-leaves : (offset : ℕ) → WideHeaderAt all trace offset → CutShort (drop offset trace) → wideRun all trace ≡ wideStoppedAfter headerCut offset (wideRun all (take offset trace))
+  eight-leaves at h c = let some = cut-tests (drop at trace) c .0 in stops at h some headerCut at (headerIsCut at _ _ (reached at h some) c)
 
   thirteen-leaves : (offset : ℕ) → WholeRecord NoSelection all trace offset → wideRun all trace ≡ wideStoppedAfter noSelection offset (wideRun all (take offset trace))
   thirteen-leaves offset h = header-stops offset (h .header) (h .complete) noSelection (selects-nothing _ _ (h .kind))
@@ -102,7 +122,8 @@ module _ (all : Pair Lent) (trace : List ℕ) where
   fourteen-leaves : (offset : ℕ) (h : BothRead all trace offset) → wideRun all trace ≡ wideStoppedAfter bothSelected offset (wideRun all (take (h .place) trace))
   fourteen-leaves offset h =
       let r = h .reads in
-      rw (h .first) (stops (h .place) (r .header) (r .complete) bothSelected (h .place + headerSize) (first-read _ _ (r .kind .0) (r .kind .1) (h .place) _ _ refl refl (reached (h .place) (r .header) (r .complete)) (r .complete) (h .both)))
+      let some = whole-left trace (h .place) (r .complete) in
+      rw (h .first) (stops (h .place) (r .header) some bothSelected (h .place + headerSize) (first-read _ _ (r .kind .0) (r .kind .1) (h .place) _ _ refl refl (reached (h .place) (r .header) some) (r .complete) (h .both)))
 
   -- the other way: how the played trace ends
   module _ (a : BothAccepted all) where
@@ -148,6 +169,18 @@ module _ (all : Pair Lent) (trace : List ℕ) where
               first = rw (n .0) (add-zero (at + headerSize));
             }
 
+    is-eight : {p : Played Terminal} → EndsAs theTerminal trace start p → p .number ≡ headerCut → WideHeaderAt all trace (p .offset) × CutShort (drop (p .offset) trace)
+    is-eight (allTaken count t r) e = absurd (omega arith)
+    is-eight (headerIsCut at count t r c) e = (header-at a r, c)
+    is-eight (headerRefused at count number t r w f) e = absurd (no-header (refused-header _ _ number f) e)
+    is-eight (eventRefused at count number t u before event rest r w f d s) e = absurd (of-cut (refused-step event u number s) e)
+
+    is-known : {p : Played Terminal} → EndsAs theTerminal trace start p → Known (p .number)
+    is-known (allTaken count t r) = inl (omega arith)
+    is-known (headerIsCut at count t r c) = inl (omega arith)
+    is-known (headerRefused at count number t r w f) = header-known (refused-header _ _ number f)
+    is-known (eventRefused at count number t u before event rest r w f d s) = of-known (refused-step event u number s)
+
     -- a run's number and offset are those of the played trace
     ends : EndsAs theTerminal trace start (plays all trace)
     ends = laws .ends (terminal-as-machine .sound) trace start _ .0 refl
@@ -160,6 +193,10 @@ module _ (all : Pair Lent) (trace : List ℕ) where
       (λ a. let e = run-found all a trace in subst A (ap (λ (o : WideRan). o .stop .offset) (sym e) ∙ h .1) (go a (ap (λ (o : WideRan). o .stop .number) (sym e) ∙ h .0)))
       (λ refusal e n. absurd (omega (arith, big, n .1, ap (λ (o : WideRan). o .stop .number) (sym (run-refused all trace e)) ∙ h .0)))
 
+  no-other : Known (wideRun all trace .stop .number)
+  unfolding wideRanOf
+  no-other = by-asking all _ (λ a. rw (run-found all a trace) (is-known a (ends a))) (λ refusal e n. rw (run-refused all trace e) (inl (omega (arith, n .1))))
+
 pub wide-given-run : (all : Pair Lent) (trace : List ℕ) → WideGivenRun all trace
 wide-given-run all trace =
     record {
@@ -167,8 +204,11 @@ wide-given-run all trace =
       number13Leaves = thirteen-leaves all trace;
       number9 = λ offset. (given all trace (WholeRecord UnknownRecord all trace) kindUnknown (omega arith) (λ a. is-nine all trace a (ends all trace a)) offset, λ h. rw (nine-leaves all trace offset h) (refl, refl));
       number9Leaves = nine-leaves all trace;
+      number8 = λ offset. (given all trace (λ (offset : ℕ). WideHeaderAt all trace offset × CutShort (drop offset trace)) headerCut (omega arith) (λ a. is-eight all trace a (ends all trace a)) offset, λ h. rw (eight-leaves all trace offset (h .0) (h .1)) (refl, refl));
+      number8Leaves = eight-leaves all trace;
       number14 = λ offset. (given all trace (BothRead all trace) bothSelected (omega arith) (λ a. is-fourteen all trace a (ends all trace a)) offset, λ h. rw (fourteen-leaves all trace offset h) (refl, refl));
       number14Leaves = fourteen-leaves all trace;
+      noOther = no-other all trace;
     }
 
 other : {A B : Type 0} {number : ℕ} → ((number ≡ noSelection) × A) ⊎ ((number ≡ kindUnknown) × B) → (number ≡ noSelection) ⊎ (number ≡ kindUnknown)

@@ -1,7 +1,7 @@
 -- What a run of the wide terminal does as a whole.
 -- Assumes nothing.
 use mathlib.Core.Path.{_≡_, refl, sym, _∙_, ap, subst}
-use mathlib.Core.List.{List, [], _++_}
+use mathlib.Core.List.{List, [], _∷_, _++_}
 use Prim.Native.Nat.{ℕ, _≤_}
 use native.Mathlib.Omega.{arith}
 use lib.ListN.{length, drop, length-drop}
@@ -16,8 +16,10 @@ use Rattle.bus.proofs.Asking.{found-legal}
 use Rattle.bus.proofs.Kept.{asked-legal}
 use Rattle.bus.proofs.Legal.{long}
 use Rattle.bus.proofs.Stored.{stored-long, stored-own, stored-again, stored-past, asked-stored}
+use Rattle.bus.specs.Stretch.{stretched, countedOn, stretch}
 use Rattle.trace.specs.Records.{split, recordsIn}
-use Rattle.trace.specs.Play.{Played, play}
+use Rattle.trace.specs.Play.{Result, refuses, gives, onResult, Played, played, play}
+use Rattle.trace.specs.OneByOne.{Placed, scriptFrom, applied}
 use Rattle.trace.specs.AnyMachine.{AnyMachine}
 use Rattle.trace.specs.Run.{stopOf}
 use Rattle.trace.proofs.AnyMachine.{any-machine}
@@ -26,11 +28,14 @@ use Rattle.trace.proofs.ChipKeeps.{Held, Aside, Brings, Anything, brings, bring
 use Rattle.widebus.specs.Pair.{Pair, Lent, at}
 use Rattle.widebus.specs.declared.selection.Selection.{Selection}
 use Rattle.widebus.specs.declared.selection.Side.{Side}
-use Rattle.widetrace.specs.Terminal.{Terminal, theTerminal}
+use Rattle.widebus.specs.Events.{replayOn}
+use Rattle.widetrace.specs.Terminal.{Terminal, terminal, WideEvent, selects, happens, wideStep, theTerminal}
+use Rattle.widetrace.specs.EachChip.{unplaced}
 use Rattle.widetrace.specs.WideRun.{WideRan, wideRan, wideRanOf, wideRun}
-use Rattle.widetrace.specs.WideRunLaws.{BothAccepted, terminalIn, wideRunFrom, selectedAfter, wideFurther, WideRunLaws, TerminalAsMachine}
+use Rattle.widetrace.specs.WideRunLaws.{BothAccepted, terminalIn, wideRunFrom, selectedAfter, lastSelected, wideFurther, WideRunLaws, TerminalAsMachine}
 use Rattle.widetrace.proofs.TerminalStretches.{terminal-never-zero}
 use Rattle.widetrace.proofs.TerminalHeaders.{header-never-zero}
+use Rattle.widetrace.proofs.AppliedStretches.{none-refused, stops-first}
 use Rattle.widetrace.proofs.TerminalHeard.{WideBrings, wide-brings, step-keeps}
 use Rattle.widetrace.proofs.WideRunOnLent.{plays, run-found, run-refused, by-asking, accepted, accepted-on, the-chip, the-lent}
 
@@ -44,6 +49,20 @@ laws = any-machine theTerminal
 is-found : (one : Lent) → Accepted (one .state) (one .memory) → asked (one .state) (one .memory) ≡ Asked.Found (registersOf (one .state))
 unfolding asked
 is-found one a = rw (a .longEnough, a .inRanges)
+
+-- events that are all taken leave the last selection among them
+last-selected : (events : List WideEvent) (t : Terminal) → stretch wideStep events t .number ≡ taken → stretch wideStep events t .state .selection ≡ lastSelected (t .selection) events
+unfolding stretch wideStep lastSelected
+last-selected [] t h = refl
+last-selected (selects selection ∷ rest) t h = last-selected rest (terminal (t .chips) selection) h
+last-selected (happens recorded ∷ rest) t h = by (replayOn (t .selection) recorded (t .chips)) (terminal-never-zero (happens recorded) t) h (λ chips. last-selected rest (terminal chips (t .selection)))
+  where
+    by : (x : Result (Pair Chip)) → ((number : ℕ) → onResult x refuses (λ chips. gives (terminal chips (t .selection))) ≡ refuses number → number ≡ taken → ⊥)
+        → onResult (onResult x refuses (λ chips. gives (terminal chips (t .selection)))) (λ number. stretched t 0 number) (λ u. countedOn 1 (stretch wideStep rest u)) .number ≡ taken
+        → ((chips : Pair Chip) → stretch wideStep rest (terminal chips (t .selection)) .number ≡ taken → stretch wideStep rest (terminal chips (t .selection)) .state .selection ≡ lastSelected (t .selection) rest)
+        → onResult (onResult x refuses (λ chips. gives (terminal chips (t .selection)))) (λ number. stretched t 0 number) (λ u. countedOn 1 (stretch wideStep rest u)) .state .selection ≡ lastSelected (t .selection) rest
+    by (refuses number) n h later = absurd (n number refl h)
+    by (gives chips) n h later = later chips h
 
 module _ (all : Pair Lent) (ok : BothAccepted all) where
   image : (side : Side) → imageSize ≤ length (at side all .state)
@@ -107,6 +126,25 @@ module _ (all : Pair Lent) (ok : BothAccepted all) where
       let w = laws .whole (terminal-as-machine .sound) trace (terminalIn all Selection.Both) (ap (λ (o : WideRan). o .stop .number) (sym e) ∙ h) in
       (ap (λ (o : WideRan). o .stop .offset) e ∙ w .0, ap (λ (o : WideRan). o .stop .count) e ∙ w .1)
 
+  selected-found : (trace : List ℕ) → wideRun all trace .stop .number ≡ taken → selectedAfter all trace ≡ lastSelected Selection.Both (unplaced (scriptFrom theTerminal (split trace) 0 .events))
+  unfolding wideRanOf
+  selected-found trace h =
+      let start = terminalIn all Selection.Both in
+      let script = scriptFrom theTerminal (split trace) 0 in
+      let e = laws .byEvents trace start in
+      let n : plays all trace .number ≡ taken = ap (λ (o : WideRan). o .stop .number) (sym (run-found all ok trace)) ∙ h in
+      let s = none-refused wideStep terminal-never-zero (script .number) (script .offset) (script .count) (script .events) start (ap (λ (p : Played Terminal). p .number) (sym e) ∙ n) in
+      ap (λ (p : Played Terminal). p .state .selection) e ∙ ap (λ (t : Terminal). t .selection) (sym (s .1)) ∙ last-selected (unplaced (script .events)) start (s .0)
+
+  first-refused : (trace : List ℕ) (before : List (Placed WideEvent)) (p : Placed WideEvent) (rest : List (Placed WideEvent)) (number : ℕ) → scriptFrom theTerminal (split trace) 0 .events ≡ before ++ p ∷ rest
+      → let early = stretch wideStep (unplaced before) (terminalIn all Selection.Both) in early .number ≡ taken → wideStep (p .event) (early .state) ≡ refuses number
+      → wideRun all trace ≡ wideRanOf (played number (p .offset) (p .before) (early .state)) all
+  first-refused trace before p rest number e h s =
+      let start = terminalIn all Selection.Both in
+      let script = scriptFrom theTerminal (split trace) 0 in
+      run-found all ok trace ∙ ap (λ (p : Played Terminal). wideRanOf p all) (laws .byEvents trace start
+      ∙ ap (λ (events : List (Placed WideEvent)). applied wideStep events (script .number) (script .offset) (script .count) start) e ∙ stops-first wideStep terminal-never-zero (script .number) (script .offset) (script .count) before p rest start number h s)
+
   -- `a`, then `b`
   module _ (a : List ℕ) (bytes : Bytes a) where
     -- what `a` leaves is lent again as the terminal that it left
@@ -147,11 +185,13 @@ pub wide-run-laws : (all : Pair Lent) → WideRunLaws all
 wide-run-laws all =
     record {
       bySteps = λ a trace. run-found all a trace ∙ ap (λ (p : Played Terminal). wideRanOf p all) (laws .byEvents trace (terminalIn all Selection.Both));
+      firstRefused = λ a. first-refused all a;
       empty = λ a. empty-found all a;
       refused = λ trace number e. run-refused all trace e;
       whole = λ trace h. whole-found all (accepted all trace h) trace h;
       joined = joined all;
       twoRuns = two-runs all;
+      selected = λ trace h. selected-found all (accepted all trace h) trace h;
       staysLegal = λ a trace bytes. legal-found all a trace bytes;
       statePast = λ trace side. stays all trace side .0;
       memoryPast = λ trace side. stays all trace side .1;

@@ -1,13 +1,13 @@
--- Document 02, Order 4, "Refusals": when a run of the wide terminal gives 13, 14 and, in its new reading, 9. proofs/WideGivenRun.antt proves `WideGivenRun` and `WideHeaders`.
+-- Document 02, Order 4, "Refusals": when a run of the wide terminal gives 13, 14 and, in its new reading, 9, and 8 before them. proofs/WideGivenRun.antt proves `WideGivenRun` and `WideHeaders`.
 use Prim.Native.Nat.{ℕ, _+_, _≤_}
 use mathlib.Core.Path.{_≡_}
 use mathlib.Core.Logic.{_≢_, _⊎_, _↔_}
 use mathlib.Core.Bool.{true}
 use mathlib.Core.List.{List, [], _∷_}
 use lib.ListN.{length, take, drop}
-use Rattle.constants.specs.Numbers.{taken, kindUnknown, noSelection, bothSelected}
+use Rattle.constants.specs.Numbers.{taken, headerCut, kindUnknown, readDiffers, noSelection, bothSelected}
 use Rattle.constants.specs.Sizes.{headerSize}
-use Rattle.trace.specs.Records.{kindOf, payloadOf, whole}
+use Rattle.trace.specs.Records.{kindOf, payloadOf, whole, CutShort}
 use Rattle.trace.specs.Play.{refuses, gives}
 use Rattle.trace.specs.Run.{stopOf}
 use Rattle.widebus.specs.Pair.{Pair, Lent}
@@ -31,6 +31,10 @@ pub data WideUnknown (kind size : ℕ) : Type 0 where
 pub record NoSelection (kind : ℕ) (payload : List ℕ) : Type 0 where
   pub selects : kind ≡ 5
   pub other : OneOfThree payload → ⊥
+
+-- A record of a kind that is unknown so.
+abbrev pub UnknownRecord : ℕ → List ℕ → Type 0
+UnknownRecord kind payload = WideUnknown kind (length payload)
 
 -- A header should stand at an offset: the bytes before it run, and all are taken.
 abbrev pub WideHeaderAt : Pair Lent → List ℕ → ℕ → Type 0
@@ -62,11 +66,16 @@ pub record WideGivenRun (all : Pair Lent) (trace : List ℕ) : Type 0 where
   pub number13 : (offset : ℕ) → WideGivesAt (wideRun all trace) noSelection offset ↔ WholeRecord NoSelection all trace offset
   pub number13Leaves : (offset : ℕ) → WholeRecord NoSelection all trace offset → wideRun all trace ≡ wideStoppedAfter noSelection offset (wideRun all (take offset trace))
   -- 9: a kind that is not 1 to 5, or 4 with a payload, at the record's first byte. What the records before it left stands.
-  pub number9 : (offset : ℕ) → WideGivesAt (wideRun all trace) kindUnknown offset ↔ WholeRecord (λ (kind : ℕ) (payload : List ℕ). WideUnknown kind (length payload)) all trace offset
-  pub number9Leaves : (offset : ℕ) → WholeRecord (λ (kind : ℕ) (payload : List ℕ). WideUnknown kind (length payload)) all trace offset → wideRun all trace ≡ wideStoppedAfter kindUnknown offset (wideRun all (take offset trace))
+  pub number9 : (offset : ℕ) → WideGivesAt (wideRun all trace) kindUnknown offset ↔ WholeRecord UnknownRecord all trace offset
+  pub number9Leaves : (offset : ℕ) → WholeRecord UnknownRecord all trace offset → wideRun all trace ≡ wideStoppedAfter kindUnknown offset (wideRun all (take offset trace))
+  -- 8: one to three bytes left where a header should stand, or payload past the end, at the record's first byte. What the records before it left stands.
+  pub number8 : (offset : ℕ) → WideGivesAt (wideRun all trace) headerCut offset ↔ WideHeaderAt all trace offset × CutShort (drop offset trace)
+  pub number8Leaves : (offset : ℕ) → WideHeaderAt all trace offset → CutShort (drop offset trace) → wideRun all trace ≡ wideStoppedAfter headerCut offset (wideRun all (take offset trace))
   -- 14: a read with both selected, before the chips are asked: it can only be a record's first. What the records before it left stands.
   pub number14 : (offset : ℕ) → WideGivesAt (wideRun all trace) bothSelected offset ↔ BothRead all trace offset
   pub number14Leaves : (offset : ℕ) (h : BothRead all trace offset) → wideRun all trace ≡ wideStoppedAfter bothSelected offset (wideRun all (take (h .place) trace))
+  -- Every other number is one that document 01 has: up to 10.
+  pub noOther : (wideRun all trace .stop .number ≤ readDiffers) ⊎ (wideRun all trace .stop .number ≡ noSelection) ⊎ (wideRun all trace .stop .number ≡ bothSelected)
 
 -- The same of a record's kind and payload, whatever stands before it.
 pub record WideHeaders (kind : ℕ) (payload : List ℕ) : Type 0 where

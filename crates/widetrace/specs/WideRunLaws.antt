@@ -1,17 +1,18 @@
 -- Document 02, Order 4: what a run of the wide terminal does as a whole. proofs/WideRunLaws.antt proves `WideRunLaws` and `TerminalAsMachine`.
 use Prim.Native.Nat.{ℕ, _+_}
 use mathlib.Core.Path.{_≡_}
-use mathlib.Core.List.{List, [], _++_}
+use mathlib.Core.List.{List, [], _∷_, _++_}
 use lib.ListN.{length, drop}
 use Rattle.constants.specs.Numbers.{taken}
 use Rattle.constants.specs.Sizes.{imageSize, memorySize}
 use Rattle.bus.specs.Bytes.{Bytes}
 use Rattle.bus.specs.CallsOnChip.{chipIn}
 use Rattle.bus.specs.Image.{Accepted}
+use Rattle.bus.specs.Stretch.{stretch}
 use Rattle.trace.specs.Records.{split, recordsIn}
-use Rattle.trace.specs.Play.{play}
+use Rattle.trace.specs.Play.{refuses, played, play}
 use Rattle.trace.specs.AnyMachine.{Sound, AnyMachine}
-use Rattle.trace.specs.OneByOne.{scriptFrom, oneByOne}
+use Rattle.trace.specs.OneByOne.{Placed, scriptFrom, oneByOne}
 use Rattle.trace.specs.Run.{stopOf}
 use Rattle.trace.specs.declared.run.Stop.{Stop}
 use Rattle.widebus.specs.Pair.{Pair, _beside_, Lent, at}
@@ -19,8 +20,9 @@ use Rattle.widebus.specs.Asked.{askedBoth}
 use Rattle.widebus.specs.declared.both.BothAsked.{BothAsked}
 use Rattle.widebus.specs.declared.selection.Selection.{Selection}
 use Rattle.widebus.specs.declared.selection.Side.{Side}
-use Rattle.widetrace.specs.Terminal.{Terminal, terminal, theTerminal}
+use Rattle.widetrace.specs.Terminal.{Terminal, terminal, WideEvent, selects, happens, wideStep, theTerminal}
 use Rattle.widetrace.specs.WideRun.{WideRan, wideRan, wideRanOf, wideRun}
+use Rattle.widetrace.specs.EachChip.{unplaced}
 
 -- 1 and 2 refuse neither chip's state and memory.
 abbrev pub BothAccepted : Pair Lent → Type 0
@@ -38,6 +40,12 @@ wideRunFrom chosen all trace = wideRanOf (play theTerminal (split trace) (termin
 abbrev pub selectedAfter : Pair Lent → List ℕ → Selection
 selectedAfter all trace = play theTerminal (split trace) (terminalIn all Selection.Both) .state .selection
 
+-- The last selection among events, or the one before them.
+unfoldable pub lastSelected : Selection → List WideEvent → Selection
+lastSelected selection [] = selection
+lastSelected selection (selects next ∷ rest) = lastSelected next rest
+lastSelected selection (happens recorded ∷ rest) = lastSelected selection rest
+
 -- A run's outcome with the offset and the count of another before it added.
 abbrev pub wideFurther : Stop → WideRan → WideRan
 wideFurther before r = wideRan (stopOf (r .stop .number) (before .offset + r .stop .offset) (before .count + r .stop .count)) (r .lent)
@@ -45,6 +53,10 @@ wideFurther before r = wideRan (stopOf (r .stop .number) (before .offset + r .st
 pub record WideRunLaws (all : Pair Lent) : Type 0 where
   -- A run is what the terminal's steps give one by one from the two chips that are lent, with both selected, up to the first refused one; the images of what is left are stored.
   pub bySteps : BothAccepted all → (trace : List ℕ) → wideRun all trace ≡ wideRanOf (oneByOne theTerminal (scriptFrom theTerminal (split trace) 0) (terminalIn all Selection.Both)) all
+  -- Demand 1: a run stops at its first refused event, at its byte and with the count of the records before its own. The event has changed neither chip: what the events before it left stands.
+  pub firstRefused : BothAccepted all → (trace : List ℕ) (before : List (Placed WideEvent)) (p : Placed WideEvent) (rest : List (Placed WideEvent)) (number : ℕ)
+      → scriptFrom theTerminal (split trace) 0 .events ≡ before ++ p ∷ rest → let early = stretch wideStep (unplaced before) (terminalIn all Selection.Both) in early .number ≡ taken
+      → wideStep (p .event) (early .state) ≡ refuses number → wideRun all trace ≡ wideRanOf (played number (p .offset) (p .before) (early .state)) all
   -- An empty trace is taken, with offset 0, count 0 and nothing changed.
   pub empty : BothAccepted all → wideRun all [] ≡ wideRan (stopOf taken 0 0) all
   -- 1 and 2 come with offset 0 and count 0, and nothing changes.
@@ -55,6 +67,8 @@ pub record WideRunLaws (all : Pair Lent) : Type 0 where
   pub joined : (a b : List ℕ) → Bytes a → wideRun all a .stop .number ≡ taken → wideRun all (a ++ b) ≡ wideFurther (wideRun all a .stop) (wideRunFrom (selectedAfter all a) (wideRun all a .lent) b)
   -- Where it also ends with both selected, that is a second run: each run starts with both.
   pub twoRuns : (a b : List ℕ) → Bytes a → wideRun all a .stop .number ≡ taken → selectedAfter all a ≡ Selection.Both → wideRun all (a ++ b) ≡ wideFurther (wideRun all a .stop) (wideRun (wideRun all a .lent) b)
+  -- A selection holds until the next one: where all is taken, the last of the trace's selections stands, and both where it has none.
+  pub selected : (trace : List ℕ) → wideRun all trace .stop .number ≡ taken → selectedAfter all trace ≡ lastSelected Selection.Both (unplaced (scriptFrom theTerminal (split trace) 0 .events))
   -- Legal images stay legal.
   pub staysLegal : BothAccepted all → (trace : List ℕ) → Bytes trace → BothAccepted (wideRun all trace .lent)
   -- Of either chip: bytes past the needed lengths never change, and the lengths stay.
