@@ -20,7 +20,9 @@ pub mod EachChip
 pub mod WideRunLaws
 -- one chip alone: what is not selected stays
 pub mod OneChipAlone
--- when a run gives 13, 14 and 9
+-- a run on what is accepted meets neither 1 nor 2
+pub mod WideNotOneOrTwo
+-- when a run gives each number, and what it leaves then
 pub mod WideGivenRun
 -- the events of a run by the calls of the wide bus
 pub mod WideByCalls

@@ -14,10 +14,11 @@ use Rattle.bus.specs.Chip.{Chip}
 use Rattle.trace.specs.Play.{Result, refuses, gives, onResult, stopped, done, playEvents}
 use Rattle.trace.specs.Kinds.{Recorded, readAs, replay}
 use Rattle.trace.proofs.ChipRefusals.{Refusing, Refusal, own, differing, refused-event}
-use Rattle.widebus.specs.Pair.{Pair}
+use Rattle.widebus.specs.Pair.{at}
+use Rattle.widebus.specs.declared.selection.Side.{Side}
 use Rattle.widebus.specs.Events.{toSelected, areBoth, readsData, replayOn}
 use Rattle.widebus.specs.declared.selection.Selection.{Selection}
-use Rattle.widetrace.specs.Terminal.{Terminal, terminal, WideEvent, selects, happens, wideStep, theTerminal}
+use Rattle.widetrace.specs.Terminal.{Terminal, WideEvent, selects, happens, wideStep, theTerminal}
 use Rattle.widetrace.proofs.TerminalHeaders.{NoRead}
 use Rattle.widetrace.proofs.OneChipAlone.{keeps}
 
@@ -40,15 +41,22 @@ chip-refuses recorded c = by (replay recorded c) refl
 abbrev pub OfTerminal : Bool → Selection → ℕ → Type 0
 OfTerminal reads selection number = OfChip number ⊎ ((number ≡ bothSelected) × (selection ≡ Selection.Both) × (reads ≡ true))
 
-onward : {A B : Type 0} (P : ℕ → Type 0) (x : Result A) (go : A → Result B) → Refusing OfChip x → ((number : ℕ) → OfChip number → P number) → ((a : A) → Refusing P (go a)) → Refusing P (onResult x refuses go)
-onward P (refuses number) go m f later = f number m
-onward P (gives a) go m f later = later a
+-- what holds of each number that a chip refuses with, and of 14 where both are selected and it reads, holds of the number that the terminal refuses with
+module _ (P : ℕ → Type 0) where
+  onward : {A B : Type 0} (x : Result A) (go : A → Result B) → Refusing P x → ((a : A) → Refusing P (go a)) → Refusing P (onResult x refuses go)
+  onward (refuses number) go m later = m
+  onward (gives a) go m later = later a
 
-to-selected : (reads : Bool) (selection : Selection) (recorded : Recorded) (chips : Pair Chip) → Refusing (OfTerminal reads selection) (toSelected replay selection recorded chips)
-unfolding toSelected
-to-selected reads Selection.Left recorded chips = onward _ (replay recorded (chips .left)) _ (chip-refuses recorded (chips .left)) (λ n h. inl h) (λ l. tt)
-to-selected reads Selection.Right recorded chips = onward _ (replay recorded (chips .right)) _ (chip-refuses recorded (chips .right)) (λ n h. inl h) (λ r. tt)
-to-selected reads Selection.Both recorded chips = onward _ (replay recorded (chips .left)) _ (chip-refuses recorded (chips .left)) (λ n h. inl h) (λ l. onward _ (replay recorded (chips .right)) _ (chip-refuses recorded (chips .right)) (λ n h. inl h) (λ r. tt))
+  module _ (recorded : Recorded) (t : Terminal) (each : (side : Side) → Refusing P (replay recorded (at side (t .chips)))) where
+    to-selected : (selection : Selection) → Refusing P (toSelected replay selection recorded (t .chips))
+    unfolding toSelected
+    to-selected Selection.Left = onward (replay recorded (t .chips .left)) _ (each Side.Left) (λ l. tt)
+    to-selected Selection.Right = onward (replay recorded (t .chips .right)) _ (each Side.Right) (λ r. tt)
+    to-selected Selection.Both = onward (replay recorded (t .chips .left)) _ (each Side.Left) (λ l. onward (replay recorded (t .chips .right)) _ (each Side.Right) (λ r. tt))
+
+    pub refusing : ((areBoth (t .selection) && readsData recorded) ≡ true → P bothSelected) → Refusing P (wideStep (happens recorded) t)
+    unfolding wideStep replayOn
+    refusing both = onward (replayOn (t .selection) recorded (t .chips)) _ (chosen (Refusing P) (areBoth (t .selection) && readsData recorded) _ _ both (λ e. to-selected (t .selection))) (λ chips. tt)
 
 are-both : (selection : Selection) (reads : Bool) → (areBoth selection && reads) ≡ true → (selection ≡ Selection.Both) × (reads ≡ true)
 are-both Selection.Left reads e = absurd (false≢true e)
@@ -60,14 +68,16 @@ abbrev pub readsWide : WideEvent → Bool
 readsWide (selects selection) = false
 readsWide (happens recorded) = readsData recorded
 
+of-chip : {P : ℕ → Type 0} (x : Result Chip) → Refusing OfChip x → ((number : ℕ) → OfChip number → P number) → Refusing P x
+of-chip (refuses number) h f = f number h
+of-chip (gives t) h f = tt
+
 step-refuses : (event : WideEvent) (t : Terminal) → Refusing (OfTerminal (readsWide event) (t .selection)) (wideStep event t)
-unfolding wideStep replayOn
+unfolding wideStep
 step-refuses (selects selection) t = tt
-step-refuses (happens recorded) t = by (replayOn (t .selection) recorded (t .chips)) (chosen (Refusing (OfTerminal (readsData recorded) (t .selection))) (areBoth (t .selection) && readsData recorded) _ _ (λ e. let h = are-both (t .selection) (readsData recorded) e in inr (refl, h .0, h .1)) (λ e. to-selected (readsData recorded) (t .selection) recorded (t .chips)))
-  where
-    by : (x : Result (Pair Chip)) → Refusing (OfTerminal (readsData recorded) (t .selection)) x → Refusing (OfTerminal (readsData recorded) (t .selection)) (onResult x refuses (λ chips. gives (terminal chips (t .selection))))
-    by (refuses number) h = h
-    by (gives chips) h = tt
+step-refuses (happens recorded) t =
+    refusing (OfTerminal (readsData recorded) (t .selection)) recorded t (λ side. of-chip {P = OfTerminal (readsData recorded) (t .selection)} (replay recorded (at side (t .chips))) (chip-refuses recorded (at side (t .chips))) (λ n h. inl h))
+    (λ e. let h = are-both (t .selection) (readsData recorded) e in inr (refl, h .0, h .1))
 
 pub refused-step : (event : WideEvent) (t : Terminal) (number : ℕ) → wideStep event t ≡ refuses number → OfTerminal (readsWide event) (t .selection) number
 refused-step event t number e = subst (Refusing (OfTerminal (readsWide event) (t .selection))) e (step-refuses event t)

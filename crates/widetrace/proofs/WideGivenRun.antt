@@ -2,31 +2,42 @@
 -- Assumes nothing.
 use mathlib.Core.Path.{_≡_, refl, sym, _∙_, ap, subst}
 use mathlib.Core.Logic.{_≢_, _⊎_, inl, inr}
-use mathlib.Core.Bool.{Bool, true}
+use mathlib.Core.Bool.{Bool, true, false, _&&_, false≢true}
 use mathlib.Core.List.{List, [], _∷_, _++_, map}
 use Prim.Native.Nat.{ℕ, _+_, _≤_, _<_}
 use native.Mathlib.Nat.{add-zero}
 use native.Mathlib.Omega.{arith}
 use lib.ListN.{length, take, drop}
 use lib.Seq.{length-take-le}
-use Rattle.constants.specs.Numbers.{taken, headerCut, readDiffers, kindUnknown, noSelection, bothSelected}
+use Rattle.constants.specs.Numbers.{taken, tooShort, outOfRange, headerCut, readDiffers, kindUnknown, noSelection, bothSelected}
 use Rattle.constants.specs.Sizes.{headerSize}
 use Rattle.bus.specs.Bytes.{All}
-use Rattle.trace.specs.Records.{kindOf, payloadOf, whole, CutShort}
+use Rattle.bus.specs.Image.{legal}
+use Rattle.bus.specs.Stretch.{stretch}
+use Rattle.bus.proofs.Replies.{Neither, not-one, not-two}
+use Rattle.trace.specs.OneByOne.{scriptFrom, oneByOne}
+use Rattle.trace.specs.Records.{kindOf, payloadOf, whole, CutShort, split}
 use Rattle.trace.specs.Play.{refuses, Played, played, playEvents}
 use Rattle.trace.specs.Kinds.{readAs, eventsOf}
 use Rattle.trace.specs.AnyMachine.{AnyMachine, Reached, EndsAs, allTaken, headerIsCut, headerRefused, eventRefused}
 use Rattle.trace.proofs.AnyMachine.{any-machine}
 use Rattle.trace.proofs.WhatStands.{cut-tests, where-left, whole-left}
 use Rattle.widebus.specs.Pair.{Pair, Lent}
+use Rattle.widebus.specs.Asked.{anyShort, askedBoth}
+use Rattle.widebus.specs.declared.both.BothAsked.{BothAsked}
 use Rattle.widebus.specs.declared.selection.Selection.{Selection}
-use Rattle.widetrace.specs.Terminal.{Terminal, WideEvent, happens, wideEventsOf, theTerminal}
-use Rattle.widetrace.specs.WideRun.{WideRan, wideRanOf, wideRun}
+use Rattle.widetrace.specs.Terminal.{Terminal, WideEvent, happens, wideEventsOf, wideStep, theTerminal}
+use Rattle.widetrace.specs.EachChip.{unplaced}
+use Rattle.widetrace.specs.WideRun.{WideRan, wideRan, wideRanOf, wideRun}
 use Rattle.widetrace.specs.WideRunLaws.{BothAccepted, terminalIn}
-use Rattle.widetrace.specs.WideGivenRun.{WideUnknown, UnknownRecord, NoSelection, WideHeaderAt, WideGivesAt, wideStoppedAfter, WholeRecord, BothRead, WideGivenRun, WideHeaders}
+use Rattle.widetrace.specs.WideGivenRun.{WideUnknown, UnknownRecord, NoSelection, WideHeaderAt, WideGivesAt, wideStoppedAfter, WholeRecord, BothRead, EveryTaken, WideGivenRun, WideHeaders}
 use Rattle.widetrace.proofs.TerminalHeaders.{NoRead, refused-header, selects-nothing, stands-for-nothing, what-reads}
 use Rattle.widetrace.proofs.TerminalRefusals.{OfTerminal, readsWide, refused-step, both-refuse, middle, none-before}
-use Rattle.widetrace.proofs.WideRunOnLent.{plays, run-found, run-refused, by-asking, accepted}
+use Rattle.widetrace.proofs.WideRunOnLent.{Refused, tooFew, ranges, plays, run-found, run-refused, why-refused, by-asking, accepted}
+use Rattle.widetrace.proofs.WideNotOneOrTwo.{neither}
+use Rattle.widetrace.proofs.AppliedStretches.{none-refused, all-applied}
+use Rattle.widetrace.proofs.TerminalStretches.{terminal-never-zero}
+use Rattle.trace.specs.Run.{stopOf}
 use Rattle.widetrace.proofs.WideRunLaws.{terminal-as-machine, wide-run-laws}
 
 abbrev laws : AnyMachine theTerminal
@@ -193,6 +204,63 @@ module _ (all : Pair Lent) (trace : List ℕ) where
       (λ a. let e = run-found all a trace in subst A (ap (λ (o : WideRan). o .stop .offset) (sym e) ∙ h .1) (go a (ap (λ (o : WideRan). o .stop .number) (sym e) ∙ h .0)))
       (λ refusal e n. absurd (omega (arith, big, n .1, ap (λ (o : WideRan). o .stop .number) (sym (run-refused all trace e)) ∙ h .0)))
 
+  -- 0: every header and every event is taken
+  module _ (a : BothAccepted all) where
+    applied-run : plays all trace ≡ oneByOne theTerminal (scriptFrom theTerminal (split trace) 0) start
+    applied-run = laws .byEvents trace start
+
+    -- where every event is taken, the number is the script's
+    its-number : stretch wideStep (unplaced (scriptFrom theTerminal (split trace) 0 .events)) start .number ≡ taken → wideRun all trace .stop .number ≡ scriptFrom theTerminal (split trace) 0 .number
+    unfolding wideRanOf
+    its-number h =
+        let it = scriptFrom theTerminal (split trace) 0 in
+        ap (λ (o : WideRan). o .stop .number) (run-found all a trace) ∙ ap (λ (p : Played Terminal). p .number) (applied-run ∙ all-applied wideStep terminal-never-zero (it .number) (it .offset) (it .count) (it .events) start h)
+
+  is-zero : wideRun all trace .stop .number ≡ taken → EveryTaken all trace
+  unfolding wideRanOf
+  is-zero h =
+      let a = accepted all trace h in
+      let it = scriptFrom theTerminal (split trace) 0 in
+      let n = ap (λ (o : WideRan). o .stop .number) (sym (run-found all a trace)) ∙ h in
+      let events = none-refused wideStep terminal-never-zero (it .number) (it .offset) (it .count) (it .events) start (ap (λ (p : Played Terminal). p .number) (sym (applied-run a)) ∙ n) .0 in
+      record { accepted = a; headers = sym (its-number a events) ∙ h; events = events }
+
+  -- 1 and 2: what is asked first
+  found-neither : BothAccepted all → Neither (wideRun all trace .stop .number)
+  unfolding wideRanOf
+  found-neither a = rw (run-found all a trace) (neither all a trace)
+
+  one-leaves : anyShort all ≡ true → wideRun all trace ≡ wideRan (stopOf tooShort 0 0) all
+  unfolding askedBoth
+  one-leaves s = run-refused all trace (rw s)
+
+  its-refusal : (number : ℕ) → askedBoth all ≡ BothAsked.Refused number → wideRun all trace .stop .number ≡ number
+  its-refusal number e = ap (λ (o : WideRan). o .stop .number) (run-refused all trace e)
+
+  is-one : wideRun all trace .stop .number ≡ tooShort → anyShort all ≡ true
+  is-one h = by-asking all _ (λ a. absurd (not-one (found-neither a) h)) (λ number e n. by (why-refused all e) (sym (its-refusal number e) ∙ h))
+    where
+      by : {number : ℕ} → Refused all number → number ≡ tooShort → anyShort all ≡ true
+      by (tooFew s) e = s
+      by (ranges s r) e = absurd (omega arith)
+
+  is-two : wideRun all trace .stop .number ≡ outOfRange → (anyShort all ≡ false) × ((legal (all .left .state) && legal (all .right .state)) ≡ false)
+  is-two h = by-asking all _ (λ a. absurd (not-two (found-neither a) h)) (λ number e n. by (why-refused all e) (sym (its-refusal number e) ∙ h))
+    where
+      by : {number : ℕ} → Refused all number → number ≡ outOfRange → (anyShort all ≡ false) × ((legal (all .left .state) && legal (all .right .state)) ≡ false)
+      by (tooFew s) e = absurd (omega arith)
+      by (ranges s r) e = (s, r)
+
+  two-leaves : anyShort all ≡ false → (legal (all .left .state) && legal (all .right .state)) ≡ false → wideRun all trace ≡ wideRan (stopOf outOfRange 0 0) all
+  two-leaves s r = by-asking all _ (λ a. absurd (false≢true (sym r ∙ both-legal a))) (λ number e n. run-refused all trace e ∙ ap (λ (number : ℕ). wideRan (stopOf number 0 0) all) (by (why-refused all e)))
+    where
+      both-legal : BothAccepted all → (legal (all .left .state) && legal (all .right .state)) ≡ true
+      both-legal a = rw (a .0 .inRanges, a .1 .inRanges)
+
+      by : {number : ℕ} → Refused all number → number ≡ outOfRange
+      by (tooFew t) = absurd (false≢true (sym s ∙ t))
+      by (ranges t q) = refl
+
   no-other : Known (wideRun all trace .stop .number)
   unfolding wideRanOf
   no-other = by-asking all _ (λ a. rw (run-found all a trace) (is-known a (ends a))) (λ refusal e n. rw (run-refused all trace e) (inl (omega (arith, n .1))))
@@ -200,6 +268,11 @@ module _ (all : Pair Lent) (trace : List ℕ) where
 pub wide-given-run : (all : Pair Lent) (trace : List ℕ) → WideGivenRun all trace
 wide-given-run all trace =
     record {
+      number0 = (is-zero all trace, λ h. its-number all trace (h .accepted) (h .events) ∙ h .headers);
+      number1 = (is-one all trace, λ s. rw (one-leaves all trace s) refl);
+      number1Leaves = one-leaves all trace;
+      number2 = (is-two all trace, λ h. rw (two-leaves all trace (h .0) (h .1)) refl);
+      number2Leaves = two-leaves all trace;
       number13 = λ offset. (given all trace (WholeRecord NoSelection all trace) noSelection (omega arith) (λ a. is-thirteen all trace a (ends all trace a)) offset, λ h. rw (thirteen-leaves all trace offset h) (refl, refl));
       number13Leaves = thirteen-leaves all trace;
       number9 = λ offset. (given all trace (WholeRecord UnknownRecord all trace) kindUnknown (omega arith) (λ a. is-nine all trace a (ends all trace a)) offset, λ h. rw (nine-leaves all trace offset h) (refl, refl));

@@ -10,7 +10,7 @@ pub mod Code
 pub mod EachChip
 -- what a run does as a whole
 pub mod WideRunLaws
--- when a run gives 13, 14 and 9
+-- when a run gives each number, and what it leaves then
 pub mod WideGivenRun
 -- one chip alone: what is not selected stays
 pub mod OneChipAlone

@@ -1,20 +1,25 @@
--- Document 02, Order 4, "Refusals": when a run of the wide terminal gives 13, 14 and, in its new reading, 9, and 8 before them. proofs/WideGivenRun.antt proves `WideGivenRun` and `WideHeaders`.
+-- Document 02, Order 4, "Refusals": when a run of the wide terminal gives 13, 14 and, in its new reading, 9, and what goes before them. proofs/WideGivenRun.antt proves `WideGivenRun` and `WideHeaders`.
 use Prim.Native.Nat.{ℕ, _+_, _≤_}
 use mathlib.Core.Path.{_≡_}
 use mathlib.Core.Logic.{_≢_, _⊎_, _↔_}
-use mathlib.Core.Bool.{true}
+use mathlib.Core.Bool.{true, false, _&&_}
 use mathlib.Core.List.{List, [], _∷_}
 use lib.ListN.{length, take, drop}
-use Rattle.constants.specs.Numbers.{taken, headerCut, kindUnknown, readDiffers, noSelection, bothSelected}
+use Rattle.constants.specs.Numbers.{taken, tooShort, outOfRange, headerCut, kindUnknown, readDiffers, noSelection, bothSelected}
 use Rattle.constants.specs.Sizes.{headerSize}
-use Rattle.trace.specs.Records.{kindOf, payloadOf, whole, CutShort}
+use Rattle.bus.specs.Image.{legal}
+use Rattle.bus.specs.Stretch.{stretch}
+use Rattle.trace.specs.Records.{kindOf, payloadOf, whole, CutShort, split}
+use Rattle.trace.specs.OneByOne.{scriptFrom}
 use Rattle.trace.specs.Play.{refuses, gives}
 use Rattle.trace.specs.Run.{stopOf}
 use Rattle.widebus.specs.Pair.{Pair, Lent}
+use Rattle.widebus.specs.Asked.{anyShort}
 use Rattle.widebus.specs.declared.selection.Selection.{Selection}
-use Rattle.widetrace.specs.Terminal.{wideEventsOf}
+use Rattle.widetrace.specs.Terminal.{wideEventsOf, wideStep, theTerminal}
 use Rattle.widetrace.specs.WideRun.{WideRan, wideRan, wideRun}
-use Rattle.widetrace.specs.WideRunLaws.{selectedAfter}
+use Rattle.widetrace.specs.WideRunLaws.{BothAccepted, terminalIn, selectedAfter}
+use Rattle.widetrace.specs.EachChip.{unplaced}
 
 -- A payload is one byte of 1 to 3.
 abbrev pub OneOfThree : List ℕ → Type 0
@@ -61,7 +66,21 @@ pub record BothRead (all : Pair Lent) (trace : List ℕ) (offset : ℕ) : Type 0
   pub both : selectedAfter all (take place trace) ≡ Selection.Both
   pub first : offset ≡ place + headerSize
 
+-- Every header and every event is taken.
+pub record EveryTaken (all : Pair Lent) (trace : List ℕ) : Type 0 where
+  pub accepted : BothAccepted all
+  pub headers : scriptFrom theTerminal (split trace) 0 .number ≡ taken
+  pub events : stretch wideStep (unplaced (scriptFrom theTerminal (split trace) 0 .events)) (terminalIn all Selection.Both) .number ≡ taken
+
 pub record WideGivenRun (all : Pair Lent) (trace : List ℕ) : Type 0 where
+  -- 0: all is taken.
+  pub number0 : wideRun all trace .stop .number ≡ taken ↔ EveryTaken all trace
+  -- 1: a lent state or memory of either chip is too short. Offset and count are 0, and nothing changes.
+  pub number1 : wideRun all trace .stop .number ≡ tooShort ↔ anyShort all ≡ true
+  pub number1Leaves : anyShort all ≡ true → wideRun all trace ≡ wideRan (stopOf tooShort 0 0) all
+  -- 2: the state image of either chip is out of its ranges, where 1 does not go first. Offset and count are 0, and nothing changes.
+  pub number2 : wideRun all trace .stop .number ≡ outOfRange ↔ (anyShort all ≡ false) × ((legal (all .left .state) && legal (all .right .state)) ≡ false)
+  pub number2Leaves : anyShort all ≡ false → (legal (all .left .state) && legal (all .right .state)) ≡ false → wideRun all trace ≡ wideRan (stopOf outOfRange 0 0) all
   -- 13: a select record whose payload is not one byte of 1 to 3, at the record's first byte. What the records before it left stands.
   pub number13 : (offset : ℕ) → WideGivesAt (wideRun all trace) noSelection offset ↔ WholeRecord NoSelection all trace offset
   pub number13Leaves : (offset : ℕ) → WholeRecord NoSelection all trace offset → wideRun all trace ≡ wideStoppedAfter noSelection offset (wideRun all (take offset trace))
