@@ -10,9 +10,9 @@ use Rattle.constants.specs.Numbers.{taken}
 use Rattle.bus.specs.Chip.{Chip}
 use Rattle.bus.specs.CallsOnChip.{chipIn}
 use Rattle.bus.specs.Stretch.{Stretched, stretched, countedOn, stretch}
-use Rattle.trace.specs.Records.{split}
+use Rattle.trace.specs.Records.{splitFrom, split}
 use Rattle.trace.specs.Play.{Result, refuses, gives, onResult, Played, played}
-use Rattle.trace.specs.Kinds.{Recorded, replay, theChip}
+use Rattle.trace.specs.Kinds.{Recorded, replay, eventsOf, theChip}
 use Rattle.trace.specs.AnyMachine.{Gives}
 use Rattle.trace.specs.OneByOne.{scriptFrom}
 use Rattle.trace.specs.Run.{Ran, ranOf, run}
@@ -20,10 +20,11 @@ use Rattle.bus.proofs.StretchLaws.{the-chip-never-zero}
 use Rattle.trace.proofs.AnyMachine.{any-machine}
 use Rattle.trace.proofs.RunLaws.{run-laws}
 use Rattle.widebus.specs.Pair.{Pair, Lent, lent, at}
+use Rattle.widebus.specs.Selection.{selectionOf}
 use Rattle.widebus.specs.Events.{replayOn}
 use Rattle.widebus.specs.declared.selection.Selection.{Selection}
 use Rattle.widebus.specs.declared.selection.Side.{Side}
-use Rattle.widetrace.specs.Terminal.{Terminal, terminal, WideEvent, selects, happens, wideStep, theTerminal}
+use Rattle.widetrace.specs.Terminal.{Terminal, terminal, WideEvent, selects, happens, selectedBy, wideEventsOf, wideStep, theTerminal}
 use Rattle.widetrace.specs.WideRun.{WideRan, lentAfter, wideRanOf, wideRun}
 use Rattle.widetrace.specs.WideRunLaws.{terminalIn}
 use Rattle.widetrace.specs.EachChip.{hears, heardBy, unplaced, heardIn, EachChip}
@@ -91,9 +92,12 @@ module _ (all : Pair Lent) (trace : List ℕ) (h : wideRun all trace .stop .numb
     as-one-run = (ap (λ (o : Ran). o .stop .number) one-run, left-there ∙ sym (ap (λ (o : Ran). lent (o .state) (o .memory)) one-run))
 
 pub each-chip : EachChip
+unfolding heardBy scriptFrom split splitFrom wideEventsOf selectedBy selectionOf eventsOf
 each-chip =
     record {
       overEvents = λ events t h side. over-events side events t h;
       inRun = λ all trace h side. let e = in-run all trace h side in (ap (λ (s : Stretched Chip). s .number) e, ap (λ (s : Stretched Chip). s .count) e, left-there all trace h side);
       asOneRun = λ all trace h side narrow known same. as-one-run all trace h side narrow known same;
+      sampleLeft = refl;
+      sampleRight = refl;
     }

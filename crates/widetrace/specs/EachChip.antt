@@ -5,10 +5,11 @@ use mathlib.Core.Bool.{Bool, true, false, cond}
 use mathlib.Core.List.{List, [], _∷_, map}
 use lib.ListN.{length}
 use Rattle.constants.specs.Numbers.{taken}
+use Rattle.bus.specs.Chip.{resetPulse}
 use Rattle.bus.specs.CallsOnChip.{chipIn}
 use Rattle.bus.specs.Stretch.{stretched, stretch}
 use Rattle.trace.specs.Records.{split}
-use Rattle.trace.specs.Kinds.{Recorded, replay, theChip}
+use Rattle.trace.specs.Kinds.{Recorded, event, recordedCommand, replay, theChip}
 use Rattle.trace.specs.OneByOne.{Placed, scriptFrom}
 use Rattle.trace.specs.Run.{run}
 use Rattle.widebus.specs.Pair.{Pair, Lent, lent, at}
@@ -40,6 +41,12 @@ unplaced {E} list = map (λ (p : Placed E). p .event) list
 abbrev pub heardIn : Side → List ℕ → List Recorded
 heardIn side trace = heardBy side Selection.Both (unplaced (scriptFrom theTerminal (split trace) 0 .events))
 
+-- A trace: A5, left selected, AF and AE, right selected, A6, both selected, the reset pin.
+abbrev pub sampleTrace : List ℕ
+sampleTrace =
+    1 ∷ 0 ∷ 1 ∷ 0 ∷ 0xA5 ∷ 1 ∷ 0 ∷ 5 ∷ 0 ∷ 1 ∷ 2 ∷ 0 ∷ 1 ∷ 0 ∷ 0xAF ∷ 0xAE ∷ 1 ∷ 0 ∷ 5 ∷ 0 ∷ 2 ∷
+    1 ∷ 0 ∷ 1 ∷ 0 ∷ 0xA6 ∷ 1 ∷ 0 ∷ 5 ∷ 0 ∷ 3 ∷ 0 ∷ 0 ∷ 4 ∷ 0 ∷ []
+
 pub record EachChip : Type 0 where
   -- Events on any two chips, none of them refused: each chip takes exactly the events it was selected for, and ends as the model of one chip does over them, reads included.
   pub overEvents : (events : List WideEvent) (t : Terminal) → stretch wideStep events t .number ≡ taken → (side : Side) → let heard = heardBy side (t .selection) events in
@@ -51,3 +58,6 @@ pub record EachChip : Type 0 where
   pub asOneRun : (all : Pair Lent) (trace : List ℕ) → wideRun all trace .stop .number ≡ taken → (side : Side) (narrow : List ℕ) → let script = scriptFrom theChip (split narrow) 0 in
       script .number ≡ taken → unplaced (script .events) ≡ heardIn side trace → let ran = run (at side all .state) (at side all .memory) narrow in
       (ran .stop .number ≡ taken) × (at side (wideRun all trace .lent) ≡ lent (ran .state) (ran .memory))
+  -- What each chip of the sample trace was selected for.
+  pub sampleLeft : heardIn Side.Left sampleTrace ≡ recordedCommand 0xA5 ∷ recordedCommand 0xAF ∷ recordedCommand 0xAE ∷ event resetPulse ∷ []
+  pub sampleRight : heardIn Side.Right sampleTrace ≡ recordedCommand 0xA5 ∷ recordedCommand 0xA6 ∷ event resetPulse ∷ []
