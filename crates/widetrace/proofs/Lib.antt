@@ -28,3 +28,9 @@ pub mod WideGivenRun
 pub mod WideByCalls
 -- one result for each public call
 pub mod Settled
+-- a record's events for one chip
+pub mod SideStretches
+-- the record at an offset, for one chip
+pub mod SideKinds
+-- a trace as far as a limit, played from an offset on
+pub mod SidePlays

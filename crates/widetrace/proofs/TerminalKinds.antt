@@ -28,18 +28,18 @@ use Rattle.codes.proofs.Tests.{chosen}
 use Rattle.widetrace.specs.Terminal.{Terminal, terminal, selects, happens, selectedBy, wideEventsOf, wideStep, theTerminal}
 
 -- a payload that is not one byte selects nothing
-unselected : (bytes : List ℕ) → (length bytes ≡ 1 → ⊥) → selectedBy bytes ≡ refuses noSelection
+pub unselected : (bytes : List ℕ) → (length bytes ≡ 1 → ⊥) → selectedBy bytes ≡ refuses noSelection
 unfolding selectedBy
 unselected [] none = refl
 unselected (b ∷ []) none = absurd (none refl)
 unselected (b ∷ c ∷ rest) none = refl
 
 -- what selects nothing is refused with no 0
-abbrev Numbered : Result Selection → Type 0
+abbrev pub Numbered : Result Selection → Type 0
 Numbered (refuses number) = number ≡ taken → ⊥
 Numbered (gives selection) = Unit {0}
 
-numbered : (byte : ℕ) → Numbered (selectionOf byte)
+pub numbered : (byte : ℕ) → Numbered (selectionOf byte)
 unfolding selectionOf
 numbered byte = chosen Numbered (eqb byte 1) _ _ (λ e. tt) (λ e. chosen Numbered (eqb byte 2) _ _ (λ e. tt) (λ e. chosen Numbered (eqb byte 3) _ _ (λ e. tt) (λ e z. omega arith)))
 

@@ -39,7 +39,7 @@ not-taken {S} step never e s = by (step e s) refl
     by (gives t) f = tt
 
 -- what goes on from a result that is none
-onward : {A B : Type 0} (x : Result A) (go : A → Result B) → NotTaken x → ((a : A) → NotTaken (go a)) → NotTaken (onResult x refuses go)
+pub onward : {A B : Type 0} (x : Result A) (go : A → Result B) → NotTaken x → ((a : A) → NotTaken (go a)) → NotTaken (onResult x refuses go)
 onward (refuses number) go m later = m
 onward (gives a) go m later = later a
 

@@ -8,6 +8,8 @@ pub mod Code
 -- 2. What is proved of them.
 -- each chip over the events it was selected for
 pub mod EachChip
+-- one chip by itself, up to an offset
+pub mod Sides
 -- what a run does as a whole
 pub mod WideRunLaws
 -- when a run gives each number, and what it leaves then
