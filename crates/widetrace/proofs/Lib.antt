@@ -34,3 +34,5 @@ pub mod SideStretches
 pub mod SideKinds
 -- a trace as far as a limit, played from an offset on
 pub mod SidePlays
+-- the terminal's events by its two sides
+pub mod TwoSides
