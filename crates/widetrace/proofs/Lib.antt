@@ -36,3 +36,7 @@ pub mod SideKinds
 pub mod SidePlays
 -- the terminal's events by its two sides
 pub mod TwoSides
+-- a whole trace by the two sides
+pub mod SidesOfTrace
+-- what the events of a record are made of
+pub mod SideRecords
