@@ -245,8 +245,8 @@ $(TUNED) $(T_DIFFER):
 $(SAMPLES): $(OUT)/host/test/samples.o $(LINKED)
 $(WIDE_CALLS): $(OUT)/%: $(OUT)/host/test/%.o $(OUT)/host/test/twochips.o \
          $(OUT)/host/compare/room.o $(LINKED)
-$(PARTS): $(OUT)/host/test/parts.o $(LINKED) \
-          $(addprefix $(OUT)/host/tool/,played.o progress.o replay.o)
+$(PARTS): $(OUT)/host/test/parts.o \
+          $(addprefix $(OUT)/host/tool/,played.o progress.o replay.o) $(LINKED)
 $(LISTINGS): $(OUT)/host/test/listings.o $(OUT)/host/tool/stored.o $(LINKED)
 # The tool as it is where libstb-dev is missing.
 $(NO_PNG): $(filter-out %/png.o,$(call objects,host/tool/*.c)) \

@@ -135,7 +135,7 @@ apart=(env -u MAKEFLAGS -u VARIANT -u EXTRA -u V)
 building=("${apart[@]}" PATH="$here/bin:$PATH" "$MAKE" --no-print-directory -C "$copy" MODEL=proved)
 ran "${building[@]}"
 check 'building: status 0' status_is 0
-check 'building: that it takes minutes is said before' grep -q "^proving the library's 5 crates: some minutes" "$copy/said"
+check 'building: that it takes minutes is said before' grep -q "^proving the library's 6 crates: some minutes" "$copy/said"
 sed -i -E '1d; s/(host|hostbus|hostwide|hostwiderun) \([0-9]* s\)/\1 (N s)/' "$here/out"
 check 'building: a line for each crate, and the tool' \
   out_is $'proved codes (6 s)\nproved bus (unchanged since it was last proved)\nproved host (N s)\nproved hostbus (N s)\nproved hostwide (N s)\nproved hostwiderun (N s)\ntarget/c/proved/ssd1815b'

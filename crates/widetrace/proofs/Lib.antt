@@ -40,3 +40,5 @@ pub mod TwoSides
 pub mod SidesOfTrace
 -- what the events of a record are made of
 pub mod SideRecords
+-- bytes put one by one over the first ones of a list
+pub mod Pasted
