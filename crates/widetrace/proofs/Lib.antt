@@ -42,3 +42,7 @@ pub mod SidesOfTrace
 pub mod SideRecords
 -- bytes put one by one over the first ones of a list
 pub mod Pasted
+-- what a side leaves as it was
+pub mod SideKeeps
+-- how a run by the two sides ends
+pub mod RunBySides

@@ -38,7 +38,7 @@ WellPlaced at (ended offset) = offset ≡ at
 WellPlaced at (cut offset) = offset ≡ at
 WellPlaced at (r then rest) = (r .place ≡ at) × WellPlaced (at + headerSize + length (r .payload)) rest
 
-split-placed : (passed offset : ℕ) (bytes : List ℕ) → passed ≤ length bytes → WellPlaced (offset + passed) (splitFrom passed offset bytes)
+pub split-placed : (passed offset : ℕ) (bytes : List ℕ) → passed ≤ length bytes → WellPlaced (offset + passed) (splitFrom passed offset bytes)
 unfolding splitFrom
 split-placed zero offset [] h = omega arith
 split-placed (suc passed) offset [] h = absurd (omega arith)
@@ -114,22 +114,22 @@ offset-after side at (r then rest) w count s = by (wideEventsOf (r .kind) (r .pa
         (ends-after (r .place + headerSize) (stretch (sideStep side) events s) count (λ t. playFrom (theSide side) rest (count + 1) t) at (omega (arith, w .0)) later)
 
 -- the left side, the right side as far as that, and the terminal
-abbrev leftPlay : Trace → ℕ → Chip → Selection → Played OneSide
+abbrev pub leftPlay : Trace → ℕ → Chip → Selection → Played OneSide
 leftPlay trace count l selection = playFrom (theSide Side.Left) trace count (oneSide l selection)
 
-abbrev rightPlay : Trace → ℕ → Chip → Chip → Selection → Played OneSide
+abbrev pub rightPlay : Trace → ℕ → Chip → Chip → Selection → Played OneSide
 rightPlay trace count l r selection = playFrom (theSide Side.Right) (upTo (leftPlay trace count l selection .offset) trace) count (oneSide r selection)
 
-abbrev bothPlay : Trace → ℕ → Chip → Chip → Selection → Played Terminal
+abbrev pub bothPlay : Trace → ℕ → Chip → Chip → Selection → Played Terminal
 bothPlay trace count l r selection = playFrom theTerminal trace count (terminal (l beside r) selection)
 
-abbrev TakenSo : Trace → ℕ → Chip → Chip → Selection → Type 0
+abbrev pub TakenSo : Trace → ℕ → Chip → Chip → Selection → Type 0
 TakenSo trace count l r selection =
     let p = leftPlay trace count l selection in
     let q = rightPlay trace count l r selection in
     q .number ≡ taken → bothPlay trace count l r selection ≡ played (p .number) (p .offset) (p .count) (terminal (p .state .chip beside q .state .chip) (p .state .selection))
 
-abbrev StoppedSo : Trace → ℕ → Chip → Chip → Selection → Type 0
+abbrev pub StoppedSo : Trace → ℕ → Chip → Chip → Selection → Type 0
 StoppedSo trace count l r selection =
     let q = rightPlay trace count l r selection in
     let z = playFrom (theSide Side.Left) (upTo (q .offset) trace) count (oneSide l selection) in
