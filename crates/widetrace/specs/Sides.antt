@@ -1,4 +1,4 @@
--- One chip of the terminal by itself: what it makes of a wide trace, up to an offset. The chips do not see each other, so that the terminal's run is that of its two sides up to the earlier of their stops (TwoSides).
+-- One chip of the terminal by itself: what it makes of a wide trace, up to an offset. The chips do not see each other, so that the terminal's run is that of its two sides up to the earlier of their stops (proofs/TwoSides).
 use Prim.Native.Nat.{ℕ, _+_, _-_}
 use mathlib.Core.Bool.{cond, _&&_}
 use mathlib.Core.List.{List}
