@@ -1,7 +1,7 @@
 -- How the code's calls end, by its tests: refused by what is asked first or by the selection's number, or concluded for the selected chips.
 -- Assumes nothing.
 use mathlib.Core.Path.{_≡_, refl, sym, _∙_, ap, subst}
-use mathlib.Core.Bool.{Bool, true, false, cond, _||_}
+use mathlib.Core.Bool.{Bool, true, false}
 use mathlib.Core.List.{List, [], _∷_}
 use Prim.Native.Nat.{ℕ}
 use borrow.Author.Tests.{ne-eqb}
@@ -11,7 +11,7 @@ use Rattle.bus.specs.Registers.{powerOn}
 use Rattle.bus.specs.Events.{numberOf, byteOf, dummyOf, read}
 use Rattle.bus.specs.Chip.{Chip, Event, dataRead, resetPulse, step}
 use Rattle.bus.specs.Result.{Result, refuses, gives, onResult}
-use Rattle.bus.specs.Recorded.{event, chipOf}
+use Rattle.bus.specs.Recorded.{event}
 use Rattle.bus.specs.Calls.{Called, called, replyOf, stateAfter, askedBefore, call}
 use Rattle.bus.specs.CallsOnChip.{imagedIn}
 use Rattle.bus.proofs.CallsOnChip.{callsOnChip}

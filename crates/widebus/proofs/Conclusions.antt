@@ -1,34 +1,25 @@
 -- The call of an event for the selected chips, by what the event gives on the chips that were found.
 -- Assumes nothing.
-use mathlib.Core.Path.{_≡_, refl, sym, _∙_, ap}
+use mathlib.Core.Path.{_≡_, refl}
 use mathlib.Core.Logic.{_≢_}
-use mathlib.Core.Bool.{Bool, true, false, cond, not, _&&_, _||_, false≢true}
-use mathlib.Core.List.{List, [], _∷_}
+use mathlib.Core.Bool.{Bool, true, false}
+use mathlib.Core.List.{List}
 use Prim.Native.Nat.{ℕ}
-use native.Mathlib.Omega.{arith}
 use borrow.Author.Tests.{ne-eqb, le-ltb}
-use lib.Dec.{ltb}
-use lib.ListN.{length}
-use Rattle.constants.specs.Sizes.{imageSize}
-use Rattle.constants.specs.Numbers.{taken, tooShort, outOfRange}
+use Rattle.constants.specs.Numbers.{taken}
 use Rattle.bus.specs.Image.{short, legal, askedState, asked, stored}
 use Rattle.bus.specs.Events.{numberOf}
-use Rattle.bus.specs.Registers.{registersOf}
 use Rattle.bus.specs.Chip.{Chip, Event}
 use Rattle.bus.specs.Result.{Result, refuses, gives, onResult}
-use Rattle.bus.specs.Recorded.{Recorded, event, chipOf, replay}
-use Rattle.bus.specs.Calls.{Called, called, replyOf, call}
-use Rattle.bus.specs.Stretch.{Stretched, stretched, stretch}
-use Rattle.bus.specs.StretchLaws.{NeverZero}
+use Rattle.bus.specs.Recorded.{event, chipOf, replay}
+use Rattle.bus.specs.Calls.{replyOf}
 use Rattle.bus.specs.declared.registers.Registers.{Registers}
-use Rattle.bus.specs.declared.answer.Answer.{Answer}
 use Rattle.bus.specs.declared.image.Asked.{Asked}
 use Rattle.bus.proofs.Legal.{long}
 use Rattle.bus.proofs.Stored.{sized, stored-own}
-use Rattle.bus.proofs.StretchLaws.{the-chip-never-zero}
 use Rattle.widebus.specs.Selection.{selectionOf}
-use Rattle.widebus.specs.Pair.{Pair, _beside_, Lent, lent, chipsOf}
-use Rattle.widebus.specs.Asked.{anyShort, bothFound, askedBoth}
+use Rattle.widebus.specs.Pair.{Pair, _beside_, Lent, lent}
+use Rattle.widebus.specs.Asked.{bothFound, askedBoth}
 use Rattle.widebus.specs.Events.{toSelected, isRead, replayOn}
 use Rattle.widebus.specs.WideCalls.{wideCalled, refusedWide, callBoth, callSelected, asksRanges, wideCall}
 use Rattle.widebus.specs.declared.both.Both.{Both}

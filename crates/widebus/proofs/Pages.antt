@@ -1,12 +1,10 @@
 -- The page that is handed back, by the tests of the code.
 -- Assumes nothing.
-use mathlib.Core.Path.{_≡_, refl}
-use mathlib.Core.Bool.{false, _||_}
+use mathlib.Core.Path.{_≡_}
 use mathlib.Core.List.{List, []}
 use Prim.Native.Nat.{ℕ, _+_, _*_, _-_, _≤_, _<_}
 use native.Mathlib.Omega.{arith}
 use borrow.Author.Tests.{lt-ltb, le-ltb}
-use lib.Dec.{ltb}
 use lib.ListN.{length, take, drop}
 use Rattle.constants.specs.Sizes.{width, pages, memorySize}
 use Rattle.constants.specs.Numbers.{taken, tooShort, noPage}

@@ -53,6 +53,4 @@ settled = record {
   «selection::selection_of» = λ number first second p q. sym (again first) ∙ ap selectedFrom (p ∙ sym q) ∙ again second;
   «stretch::commands» = λ selection registers bytes first second p q. by-itself [] [] _ first second (p [] []) (q [] []);
   «stretch::writes» = λ selection registers leftMemory rightMemory bytes. with-memories _;
-  «stretch::reads» = λ selection registers leftMemory rightMemory bytes. by-itself leftMemory rightMemory _;
-  «stretch::reset_pin» = λ selection registers first second p q. by-itself [] [] _ first second (p [] []) (q [] []);
 }

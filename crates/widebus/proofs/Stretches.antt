@@ -1,6 +1,6 @@
 -- Stretches on a pair of machines: on one of them it is that one's stretch, and on both it is each one's, up to the earlier of the two stops. Over any step.
 -- Assumes nothing.
-use mathlib.Core.Path.{_≡_, refl, sym, _∙_}
+use mathlib.Core.Path.{_≡_, refl}
 use mathlib.Core.Logic.{_≢_}
 use mathlib.Core.List.{List, [], _∷_, map}
 use Prim.Native.Nat.{ℕ, suc, _+_}

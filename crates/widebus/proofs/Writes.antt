@@ -1,7 +1,6 @@
 -- A chip that takes one data byte written takes all that follow it: no code becomes awaited, and the column stays within the page.
 -- Assumes nothing.
-use mathlib.Core.Path.{_≡_, refl, sym, _∙_}
-use mathlib.Core.Bool.{true, cond}
+use mathlib.Core.Path.{_≡_, refl}
 use mathlib.Core.List.{List, [], _∷_, map}
 use Prim.Native.Nat.{ℕ, _+_, _≤_}
 use native.Mathlib.Omega.{arith}
@@ -15,7 +14,7 @@ use Rattle.bus.specs.Places.{fresh}
 use Rattle.bus.specs.Registers.{_with_≔_}
 use Rattle.bus.specs.Memory.{address, kept, onward}
 use Rattle.bus.specs.Events.{access, moved, write, written}
-use Rattle.bus.specs.Chip.{Chip, step}
+use Rattle.bus.specs.Chip.{step}
 use Rattle.bus.specs.Result.{gives, refuses}
 use Rattle.bus.specs.Recorded.{recordedWrite, chipOf, happened, replay}
 use Rattle.bus.specs.Stretch.{stretch}

@@ -1,7 +1,5 @@
 -- What a call over two chips asks first: 1 asks every buffer that is lent, and then 2 asks both images, whichever chips are selected.
-use Prim.Native.Nat.{ℕ}
 use mathlib.Core.Bool.{Bool, cond, _||_}
-use mathlib.Core.List.{List}
 use Rattle.constants.specs.Numbers.{tooShort}
 use Rattle.bus.specs.Image.{short, askedState}
 use Rattle.bus.specs.declared.image.Asked.{Asked}

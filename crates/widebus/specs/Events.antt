@@ -1,5 +1,4 @@
 -- Document 02, Order 4: what an event does to the selected chips.
-use Prim.Native.Nat.{ℕ}
 use mathlib.Core.Bool.{Bool, true, false, cond, _&&_}
 use Rattle.constants.specs.Numbers.{bothSelected}
 use Rattle.bus.specs.Chip.{Chip, Event, commandByte, dataWritten, dataRead, resetPulse}

@@ -1,10 +1,10 @@
 -- Any two results that satisfy what a public call of this crate states are equal: its answer, and what it leaves of everything lent to be changed. A field has the name of its call.
 use Prim.Native.Nat.{ℕ}
 use mathlib.Core.Path.{_≡_}
-use mathlib.Core.List.{List, [], _∷_, map}
+use mathlib.Core.List.{List, map}
 use Rattle.constants.specs.Settles.{Settles}
 use Rattle.bus.specs.Chip.{commandByte, dataWritten, dataRead, resetPulse}
-use Rattle.bus.specs.Recorded.{event, recordedCommand, recordedWrite, readAs}
+use Rattle.bus.specs.Recorded.{recordedCommand, recordedWrite}
 use Rattle.bus.specs.Stretch.{stretch}
 use Rattle.bus.specs.declared.calls.Reply.{Reply}
 use Rattle.widebus.specs.Selection.{selectionOf, resultOf}
@@ -37,7 +37,3 @@ pub record Settled : Type 0 where
       → Settles (λ (r : WideStretch). (left right : List ℕ) → wideStretchOf r left right ≡ stretch (replayOn selection) (map recordedCommand bytes) (chipsOf registers left right))
   pub «stretch::writes» : (selection : Selection) (registers : Both) (leftMemory rightMemory bytes : List ℕ)
       → Settles (λ (o : WideStretch × List ℕ × List ℕ). wideStretchOf (o .0) (o .1) (o .2) ≡ stretch (replayOn selection) (map recordedWrite bytes) (chipsOf registers leftMemory rightMemory))
-  pub «stretch::reads» : (selection : Selection) (registers : Both) (leftMemory rightMemory bytes : List ℕ)
-      → Settles (λ (r : WideStretch). wideStretchOf r leftMemory rightMemory ≡ stretch (replayOn selection) (map readAs bytes) (chipsOf registers leftMemory rightMemory))
-  pub «stretch::reset_pin» : (selection : Selection) (registers : Both)
-      → Settles (λ (r : WideStretch). (left right : List ℕ) → wideStretchOf r left right ≡ stretch (replayOn selection) (event resetPulse ∷ []) (chipsOf registers left right))

@@ -1,7 +1,6 @@
 -- The event calls of the wide terminal: the whole outcome as one function of what is lent, by the calls of one chip.
 use Prim.Native.Nat.{ℕ}
 use mathlib.Core.Bool.{Bool, true, false, cond, not, _&&_}
-use mathlib.Core.List.{List}
 use lib.Dec.{eqb}
 use Rattle.constants.specs.Numbers.{taken, tooShort, outOfRange, bothSelected}
 use Rattle.bus.specs.Image.{legal}

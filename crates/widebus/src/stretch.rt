@@ -1,9 +1,8 @@
 // Stretches of events on the selected chips: bytes of one kind in order, up to the first that a selected chip refuses. The chips do not see each other, so each has a stretch of its own.
 ghost use mathlib.Core.Path.{_≡_};
-ghost use mathlib.Core.List.{List, [], _∷_, map};
+ghost use mathlib.Core.List.{List, map};
 ghost use Prim.Native.Nat.{ℕ};
-ghost use Rattle.bus.specs.Chip.{resetPulse};
-ghost use Rattle.bus.specs.Recorded.{event, recordedCommand, recordedWrite, readAs};
+ghost use Rattle.bus.specs.Recorded.{recordedCommand, recordedWrite};
 ghost use Rattle.bus.specs.Stretch.{stretch};
 ghost use Rattle.widebus.specs.Pair.{chipsOf};
 ghost use Rattle.widebus.specs.Events.{replayOn};
@@ -12,7 +11,6 @@ use crate::both::Both;
 use crate::selection::Selection;
 use bus::registers::Registers;
 use bus::stretch::Stretch;
-use constants::refusal::BOTH_SELECTED;
 use constants::refusal::TAKEN;
 
 // What a stretch comes to: the registers of both chips, the count of events taken, and the number that stopped it, 0 where all were taken.
@@ -94,46 +92,6 @@ fn writes_for_both(
     let first = bus::stretch::writes(left, left_memory, bytes);
     let second = bus::stretch::writes(right, right_memory, bytes);
     on_left(first, second.registers)
-}
-
-// Data bytes read from the one selected chip, compared with the bytes that the firmware read; with both selected no byte is read.
-pub fn reads(
-    selection: Selection,
-    registers: Both,
-    left_memory: &[u8],
-    right_memory: &[u8],
-    bytes: &[u8],
-) -> WideStretch
-    ensures { λ r. ⌜ wideStretchOf r (now («left_memory» .entry)) (now («right_memory» .entry)) ≡ stretch (replayOn selection) (map readAs (now (bytes .entry))) (chipsOf registers (now («left_memory» .entry)) (now («right_memory» .entry))) ⌝ }
-{
-    let left = registers.left;
-    let right = registers.right;
-    match selection {
-        Selection::Left => on_left(bus::stretch::reads(left, left_memory, bytes), right),
-        Selection::Right => on_right(bus::stretch::reads(right, right_memory, bytes), left),
-        Selection::Both => {
-            if bytes.len() == 0 {
-                return halted(TAKEN, registers);
-            }
-            halted(BOTH_SELECTED, registers)
-        }
-    }
-}
-
-// A pulse on the reset pin, one event for each selected chip.
-pub fn reset_pin(selection: Selection, registers: Both) -> WideStretch
-    ensures { λ r. ⌜ ((left right : List ℕ) → wideStretchOf r left right ≡ stretch (replayOn selection) (event resetPulse ∷ []) (chipsOf registers left right)) ⌝ }
-{
-    let left = registers.left;
-    let right = registers.right;
-    match selection {
-        Selection::Left => on_left(bus::stretch::reset_pin(left), right),
-        Selection::Right => on_right(bus::stretch::reset_pin(right), left),
-        Selection::Both => {
-            let second = bus::stretch::reset_pin(right);
-            on_left(bus::stretch::reset_pin(left), second.registers)
-        }
-    }
 }
 
 // The left chip's stretch, with the right chip's registers beside it.

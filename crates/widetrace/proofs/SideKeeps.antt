@@ -1,21 +1,20 @@
 -- What a side leaves as it was: the memory's length, and its bytes past the display memory.
 -- Assumes nothing.
-use mathlib.Core.Path.{_≡_, refl, sym, _∙_, ap, subst}
+use mathlib.Core.Path.{_≡_, refl, subst}
 use mathlib.Core.Bool.{Bool, true, false, cond, _&&_}
-use mathlib.Core.List.{List, [], _∷_, _++_, map}
+use mathlib.Core.List.{List, [], _∷_, _++_}
 use Prim.Native.Nat.{ℕ, zero, suc, _+_, _-_, _≤_, _<_}
 use native.Mathlib.Omega.{arith}
 use borrow.Author.Tests.{lt-leb}
-use lib.Dec.{leb}
 use lib.ListN.{length, take, drop, take-append-drop, length-drop}
 use lib.Seq.{take-all, take-take, length-take-le}
 use Rattle.codes.proofs.Tests.{chosen}
 use Rattle.constants.specs.Sizes.{headerSize, memorySize}
 use Rattle.bus.specs.Bytes.{All}
 use Rattle.bus.specs.Chip.{Chip}
-use Rattle.trace.specs.Records.{Record, Trace, ended, cut, _then_, whole, recordAt, splitFrom, split, lengthOf, payloadOf}
+use Rattle.trace.specs.Records.{Trace, ended, cut, _then_, whole, recordAt, splitFrom, split, lengthOf, payloadOf}
 use Rattle.trace.specs.Play.{Result, refuses, gives, onResult, playFrom}
-use Rattle.trace.specs.Kinds.{Recorded, replay}
+use Rattle.trace.specs.Kinds.{replay}
 use Rattle.trace.specs.AnyMachine.{Gives}
 use Rattle.trace.proofs.PlayedKeeps.{Carries, play-keeps, all-any}
 use Rattle.trace.proofs.ChipKeeps.{Aside, replay-aside}
@@ -24,7 +23,7 @@ use Rattle.widebus.specs.Events.{areBoth, readsData}
 use Rattle.widebus.specs.declared.selection.Side.{Side}
 use Rattle.widetrace.specs.Terminal.{WideEvent, selects, happens, wideEventsOf}
 use Rattle.widetrace.specs.EachChip.{hears}
-use Rattle.widetrace.specs.Sides.{OneSide, oneSide, sideStep, theSide, shortened, upTo}
+use Rattle.widetrace.specs.Sides.{OneSide, oneSide, sideStep, theSide, upTo}
 
 module _ (side : Side) (first : List ℕ) where
   on-replay : (x : Result Chip) (t : OneSide) → Gives (Aside first) x → Gives (λ (u : OneSide). Aside first (u .chip)) (onResult x refuses (λ chip. gives (oneSide chip (t .selection))))

@@ -1,21 +1,21 @@
 -- The record that stands at an offset, as far as a limit, played for one chip by its kind.
 -- Assumes nothing.
 use mathlib.Core.Path.{_≡_, refl, sym, _∙_, ap}
-use mathlib.Core.Bool.{Bool, true, false, cond, _&&_}
+use mathlib.Core.Bool.{cond}
 use mathlib.Core.List.{List, [], _∷_, map}
-use Prim.Native.Nat.{ℕ, suc, zero, _+_, _-_, _≤_, _<_}
+use Prim.Native.Nat.{ℕ, _+_, _-_, _≤_}
 use native.Mathlib.Omega.{arith}
 use borrow.Author.Tests.{ne-eqb, leb-true, leb-false}
 use lib.Dec.{eqb, leb}
 use lib.ListN.{length, take, drop, getD, length-take, length-drop}
-use lib.Seq.{slice, length-take-le, take-all, take-take, drop-cons}
+use lib.Seq.{length-take-le, take-all, take-take, drop-cons}
 use Rattle.codes.proofs.Tests.{chosen}
 use Rattle.constants.specs.Numbers.{taken, kindUnknown, noSelection}
 use Rattle.constants.specs.Sizes.{headerSize}
-use Rattle.bus.specs.Chip.{Chip, resetPulse}
+use Rattle.bus.specs.Chip.{resetPulse}
 use Rattle.bus.specs.declared.registers.Registers.{Registers}
-use Rattle.trace.specs.Play.{Result, refuses, gives, onResult, stopped, done, playEvents, playRecord}
-use Rattle.trace.specs.Kinds.{Recorded, event, recordedCommand, recordedWrite, readAs, eventsOf, chipOf}
+use Rattle.trace.specs.Play.{Result, refuses, gives, stopped, playEvents, playRecord}
+use Rattle.trace.specs.Kinds.{event, recordedCommand, recordedWrite, readAs, eventsOf, chipOf}
 use Rattle.trace.specs.Records.{Record, recordAt}
 use Rattle.trace.specs.Front.{frontOf}
 use Rattle.trace.specs.declared.records.Header.{Header}
@@ -25,9 +25,24 @@ use Rattle.trace.proofs.RecordsAreStretches.{part-slice}
 use Rattle.widebus.specs.Selection.{selectionOf}
 use Rattle.widebus.specs.declared.selection.Selection.{Selection}
 use Rattle.widebus.specs.declared.selection.Side.{Side}
-use Rattle.widetrace.specs.Terminal.{selects, happens, selectedBy, wideEventsOf}
-use Rattle.widetrace.specs.Sides.{OneSide, oneSide, sideStep, theSide, shortened, sizeBefore, sideEnding, sideEndingOf, selectedSide}
-use Rattle.widetrace.proofs.TerminalKinds.{unselected, Numbered, numbered}
+use Rattle.widetrace.specs.Terminal.{happens, selectedBy, wideEventsOf}
+use Rattle.widetrace.specs.Sides.{OneSide, oneSide, sideStep, theSide, shortened, sizeBefore, sideEndingOf, selectedSide}
+
+-- a payload that is not one byte selects nothing
+unselected : (bytes : List ℕ) → (length bytes ≡ 1 → ⊥) → selectedBy bytes ≡ refuses noSelection
+unfolding selectedBy
+unselected [] none = refl
+unselected (b ∷ []) none = absurd (none refl)
+unselected (b ∷ c ∷ rest) none = refl
+
+-- what selects nothing is refused with no 0
+abbrev Numbered : Result Selection → Type 0
+Numbered (refuses number) = number ≡ taken → ⊥
+Numbered (gives selection) = Unit {0}
+
+numbered : (byte : ℕ) → Numbered (selectionOf byte)
+unfolding selectionOf
+numbered byte = chosen Numbered (eqb byte 1) _ _ (λ e. tt) (λ e. chosen Numbered (eqb byte 2) _ _ (λ e. tt) (λ e. chosen Numbered (eqb byte 3) _ _ (λ e. tt) (λ e z. omega arith)))
 
 -- the first bytes of some
 sized : (n k : ℕ) (l : List ℕ) → take n (take k l) ≡ take (cond (leb k n) k n) l

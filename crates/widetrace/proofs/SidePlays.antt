@@ -1,13 +1,13 @@
 -- A trace as far as a limit, played from an offset on: by what stands there.
 -- Assumes nothing.
-use mathlib.Core.Path.{_≡_, refl, sym, _∙_}
+use mathlib.Core.Path.{_≡_, refl}
 use mathlib.Core.List.{List}
 use Prim.Native.Nat.{ℕ, _+_, _≤_, _<_}
 use borrow.Author.Tests.{le-leb, lt-leb}
 use lib.ListN.{drop}
 use Rattle.constants.specs.Sizes.{headerSize}
 use Rattle.constants.specs.Numbers.{taken, headerCut}
-use Rattle.trace.specs.Records.{Trace, ended, cut, _then_, recordAt}
+use Rattle.trace.specs.Records.{recordAt}
 use Rattle.trace.specs.Play.{Machine, stopped, done, played, playRecord, playFrom}
 use Rattle.trace.specs.Front.{frontOf}
 use Rattle.trace.specs.declared.records.Header.{Header}

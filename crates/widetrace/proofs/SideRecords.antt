@@ -1,10 +1,9 @@
 -- What the events of a record are made of: one for each byte, so that fewer bytes are fewer events; or one that neither chip refuses.
 -- Assumes nothing.
-use mathlib.Core.Path.{_≡_, refl, sym, _∙_, ap, subst}
-use mathlib.Core.Bool.{Bool, true, false, cond, _&&_}
+use mathlib.Core.Path.{_≡_, refl, _∙_, subst}
+use mathlib.Core.Bool.{Bool, true, false}
 use mathlib.Core.List.{List, [], _∷_, map}
 use Prim.Native.Nat.{ℕ, zero, suc}
-use borrow.Author.Tests.{eqb-true, eqb-false, ne-eqb}
 use lib.Dec.{eqb}
 use lib.ListN.{length, take, length-map}
 use Rattle.codes.proofs.Tests.{chosen}
@@ -16,12 +15,11 @@ use Rattle.trace.specs.Play.{Result, refuses, gives, onResult}
 use Rattle.trace.specs.Kinds.{Recorded, event, recordedCommand, recordedWrite, readAs, eventsOf, happened, replay}
 use Rattle.trace.proofs.ChipKinds.{Kind, by-kind}
 use Rattle.trace.proofs.ChipKinds as kinds
-use Rattle.widebus.specs.Events.{areBoth}
 use Rattle.widebus.specs.declared.selection.Selection.{Selection}
 use Rattle.widebus.specs.declared.selection.Side.{Side}
 use Rattle.widetrace.specs.Terminal.{WideEvent, selects, happens, selectedBy, wideEventsOf}
 use Rattle.widetrace.specs.EachChip.{hears}
-use Rattle.widetrace.specs.Sides.{OneSide, oneSide, sideStep}
+use Rattle.widetrace.specs.Sides.{OneSide, sideStep}
 
 pub data Made (kind : ℕ) (payload : List ℕ) (events : List WideEvent) : Type 0 where
   bytewise : length events ≡ length payload → ((j : ℕ) → wideEventsOf kind (take j payload) ≡ gives (take j events)) → Made kind payload events

@@ -2,22 +2,22 @@
 -- Assumes nothing.
 use mathlib.Core.Path.{_≡_, refl, sym, _∙_, ap, subst}
 use mathlib.Core.Logic.{_≢_}
-use mathlib.Core.Bool.{Bool, true, false, cond, _&&_}
-use mathlib.Core.List.{List, [], _∷_, map}
-use Prim.Native.Nat.{ℕ, zero, suc, _+_, _-_, _≤_, _<_}
+use mathlib.Core.Bool.{Bool, true, false, cond}
+use mathlib.Core.List.{List, [], _∷_}
+use Prim.Native.Nat.{ℕ, zero, suc, _+_, _-_, _≤_}
 use native.Mathlib.Omega.{arith}
 use borrow.Author.Tests.{le-leb, lt-leb, eqb-true, eqb-false, eq-eqb, ne-eqb}
 use lib.Dec.{eqb, leb}
 use lib.ListN.{length, take, drop, length-drop}
 use lib.Seq.{take-all, take-length, length-take-le}
-use Rattle.constants.specs.Numbers.{taken, headerCut}
+use Rattle.constants.specs.Numbers.{taken}
 use Rattle.constants.specs.Sizes.{headerSize}
 use Rattle.codes.proofs.Tests.{chosen}
-use Rattle.bus.specs.Chip.{Chip, resetPulse}
+use Rattle.bus.specs.Chip.{Chip}
 use Rattle.bus.specs.Stretch.{Stretched, stretched, stretch}
 use Rattle.bus.specs.StretchLaws.{NeverZero}
-use Rattle.trace.specs.Records.{Record, Trace, ended, cut, _then_, whole, recordAt, splitFrom, split, lengthOf, payloadOf}
-use Rattle.trace.specs.Play.{Result, refuses, gives, onResult, Machine, Ending, stopped, done, onEnding, Played, played, playEvents, playRecord, playFrom}
+use Rattle.trace.specs.Records.{Record, Trace, ended, cut, _then_, whole, recordAt, splitFrom, lengthOf, payloadOf}
+use Rattle.trace.specs.Play.{Result, refuses, gives, Machine, Ending, stopped, onEnding, Played, played, playRecord, playFrom}
 use Rattle.trace.specs.RecordsAreStretches.{endingAt}
 use Rattle.trace.proofs.RecordsAreStretches.{are-stretches}
 use Rattle.bus.proofs.StretchLaws.{stretches}
@@ -26,7 +26,7 @@ use Rattle.widebus.specs.Pair.{_beside_}
 use Rattle.widebus.specs.declared.selection.Selection.{Selection}
 use Rattle.widebus.specs.declared.selection.Side.{Side}
 use Rattle.widetrace.specs.Terminal.{Terminal, terminal, WideEvent, wideEventsOf, wideStep, theTerminal}
-use Rattle.widetrace.specs.Sides.{OneSide, oneSide, sideStep, theSide, shortened, upTo}
+use Rattle.widetrace.specs.Sides.{OneSide, oneSide, sideStep, theSide, upTo}
 use Rattle.widetrace.proofs.TerminalStretches.{terminal-never-zero}
 use Rattle.widetrace.proofs.SideStretches.{side-never-zero}
 use Rattle.widetrace.proofs.SideRecords.{Made, bytewise, single, made}

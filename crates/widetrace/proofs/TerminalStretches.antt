@@ -1,31 +1,23 @@
 -- A record's events on the wide terminal are a stretch on its selected chips.
 -- Assumes nothing.
-use mathlib.Core.Path.{_≡_, refl, sym, _∙_, ap, subst}
+use mathlib.Core.Path.{_≡_, refl, subst}
 use mathlib.Core.Logic.{_≢_}
-use mathlib.Core.Bool.{Bool, true, false, cond, _&&_}
+use mathlib.Core.Bool.{_&&_}
 use mathlib.Core.List.{List, [], _∷_, map}
-use Prim.Native.Nat.{ℕ, _+_, _-_, _≤_}
 use native.Mathlib.Omega.{arith}
-use lib.ListN.{length, take, drop, length-drop, length-map}
-use lib.Seq.{length-take-le, slice}
-use Rattle.constants.specs.Numbers.{taken, bothSelected}
+use Rattle.constants.specs.Numbers.{taken}
 use Rattle.bus.specs.Chip.{Chip}
-use Rattle.bus.specs.Stretch.{Stretched, stretched, countedOn, stretch}
+use Rattle.bus.specs.Stretch.{stretched, countedOn, stretch}
 use Rattle.bus.specs.StretchLaws.{NeverZero}
-use Rattle.bus.proofs.StretchLaws.{stretches, the-chip-never-zero}
-use Rattle.trace.specs.Play.{Result, refuses, gives, onResult, playEvents}
+use Rattle.bus.proofs.StretchLaws.{the-chip-never-zero}
+use Rattle.trace.specs.Play.{Result, refuses, gives, onResult}
 use Rattle.trace.specs.Kinds.{Recorded, replay}
-use Rattle.trace.specs.RecordsAreStretches.{endingAt}
-use Rattle.trace.proofs.RecordsAreStretches.{part-slice, are-stretches}
 use Rattle.trace.proofs.ChipRefusals.{Refusing}
 use Rattle.codes.proofs.Tests.{chosen}
-use Rattle.widebus.specs.Pair.{Pair, _beside_}
+use Rattle.widebus.specs.Pair.{Pair}
 use Rattle.widebus.specs.Events.{toSelected, areBoth, readsData, replayOn}
-use Rattle.widebus.specs.WideStretch.{wideStretchOf}
 use Rattle.widebus.specs.declared.selection.Selection.{Selection}
-use Rattle.widebus.specs.declared.stretch.WideStretch.{WideStretch}
-use Rattle.widetrace.specs.Terminal.{Terminal, terminal, WideEvent, selects, happens, wideStep, theTerminal}
-use Rattle.widetrace.specs.Code.{wideEndingOf, wideEnding}
+use Rattle.widetrace.specs.Terminal.{Terminal, terminal, WideEvent, selects, happens, wideStep}
 
 -- a result that is no refusal with 0
 abbrev pub NotTaken : {A : Type 0} → Result A → Type 0
@@ -75,28 +67,3 @@ happening selection (first ∷ rest) chips = by (replayOn selection first chips)
         onResult (onResult x refuses (λ t. gives (terminal t selection))) (λ number. stretched (terminal chips selection) 0 number) (λ t. countedOn 1 (stretch wideStep (map happens rest) t)) ≡ stretched (terminal (s .state) selection) (s .count) (s .number)
     by (refuses number) later = refl
     by (gives t) later = rw (later t)
-
--- the code's stretch of a record's events ends as the record does
-module _ (selection : Selection) (events : List Recorded) (chips : Pair Chip) (w : WideStretch) (lm rm : List ℕ) (h : wideStretchOf w lm rm ≡ stretch (replayOn selection) events chips) where
-  pub ends : (offset : ℕ) → wideEndingOf (wideEnding (w .registers) selection (w .number) (offset + w .count)) lm rm ≡ playEvents theTerminal (map happens events) offset (terminal chips selection)
-  unfolding wideEndingOf
-  ends offset =
-      ap (λ (s : Stretched (Pair Chip)). endingAt offset (stretched (terminal (s .state) selection) (s .count) (s .number))) h
-      ∙ ap (λ s. endingAt offset s) (sym (happening selection events chips)) ∙ sym (are-stretches theTerminal terminal-never-zero (map happens events) offset (terminal chips selection))
-
-  -- and takes no more events than there are
-  pub takes : w .count ≤ length events
-  takes = omega (arith, ap (λ (s : Stretched (Pair Chip)). s .count) h, stretches (replayOn selection) .within events chips)
-
--- the code's stretch of the bytes from one offset of a trace to another
-module _ (selection : Selection) (means : ℕ → Recorded) (trace : List ℕ) (from to : ℕ) (order : from ≤ to) (fits : to ≤ length trace) (chips : Pair Chip) (w : WideStretch) (lm rm : List ℕ)
-    (h : wideStretchOf w lm rm ≡ stretch (replayOn selection) (map means (take (to - from) (drop from trace))) chips) where
-  -- it does not go past its end
-  pub reaches : from + w .count ≤ to
-  reaches =
-      let part = take (to - from) (drop from trace) in
-      let size : length part ≡ to - from = length-take-le (to - from) (drop from trace) (omega (arith, length-drop from trace)) in
-      omega (arith, takes selection (map means part) chips w lm rm h, length-map part means, size)
-
-  pub ends-there : wideEndingOf (wideEnding (w .registers) selection (w .number) (from + w .count)) lm rm ≡ playEvents theTerminal (map happens (map means (slice from to trace))) from (terminal chips selection)
-  ends-there = rw (sym (part-slice trace from to order fits)) (ends selection _ chips w lm rm h from)

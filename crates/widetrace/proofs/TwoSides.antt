@@ -2,18 +2,18 @@
 -- Assumes nothing.
 use mathlib.Core.Path.{_≡_, refl, sym, _∙_, ap, subst}
 use mathlib.Core.Logic.{_≢_}
-use mathlib.Core.Bool.{Bool, true, false, cond, _&&_}
+use mathlib.Core.Bool.{Bool, true, false, _&&_}
 use mathlib.Core.List.{List, [], _∷_}
-use Prim.Native.Nat.{ℕ, suc, _+_}
+use Prim.Native.Nat.{suc, _+_}
 use native.Mathlib.Omega.{arith}
 use lib.ListN.{take}
-use Rattle.constants.specs.Numbers.{taken, bothSelected}
+use Rattle.constants.specs.Numbers.{taken}
 use Rattle.codes.proofs.Tests.{chosen}
 use Rattle.bus.specs.Chip.{Chip}
-use Rattle.bus.specs.Stretch.{Stretched, stretched, countedOn, stretch}
+use Rattle.bus.specs.Stretch.{Stretched, stretched, stretch}
 use Rattle.trace.specs.Play.{Result, refuses, gives, onResult}
 use Rattle.trace.specs.Kinds.{Recorded, replay}
-use Rattle.widebus.specs.Pair.{Pair, _beside_}
+use Rattle.widebus.specs.Pair.{_beside_}
 use Rattle.widebus.specs.Events.{toSelected, areBoth, readsData, replayOn}
 use Rattle.widebus.specs.declared.selection.Selection.{Selection}
 use Rattle.widebus.specs.declared.selection.Side.{Side}

@@ -9,7 +9,7 @@ use Rattle.constants.specs.Sizes.{headerSize}
 use Rattle.bus.specs.Chip.{Chip}
 use Rattle.trace.specs.Records.{Record, Trace, ended, cut, _then_}
 use Rattle.trace.specs.Play.{Result, refuses, gives, onResult, Machine, Ending, stopped, done, Played, played}
-use Rattle.trace.specs.Kinds.{Recorded, replay, chipOf}
+use Rattle.trace.specs.Kinds.{replay, chipOf}
 use Rattle.bus.specs.declared.registers.Registers.{Registers}
 use Rattle.widebus.specs.Selection.{selectionOf}
 use Rattle.widebus.specs.Events.{areBoth, readsData}

@@ -1,23 +1,26 @@
 // The run of a trace on the lent states and memories of a wide terminal.
 ghost use mathlib.Core.Path.{_≡_};
+ghost use Prim.Native.Nat.{_≤_};
+ghost use lib.ListN.{length};
+ghost use Rattle.constants.specs.Sizes.{memorySize};
 ghost use Rattle.trace.specs.Records.{split};
 ghost use Rattle.trace.specs.Play.{play};
 ghost use Rattle.widebus.specs.Pair.{bothLent, chipsOf};
 ghost use Rattle.widetrace.specs.Terminal.{terminal, theTerminal};
-ghost use Rattle.widetrace.specs.Code.{widePlayedOf};
+ghost use Rattle.widetrace.specs.Code.{widePlayed, widePlayedOf};
 ghost use Rattle.widetrace.specs.WideRun.{wideRan, wideRun};
 ghost use Rattle.widebus.specs.declared.selection.Selection.{Selection};
-use crate::record::obey;
-use constants::refusal::HEADER_CUT;
+use crate::kept::copied;
+use crate::kept::put_back;
+use crate::side::play_side;
+use bus::registers::Registers;
 use constants::refusal::TAKEN;
-use constants::sizes::HEADER_SIZE;
-use trace::reader::read_at;
-use trace::records::Front;
 use trace::run::Stop;
 use widebus::both::Both;
 use widebus::both::BothAsked;
 use widebus::both::ask;
 use widebus::selection::Selection;
+use widebus::selection::Side;
 
 // A played trace: where it stopped, and the registers and the selection that it leaves.
 struct WidePlayed {
@@ -38,7 +41,7 @@ pub fn run(
 {
     match ask(left_state, left_memory, right_state, right_memory) {
         BothAsked::Found(registers) => {
-            let played = play(Selection::Both, registers, left_memory, right_memory, trace);
+            let played = play(registers, left_memory, right_memory, trace);
             let both = played.registers;
             let left = both.left;
             let right = both.right;
@@ -54,58 +57,44 @@ pub fn run(
     }
 }
 
-// Plays the records of a trace from given registers and memories, and a selection.
+// Plays a trace by the two sides, which do not see each other: the right chip plays as far as the left one came; where it stops earlier, the left one's memory is put back, and it plays as far as that.
 fn play(
-    mut selection: Selection,
-    mut registers: Both,
+    registers: Both,
     left_memory: &mut [u8],
     right_memory: &mut [u8],
     trace: &[u8],
 ) -> WidePlayed
-    ensures { λ r. ⌜ widePlayedOf r (now («left_memory» .exit)) (now («right_memory» .exit)) ≡ play theTerminal (split (now (trace .entry))) (terminal (chipsOf registers (now («left_memory» .entry)) (now («right_memory» .entry))) selection) ⌝ }
+    requires { ⌜ memorySize ≤ length (now «left_memory») ⌝ }
+    ensures { λ r. ⌜ widePlayedOf r (now («left_memory» .exit)) (now («right_memory» .exit)) ≡ play theTerminal (split (now (trace .entry))) (terminal (chipsOf registers (now («left_memory» .entry)) (now («right_memory» .entry))) Selection.Both) ⌝ }
 {
-    let mut at = 0;
-    let mut count = 0;
-    loop {
-        match read_at(trace, at) {
-            Front::Nothing => return end(TAKEN, at, count, registers, selection),
-            Front::Cut => return end(HEADER_CUT, at, count, registers, selection),
-            Front::Whole(header) => {
-                let ending = obey(
-                    header,
-                    selection,
-                    registers,
-                    left_memory,
-                    right_memory,
-                    trace,
-                    at,
-                );
-                let left = ending.registers;
-                let next = ending.selection;
-                if ending.number == TAKEN {
-                    registers = left;
-                    selection = next;
-                    at = at + HEADER_SIZE + header.length;
-                    count += 1;
-                } else {
-                    return end(ending.number, ending.offset, count, left, next);
-                }
-            }
-        }
+    let kept = copied(left_memory);
+    let first = play_side(Side::Left, registers.left, left_memory, trace, trace.len());
+    let reached = first.stop;
+    let second = play_side(
+        Side::Right,
+        registers.right,
+        right_memory,
+        trace,
+        reached.offset,
+    );
+    let stop = second.stop;
+    if stop.number == TAKEN {
+        let selection = first.selection;
+        return ended(reached, selection, first.registers, second.registers);
     }
+    put_back(&kept, left_memory);
+    let again = play_side(Side::Left, registers.left, left_memory, trace, stop.offset);
+    let selection = second.selection;
+    ended(stop, selection, again.registers, second.registers)
 }
 
 // The end of a played trace.
-fn end(number: u8, offset: usize, count: usize, registers: Both, selection: Selection) -> WidePlayed
-    ensures { λ r. ⌜ r ≡ record { stop = record { number = number; offset = offset; count = count }; registers = registers; selection = selection } ⌝ }
+fn ended(stop: Stop, selection: Selection, left: Registers, right: Registers) -> WidePlayed
+    ensures { λ r. ⌜ r ≡ widePlayed stop left right selection ⌝ }
 {
     WidePlayed {
-        stop: Stop {
-            number,
-            offset,
-            count,
-        },
-        registers,
+        stop,
+        registers: Both { left, right },
         selection,
     }
 }

@@ -2,7 +2,7 @@
 -- Assumes nothing.
 use Rattle.widetrace.proofs.kept.put_back.Statement.{statement}
 use Rattle.widetrace.proofs.kept.put_back.Tie as tie
-use mathlib.Core.Path.{_≡_, refl, _∙_, ap}
+use mathlib.Core.Path.{_≡_, _∙_, ap}
 use Prim.Native.Nat.{_≤_, _-_}
 use native.Mathlib.Omega.{arith}
 use denote.Ref.{now}

@@ -1,154 +1,81 @@
--- `widetrace::run::play` meets its contract: what is left of the trace decides.
+-- `widetrace::run::play` meets its contract: the right side takes all that the left one took, or stops earlier, and the left one plays again as far as that.
 -- Assumes nothing.
+use borrow.Author.Needs.{needs}
+use mathlib.Core.Path.{_∙_}
+use denote.Ref.{now}
+use Rattle.widetrace.proofs.RunBySides.{still-long, taken-by-both, stopped-by-right}
 use Rattle.widetrace.proofs.run.play.Statement.{statement}
 use Rattle.widetrace.proofs.run.play.Tie as tie
-use mathlib.Core.Path.{_≡_, refl, sym, _∙_}
-use Prim.Native.Nat.{_+_, _≤_, _-_}
-use native.Mathlib.Omega.{arith}
-use borrow.Author.Needs.{needs}
-use borrow.Author.Tests.{ne-eqb}
-use denote.Ref.{now}
-use lib.ListN.{length, drop}
-use Rattle.constants.specs.Sizes.{headerSize}
-use Rattle.trace.specs.Records.{split}
-use Rattle.trace.specs.Front.{frontOf}
-use Rattle.trace.specs.Play.{play, playFrom}
-use Rattle.trace.specs.declared.records.Front.{Front}
-use Rattle.trace.proofs.WhatStands.{within-trace}
-use Rattle.trace.proofs.SplitLaws.{rest}
-use Rattle.trace.proofs.PlayedFurther.{plays-nothing, plays-cut, plays-on, plays-stop}
-use Rattle.widebus.specs.Pair.{chipsOf}
-use Rattle.widetrace.specs.Terminal.{terminal, theTerminal}
-use Rattle.widetrace.specs.Code.{wideEndingOf, widePlayedOf}
 
-abbrev Inv-loop : tie.InvT-loop
-Inv-loop selection₀ registers₀ left-memory₀ right-memory₀ trace at₀ count₀ selection registers left-memory right-memory at count =
-    (at ≤ length trace) × (count ≤ at) × (length left-memory ≡ length left-memory₀) × (length right-memory ≡ length right-memory₀)
-    × (play theTerminal (split trace) (terminal (chipsOf registers₀ left-memory₀ right-memory₀) selection₀) ≡ playFrom theTerminal (rest trace at) count (terminal (chipsOf registers left-memory right-memory) selection))
+copied-requires : tie.Need-copied-requires
+copied-requires c κs = search needs
 
-abbrev μ-loop : tie.MeasureT-loop
-μ-loop selection₀ registers₀ left-memory₀ right-memory₀ trace at₀ count₀ selection registers left-memory right-memory at count = length trace - at
+play-side-requires : tie.Need-play-side-requires
+play-side-requires c κs = search needs
 
--- the record that stands at the loop's offset
-standing : (d : tie.After-known-told Inv-loop μ-loop) → frontOf (drop (d .before .before .before .before .loop .at) (now (d .before .before .before .before .before .before .before .before .args .trace))) ≡ Front.Whole (d .before .header .given .0 .0)
-standing d = sym (d .before .before .before .read-at .ensures) ∙ d .before .header .given .1
+play-side-requires-2 : tie.Need-play-side-requires-2
+play-side-requires-2 c κs = search needs
 
-fits : (d : tie.After-known-told Inv-loop μ-loop) → d .before .before .before .before .loop .at + headerSize + d .before .header .given .0 .0 .length ≤ length (now (d .before .before .before .before .before .before .before .before .args .trace))
-fits d = within-trace (now (d .before .before .before .before .before .before .before .before .args .trace)) (d .before .before .before .before .loop .at) (d .before .header .given .0 .0) (standing d)
+ended-requires : tie.Need-ended-requires
+ended-requires c κs = search needs
 
-loop-holds : tie.Need-loop-holds Inv-loop μ-loop
-unfolding split
-loop-holds c = (omega arith, omega arith, refl, refl, refl)
+same-length : tie.Need-same-length
+same-length c = search needs
 
-read-at-requires : tie.Need-read-at-requires Inv-loop μ-loop
-read-at-requires c κs = search needs
+same-length-2 : tie.Need-same-length-2
+same-length-2 c = search needs
 
-enum-told : tie.Need-enum-told Inv-loop μ-loop
-enum-told c = search needs
+returns : tie.Need-returns
+returns c =
+    let d = c .before .before .before .before .before .before in
+    let a = d .before .before .before .before .before .before .before .before .before .before .before .before .args in
+    rw (c .ended .ensures)
+    (taken-by-both (a .registers) (now (a .trace)) (now (a .left-memory)) (now (a .right-memory)) (d .before .before .before .before .before .play-side .result) _ (d .before .before .before .before .before .play-side .ensures) (d .play-side2 .result) _ (d .play-side2 .ensures) (c .before .if1 .taken))
 
-end-requires : tie.Need-end-requires Inv-loop μ-loop
-end-requires c κs = search needs
+slice-aggregate-put-back : tie.Need-slice-aggregate-put-back
+slice-aggregate-put-back c = search needs
 
-same-length : tie.Need-same-length Inv-loop μ-loop
-same-length c = c .before .before .before .before .loop .inv .2
+put-back-requires : tie.Need-put-back-requires
+put-back-requires c κs =
+    let d = c .before .before .before .before .before .before .before .before .before .before .before .before in
+    let a = d .before .before .before .before .before .before .before .args in
+    (search needs, still-long (a .registers) (now (a .trace)) (now (a .left-memory)) (now (a .right-memory)) (d .play-side .result) _ (d .play-side .ensures) (d .before .before .before .before .before .before .before .pre))
 
-same-length-2 : tie.Need-same-length-2 Inv-loop μ-loop
-same-length-2 c = c .before .before .before .before .loop .inv .3
+play-side-requires-3 : tie.Need-play-side-requires-3
+play-side-requires-3 c κs = search needs
 
-returns : tie.Need-returns Inv-loop μ-loop
-unfolding widePlayedOf
-returns c = rw (c .end .ensures) (sym (c .before .before .before .before .loop .inv .4 ∙ plays-nothing _ _ theTerminal _ _ (sym (c .before .before .before .read-at .ensures) ∙ c .before .enum-told .given .1)))
+ended-requires-2 : tie.Need-ended-requires-2
+ended-requires-2 c κs = search needs
 
-enum-told-2 : tie.Need-enum-told-2 Inv-loop μ-loop
-enum-told-2 c = search needs
+same-length-3 : tie.Need-same-length-3
+same-length-3 c = c .before .before .before .play-side3 .kept .1 .1 .0 ∙ c .before .before .before .before .before .before .before .put-back .kept .1 .0 ∙ c .before .before .before .before .before .before .before .before .before .before .before .before .before .before .before .before .before .before .before .before .play-side .kept .1 .1 .0
 
-end-requires-2 : tie.Need-end-requires-2 Inv-loop μ-loop
-end-requires-2 c κs = search needs
+same-length-4 : tie.Need-same-length-4
+same-length-4 c = c .before .before .before .before .before .before .before .before .before .before .before .before .before .before .before .play-side2 .kept .1 .1 .0
 
-same-length-3 : tie.Need-same-length-3 Inv-loop μ-loop
-same-length-3 c = c .before .before .before .before .loop .inv .2
-
-same-length-4 : tie.Need-same-length-4 Inv-loop μ-loop
-same-length-4 c = c .before .before .before .before .loop .inv .3
-
-returns-2 : tie.Need-returns-2 Inv-loop μ-loop
-unfolding widePlayedOf
-returns-2 c = rw (c .end2 .ensures) (sym (c .before .before .before .before .loop .inv .4 ∙ plays-cut _ _ theTerminal _ _ (sym (c .before .before .before .read-at .ensures) ∙ c .before .enum-told2 .given .1)))
-
-enum-known-header : tie.Need-enum-known-header Inv-loop μ-loop
-enum-known-header c = search needs
-
-obey-requires : tie.Need-obey-requires Inv-loop μ-loop
-obey-requires c κs = standing (c .before .before)
-
-add-at : tie.Need-add-at Inv-loop μ-loop
-add-at c = omega (arith, fits (c .before .before .before .before .before .before .before .before .before .before), c .before .before .before .before .before .before .before .before .before .before .before .before .before .before .before .before .before .before .good .1 .1 .1 .1 .0 .0)
-
-add-at-2 : tie.Need-add-at-2 Inv-loop μ-loop
-add-at-2 c = omega (arith, fits (c .before .before .before .before .before .before .before .before .before .before .before), c .before .before .before .before .before .before .before .before .before .before .before .before .before .before .before .before .before .before .before .good .1 .1 .1 .1 .0 .0)
-
-add-count : tie.Need-add-count Inv-loop μ-loop
-add-count c = omega (arith, fits (c .before .before .before .before .before .before .before .before .before .before .before), c .before .before .before .before .before .before .before .before .before .before .before .before .before .before .before .loop .inv .1, c .before .before .before .before .before .before .before .before .before .before .before .before .before .before .before .before .before .before .before .good .1 .1 .1 .1 .0 .0)
-
-loop-less : tie.Need-loop-less Inv-loop μ-loop
-loop-less c = omega (arith, fits (c .before .before .before .before .before .before .before .before .before .before .before))
-
-loop-again : tie.Need-loop-again Inv-loop μ-loop
-unfolding wideEndingOf
-loop-again c =
-    let d = c .before .before .before .before .before .before .before .before .before .before .before in
-    let loop = d .before .before .before .before .loop in
-    let obeyed = c .before .before .before .before .before .before .before .before .obey in (
-      omega (arith, fits d),
-      omega (arith, fits d),
-      obeyed .kept .1 .1 .1 .0 ∙ loop .inv .2,
-      obeyed .kept .1 .1 .1 .1 .0 ∙ loop .inv .3,
-      loop .inv .4 ∙ plays-on (now (d .before .before .before .before .before .before .before .before .args .trace)) (loop .at) theTerminal (loop .count) _ _ (standing d) _ (sym (rw (c .before .if1 .taken) at (obeyed .ensures))),
-    )
-
-end-requires-3 : tie.Need-end-requires-3 Inv-loop μ-loop
-end-requires-3 c κs = search needs
-
-same-length-5 : tie.Need-same-length-5 Inv-loop μ-loop
-same-length-5 c = c .before .before .before .before .before .before .before .before .obey .kept .1 .1 .1 .0 ∙ c .before .before .before .before .before .before .before .before .before .before .before .before .before .before .before .loop .inv .2
-
-same-length-6 : tie.Need-same-length-6 Inv-loop μ-loop
-same-length-6 c = c .before .before .before .before .before .before .before .before .obey .kept .1 .1 .1 .1 .0 ∙ c .before .before .before .before .before .before .before .before .before .before .before .before .before .before .before .loop .inv .3
-
-returns-3 : tie.Need-returns-3 Inv-loop μ-loop
-unfolding wideEndingOf widePlayedOf
-returns-3 c =
-    let d = c .before .before .before .before .before .before .before .before .before .before .before in
-    let loop = d .before .before .before .before .loop in
-    rw (c .end3 .ensures)
-    (sym (loop .inv .4 ∙ plays-stop (now (d .before .before .before .before .before .before .before .before .args .trace)) (loop .at) theTerminal (loop .count) _ _ (standing d) _ _ _ (sym (rw (ne-eqb _ _ (c .before .if1 .left)) at (c .before .before .before .before .before .before .before .before .obey .ensures)))))
+returns-2 : tie.Need-returns-2
+returns-2 c =
+    let d = c .before .before .before .before .before .before .before .before .before .before .before .before .before .before .before in
+    let e = d .before .before .before .before .before in
+    let a = e .before .before .before .before .before .before .before .args in
+    rw (c .ended2 .ensures)
+    (stopped-by-right (a .registers) (now (a .trace)) (now (a .left-memory)) (now (a .right-memory)) (e .play-side .result) _ (e .play-side .ensures) (d .play-side2 .result) _ (d .play-side2 .ensures) _ (c .before .before .before .before .before .before .before .put-back .ensures ∙ rw (e .before .before .copied .ensures)) (c .before .before .before .play-side3 .result) _ (c .before .before .before .play-side3 .ensures) (c .before .before .before .before .before .before .before .before .before .before .if1 .left))
 
 pub play-spec : {M : Type 1} → statement M
 play-spec =
     tie.close
     (tie.spec
-    Inv-loop
-    μ-loop
-    loop-holds
-    read-at-requires
-    enum-told
-    end-requires
+    copied-requires
+    play-side-requires
+    play-side-requires-2
+    ended-requires
     same-length
     same-length-2
     returns
-    enum-told-2
-    end-requires-2
+    slice-aggregate-put-back
+    put-back-requires
+    play-side-requires-3
+    ended-requires-2
     same-length-3
     same-length-4
-    returns-2
-    enum-known-header
-    obey-requires
-    add-at
-    add-at-2
-    add-count
-    loop-less
-    loop-again
-    end-requires-3
-    same-length-5
-    same-length-6
-    returns-3)
+    returns-2)

@@ -1,10 +1,12 @@
 -- `widetrace::run::run` meets its contract: what was asked first decides, and each chip's registers are stored once.
 -- Assumes nothing.
 use borrow.Author.Needs.{needs}
+use mathlib.Core.Path.{sym, _∙_}
 use Rattle.widetrace.proofs.run.run.Statement.{statement}
 use Rattle.widetrace.proofs.run.run.Tie as tie
 use Rattle.widetrace.proofs.WideRunCode.{plays, refuses}
 use Rattle.widebus.specs.Pair.{bothLent}
+use Rattle.widebus.proofs.Asking.{memories-long}
 use denote.Ref.{now}
 
 ask-requires : tie.Need-ask-requires
@@ -14,7 +16,10 @@ enum-known-registers : tie.Need-enum-known-registers
 enum-known-registers c = search needs
 
 play-requires : tie.Need-play-requires
-play-requires c κs = search needs
+play-requires c κs =
+    let a = c .before .before .before .before .before .before .before .before .before .before .before .before .before .before .before .args in
+    let all = bothLent (now (a .left-state)) (now (a .left-memory)) (now (a .right-state)) (now (a .right-memory)) in
+    memories-long all (sym (c .before .before .before .before .before .ask .ensures) ∙ c .before .before .before .registers .given .1) .0
 
 store-requires : tie.Need-store-requires
 store-requires c κs = search needs

@@ -11,7 +11,7 @@ use Rattle.widetrace.proofs.SideStretches.{let-through, ends-heard, end
 use Rattle.widetrace.specs.Sides.{oneSide, sideEndingOf}
 use Rattle.trace.proofs.RecordsAreStretches.{reaches}
 use Rattle.trace.proofs.WhatStands.{within-trace}
-use Rattle.trace.specs.Kinds.{recordedCommand, recordedWrite, readAs, chipOf}
+use Rattle.trace.specs.Kinds.{recordedCommand, recordedWrite, chipOf}
 use denote.Ref.{now}
 use native.Mathlib.Omega.{arith}
 use mathlib.Core.List.{[], map}
