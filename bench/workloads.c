@@ -459,6 +459,7 @@ BOTH_AS(idle)
 BOTH_AS(columns_normal)
 BOTH_AS(columns_mirrored)
 BOTH_AS(all_lit)
+BOTH_AS(display_off)
 BOTH_AS(trace_of_commands)
 BOTH_AS(trace_of_writes)
 BOTH_AS(trace_of_pieces)
@@ -688,6 +689,9 @@ const struct workload workloads[] = {
     .prepare = wide_columns_mirrored, .once = wide_draw, .units = one,
     .beside = draw_each, .beside_what = "two narrow frames" },
   { .name = "wide: all lit", .unit = "frame", .prepare = wide_all_lit,
+    .once = wide_draw, .units = one, .beside = draw_each,
+    .beside_what = "two narrow frames" },
+  { .name = "wide: display off", .unit = "frame", .prepare = wide_display_off,
     .once = wide_draw, .units = one, .beside = draw_each,
     .beside_what = "two narrow frames" },
   { .name = "wide page", .unit = "page", .prepare = wide_idle,

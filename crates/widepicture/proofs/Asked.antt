@@ -2,28 +2,24 @@
 -- Assumes nothing.
 use mathlib.Core.Path.{_≡_, refl, sym, _∙_}
 use mathlib.Core.Bool.{Bool, true, false, cond, _||_, false≢true}
-use mathlib.Core.List.{List}
+use mathlib.Core.List.{List, _++_}
 use Prim.Native.Nat.{ℕ, _≤_, _<_}
 use native.Mathlib.Omega.{arith}
 use borrow.Author.Tests.{lt-ltb, le-ltb}
-use lib.ListN.{length}
+use lib.ListN.{length, drop}
 use Rattle.constants.specs.Numbers.{taken, tooShort, outOfRange}
-use Rattle.constants.specs.Sizes.{imageSize, memorySize, frameRows, wideFrameSize}
+use Rattle.constants.specs.Sizes.{imageSize, memorySize, wideFrameSize}
 use Rattle.bus.specs.Registers.{registersOf}
 use Rattle.bus.specs.Image.{short, legal, askedState}
 use Rattle.bus.specs.declared.image.Asked.{Asked}
 use Rattle.bus.proofs.Legal.{long}
-use Rattle.picture.specs.Frame.{frame}
 use Rattle.picture.specs.Draw.{drawn}
-use Rattle.picture.proofs.Places.{frame-length}
-use Rattle.widebus.specs.Pair.{Pair, Lent}
+use Rattle.widebus.specs.Pair.{Pair, Lent, chipsOf}
 use Rattle.widebus.specs.Asked.{anyShort, askedBoth}
 use Rattle.widebus.specs.declared.both.Both.{Both}
 use Rattle.widebus.specs.declared.both.BothAsked.{BothAsked}
-use Rattle.widebus.specs.declared.selection.Side.{Side}
-use Rattle.widepicture.specs.WideFrame.{wideFrame, firstColumn}
-use Rattle.widepicture.specs.WideDraw.{drawOnBoth, drawWide, rowsWritten}
-use Rattle.widepicture.proofs.HalfRows.{both-written}
+use Rattle.widepicture.specs.WideFrame.{wideFrame}
+use Rattle.widepicture.specs.WideDraw.{drawOnBoth, drawWide}
 
 -- neither of two tests
 pub neither : (s t : Bool) → (s || t) ≡ false → (s ≡ false) × (t ≡ false)
@@ -57,10 +53,6 @@ module _ (all : Pair Lent) (was : List ℕ) where
           let shorts = neither (short (all .left .state) (all .left .memory)) (short (all .right .state) (all .right .memory)) (found-long (anyShort all) _ (sym e ∙ found)) in
           (long (all .left .state) (all .left .memory) (shorts .0) .1, long (all .right .state) (all .right .memory) (shorts .1) .1, k)
 
-      pub both-drawn : {middle later : List ℕ} → middle ≡ rowsWritten (firstColumn Side.Left) frameRows (frame (registers .left) (all .left .memory)) was
-          → later ≡ rowsWritten (firstColumn Side.Right) frameRows (frame (registers .right) (all .right .memory)) middle → drawn taken later ≡ drawWide all was
-      unfolding drawWide drawOnBoth wideFrame
-      both-drawn p q =
-          let left = frame (registers .left) (all .left .memory) in
-          let right = frame (registers .right) (all .right .memory) in
-          rw (q, p, both-written left right (frame-length _ _) (frame-length _ _) frameRows was (omega arith) k, le-ltb (length was) wideFrameSize k, sym e ∙ found)
+      pub both-drawn : {later : List ℕ} → later ≡ wideFrame (chipsOf registers (all .left .memory) (all .right .memory)) ++ drop wideFrameSize was → drawn taken later ≡ drawWide all was
+      unfolding drawWide drawOnBoth
+      both-drawn p = rw (p, le-ltb (length was) wideFrameSize k, sym e ∙ found)

@@ -15,8 +15,10 @@ use Rattle.picture.specs.Scan.{panelRow}
 use Rattle.picture.specs.Frame.{frame, rowOf}
 use Rattle.picture.specs.DrawLine.{drawLine}
 use Rattle.picture.proofs.Places.{frame-length, frame-row}
+use Rattle.widebus.specs.Pair.{chipsOf}
+use Rattle.widebus.specs.declared.both.Both.{Both}
 use Rattle.widebus.specs.declared.selection.Side.{Side}
-use Rattle.widepicture.specs.WideFrame.{rowByRow, sideBySide, firstColumn}
+use Rattle.widepicture.specs.WideFrame.{rowByRow, sideBySide, wideFrame, firstColumn}
 use Rattle.widepicture.specs.WideDraw.{writtenAt, rowsWritten}
 use Rattle.widepicture.proofs.RowByRow.{row-length, side-length, written-length, written-front, written-after, row-written}
 
@@ -91,7 +93,7 @@ module _ (r : Registers) (memory : List ℕ) (first : ℕ) (k : first ≤ width)
 
 -- the rows of both chips: the left one's, and then the right one's
 module _ (left right : List ℕ) (e : length left ≡ frameSize) (d : length right ≡ frameSize) where
-  pub both-written : (h : ℕ) (was : List ℕ) → h ≤ frameRows → h * wideWidth ≤ length was
+  both-written : (h : ℕ) (was : List ℕ) → h ≤ frameRows → h * wideWidth ≤ length was
       → rowsWritten (firstColumn Side.Right) h right (rowsWritten (firstColumn Side.Left) h left was) ≡ sideBySide width h left right ++ drop (h * wideWidth) was
   unfolding rowsWritten rowByRow
   both-written zero was l long = refl
@@ -102,3 +104,10 @@ module _ (left right : List ℕ) (e : length left ≡ frameSize) (d : length rig
       let long-left = rows-written-length 0 (omega arith) left e h was (omega arith) (omega arith) in
       rw (none, rows-then-part width (omega arith) right d h (rowOf width h left) (rowsWritten 0 h left was) (omega arith) (omega arith), before, next)
       (row-written width (h * wideWidth) (sideBySide width h left right) was (rowOf width h left) (rowOf width h right) (side-length width h left right (omega arith) (omega arith)) (row-length width h left (omega arith)) (row-length width h right (omega arith)))
+
+-- so they are the wide frame
+pub halves-drawn : (registers : Both) (leftMemory rightMemory was : List ℕ) → wideFrameSize ≤ length was → {middle later : List ℕ} → middle ≡ rowsWritten (firstColumn Side.Left) frameRows (frame (registers .left) leftMemory) was
+    → later ≡ rowsWritten (firstColumn Side.Right) frameRows (frame (registers .right) rightMemory) middle → later ≡ wideFrame (chipsOf registers leftMemory rightMemory) ++ drop wideFrameSize was
+unfolding wideFrame
+halves-drawn registers leftMemory rightMemory was k p q =
+    q ∙ rw p (both-written (frame (registers .left) leftMemory) (frame (registers .right) rightMemory) (frame-length _ _) (frame-length _ _) frameRows was (omega arith) k)

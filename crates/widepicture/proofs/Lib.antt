@@ -2,6 +2,8 @@
 pub mod RowByRow
 -- a row of one chip, drawn into its half
 pub mod HalfRows
+-- a frame of one shade
+pub mod OneShade
 -- what is asked first
 pub mod Asked
 -- each half is the frame of its chip

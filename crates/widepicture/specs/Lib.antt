@@ -3,6 +3,8 @@
 pub mod WideFrame
 -- the call that draws
 pub mod WideDraw
+-- what registers tell of a whole frame
+pub mod OneShade
 -- 2. Laws.
 -- each half is the frame of its chip
 pub mod Halves

@@ -1,9 +1,8 @@
--- `widepicture::draw::draw` meets its contract: the frame's length first, then what both chips are asked, then the two halves.
+-- `widepicture::draw::draw` meets its contract: the frame's length first, then what both chips are asked, then both drawn.
 -- Assumes nothing.
 use borrow.Author.Needs.{needs}
 use Rattle.widepicture.proofs.draw.draw.Statement.{statement}
 use Rattle.widepicture.proofs.draw.draw.Tie as tie
-use native.Mathlib.Omega.{arith}
 use denote.Ref.{now}
 use Rattle.widebus.specs.Pair.{bothLent}
 use Rattle.widepicture.proofs.Asked.{frame-short, both-refused, both-long, both-drawn}
@@ -17,17 +16,10 @@ ask-requires c κs = search needs
 enum-known-registers : tie.Need-enum-known-registers
 enum-known-registers c = search needs
 
-draw-half-requires : tie.Need-draw-half-requires
-draw-half-requires c κs =
+draw-both-requires : tie.Need-draw-both-requires
+draw-both-requires c κs =
     let a = c .before .before .before .before .before .before .before .before .before .before .before .args in
-    let long = both-long (bothLent (now (a .left-state)) (now (a .left-memory)) (now (a .right-state)) (now (a .right-memory))) (now (a .frame)) (c .before .before .before .before .before .if1 .left) (c .before .before .before .before .ask .ensures) (c .before .before .registers .given .1) in
-    (omega arith, omega arith)
-
-draw-half-requires-2 : tie.Need-draw-half-requires-2
-draw-half-requires-2 c κs =
-    let a = c .before .before .before .before .before .before .before .before .before .before .before .before .before .before .before .args in
-    let long = both-long (bothLent (now (a .left-state)) (now (a .left-memory)) (now (a .right-state)) (now (a .right-memory))) (now (a .frame)) (c .before .before .before .before .before .before .before .before .before .if1 .left) (c .before .before .before .before .before .before .before .before .ask .ensures) (c .before .before .before .before .before .before .registers .given .1) in
-    (omega arith, omega (arith, c .before .before .before .draw-half .kept .1 .1 .1 .0))
+    both-long (bothLent (now (a .left-state)) (now (a .left-memory)) (now (a .right-state)) (now (a .right-memory))) (now (a .frame)) (c .before .before .before .before .before .if1 .left) (c .before .before .before .before .ask .ensures) (c .before .before .registers .given .1)
 
 enum-known-number : tie.Need-enum-known-number
 enum-known-number c = search needs
@@ -48,8 +40,7 @@ draw-spec =
     returns
     ask-requires
     enum-known-registers
-    draw-half-requires
-    draw-half-requires-2
+    draw-both-requires
     enum-known-number
     same-length
     returns-2
