@@ -256,6 +256,18 @@ says '  refused by the left chip alone, and so neither changes'
 says '  the column is 143, above 131 since 10 (0xA) in record 1: 18 (high four bits of the column) made it 143 from 15'
 commands B9 > mine.trace
 says '  refused by both chips'
+# Each for a reason of its own, and the left's is told.
+{ selects 01; commands 81; selects 02; commands D3; selects 03; writes 55; } > mine.trace
+says 'refused 6 at 29 (0x1D): a data write or read while a code is awaited'
+says '  refused by both chips; what follows is of the left'
+says '  awaited is the n of 81 (contrast), a command byte, since 9 (0x9) in record 1'
+{ selects 01; commands D3; selects 02; commands D4; selects 03; commands FF; } > mine.trace
+says 'refused 5 at 29 (0x1D): n of D3 or D4 not allowed; the code stays awaited'
+says '  refused by both chips; what follows is of the left'
+says '  D3 (offset) takes 00 to 3F, got FF'
+{ commands 0F 18; selects 01; commands 04; selects 03; writes 55; } > mine.trace
+says 'refused 7 at 25 (0x19): a data write or read with column above 131'
+says '  refused by both chips; what follows is of the left'
 { selects 01; commands D3; selects 03; commands B9; } > mine.trace
 says 'refused 5 at 19 (0x13): n of D3 or D4 not allowed; the code stays awaited'
 says '  refused by both chips, by the left with 5, which is the number, and by the right with 4'
