@@ -416,6 +416,12 @@ run list --wide <(bytes 00 00 09 09)
 check 'looks: kinds 1 to 5' err_has 'a record begins with the length of its payload and its kind, 1 to 5,'
 run list --wide <(bytes 00 01 00 05 01)
 check 'looks: the higher byte first' err_has 'a trace whose numbers have their higher byte first'
+# Of a wide trace that is played without --wide the first header is one, too.
+run list <(bytes 00 01 00 05 01)
+check 'looks: the higher byte first, without --wide' err_has 'a trace whose numbers have their higher byte first'
+run list <(bytes 01 00 05 00)
+check 'looks: cut in a select record, without --wide' line_is 1 'refused 8 at 0'
+check 'looks: a select record is one of a trace' [ "$(grep -c 'looks like' err)" -eq 0 ]
 
 # ---- what host/README.md shows ----
 
