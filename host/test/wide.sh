@@ -82,6 +82,9 @@ for command in list show state memory check; do
   run "$command" --wide=yes both.trace
   check "$command: --wide takes no value" err_has 'no value is taken by --wide'
 done
+run --wide list both.trace
+check 'before the command: status 2' status_is 2
+check 'before the command: said' err_has 'the command stands before its options, and first is --wide'
 for command in list show picture state memory diff check; do
   run "$command" --help
   check "$command: the help names it" grep -q -- '^  --wide ' out
