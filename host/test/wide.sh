@@ -58,6 +58,9 @@ answers 0 $'frame 264 65\n0 0-1 132-133\n1 0-0 132-132\nend' list --upright --wi
 # Each half is turned by itself.
 answers 0 $'frame 264 65\n62 131-131\n63 130-131\nend' list --wide left.trace
 answers 0 $'frame 264 65\n62 262-262\n63 0-0 263-263\nend' list --wide middle.trace
+# And by what its own chip was sent: a reset record for the left leaves the right turned.
+answers 0 $'frame 264 65\n0 0-1\n1 0-0\n62 263-263\n63 262-263\nend' \
+  list --wide <(cat both.trace; selects 01; pin; commands AF)
 answers 0 $'frame 264 65\nend' list --wide /dev/null
 answers 0 $'frame 264 65\n0 0-0\nend' list --wide --upright --after 4 <(commands AF; selects 01; writes 01; selects 02; writes 01)
 run list --wide --upright --after 9 left.trace
