@@ -615,7 +615,9 @@ uint8_t ssd1815b_wide_run(
 **
 ** Draws what both halves show into the first 17,160 bytes of frame: row r,
 ** place x at 264r + x; places 0 to 131 of each row are the left chip's frame,
-** 132 to 263 the right chip's.
+** 132 to 263 the right chip's.  Each half is what ssd1815b_draw() draws of its
+** chip, and so two wide screens are compared by ssd1815b_compare_frames(), half
+** by half.
 **
 ** Answers 0; or 1 if a state, a memory or frame is too short, or 2 if either
 ** image is out of its ranges, and then nothing is written.
