@@ -114,16 +114,20 @@ check 'show: icons beside the middle' line_is 35 "│$(blank 131)▀▀$(blank 1
 
 # Why a half is dark, by itself.
 run show --wide --upright left.trace
-check 'dark: the right has no event' line_is 37 'right half, all dark: no event was taken: no record has any for this chip'
+check 'dark: the right has no event' line_is 37 'right half, all dark: no event was taken: no record that was played has any for this chip'
 check 'dark: no more' [ "$(wc -l < out)" -eq 37 ]
 run show --wide <(selects 01; commands AF; selects 02; commands A5)
 check 'dark: the left' line_is 37 'left half, all dark: the display is on, but all of memory is 0'
 check 'dark: the right' line_is 38 'right half, all dark: sleep: display off, entire on, indicator off; A4 and AF show memory'
 run show --wide <(selects 02; commands AE)
-check 'dark: not the other chip that had it' line_is 37 'left half, all dark: no event was taken: no record has any for this chip'
+check 'dark: not the other chip that had it' line_is 37 'left half, all dark: no event was taken: no record that was played has any for this chip'
 check 'dark: off' line_is 38 'right half, all dark: the display is off; AF turns it on'
 run show --wide <(selects 02; pin)
 check 'dark: the reset pin is an event of the one' line_is 38 'right half, all dark: the display is off; AF turns it on'
+run show --wide --after 2 <(selects 01; commands AF; selects 02; commands A5)
+check 'dark: the right has its first event later' line_is 38 'right half, all dark: no event was taken: no record that was played has any for this chip'
+run show --wide /dev/null
+check 'dark: no record' line_is 38 'right half, all dark: no event was taken: there was no record to play'
 run show --wide <(commands B9)
 check 'dark: none before it stopped' line_is 37 'left half, all dark: no event was taken before the run stopped'
 
