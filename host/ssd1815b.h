@@ -119,10 +119,12 @@ extern "C" {
 ** of these up to 10, drawing and the power state 0 to 2, starting and listing
 ** 0 and 1, the record at an offset 0 and 8, comparing frames 0, 1, 11 and 12,
 ** comparing memories 0, 1 and 11.  A wide call answers what its narrow one
-** does, and of 13 and 14 those that it says.
+** does, and of 13 and 14 those that it says; the page call, which has no narrow
+** one, 0, 1, 4 and 13.
 **
-** Where several reasons hold, the lower of 1 and 2 goes first; then 8 before
-** 9 and 13; then 14 before 6 before 7 before 10; and 1 before 12 before 11.
+** Where several reasons hold, the lower of 1 and 2 goes first, and after them
+** 13 for what a wide call is given; of a record 8 before 9 and 13; then 14
+** before 6 before 7 before 10; and 1 before 12 before 11.
 */
 #define SSD1815B_TAKEN          0
 #define SSD1815B_TOO_SHORT      1  /* state, memory, frame or text is shorter
@@ -130,13 +132,15 @@ extern "C" {
 #define SSD1815B_OUT_OF_RANGE   2  /* the state image is out of its ranges */
 #define SSD1815B_OUTSIDE_TABLE  3  /* a byte that is no command, B9 to BF
                                    ** apart, with no code awaited */
-#define SSD1815B_NO_PAGE        4  /* B9 to BF, with no code awaited */
+#define SSD1815B_NO_PAGE        4  /* B9 to BF, with no code awaited; a page
+                                   ** above 8 in the page call */
 #define SSD1815B_NOT_ALLOWED    5  /* n of D3 or D4; the code stays awaited */
 #define SSD1815B_CODE_AWAITED   6  /* data access while a code is awaited */
 #define SSD1815B_COLUMN_ABOVE   7  /* data access with column above 131 */
 #define SSD1815B_HEADER_CUT     8  /* 1 to 3 bytes for a header, or payload
                                    ** past the end of the trace */
-#define SSD1815B_KIND_UNKNOWN   9  /* kind not 1 to 4, or 4 with a payload */
+#define SSD1815B_KIND_UNKNOWN   9  /* kind not 1 to 4 (in a wide run 1 to 5),
+                                   ** or 4 with a payload */
 #define SSD1815B_READ_DIFFERS  10  /* the byte read is not the recorded one */
 #define SSD1815B_LIST_TOO_SMALL    11  /* too small for all entries */
 #define SSD1815B_FRAME_BYTE_ABOVE  12  /* a byte of a frame is above 1 */
@@ -506,10 +510,11 @@ uint8_t ssd1815b_compare_memories(
 #define SSD1815B_BOTH   3
 
 /*
-** Every wide call is lent what both chips have, and asks all of it: 1 if
-** either state is shorter than 23 or either memory shorter than 1,188, and then
-** 2 if either image is out of its ranges, whichever chips are selected.  (A
-** pulse on the reset pin asks no 2, the page call is lent no state.)
+** A wide call is lent what both chips have, and asks all of it: 1 if either
+** state is shorter than 23 or either memory shorter than 1,188, and then 2 if
+** either image is out of its ranges, whichever chips are selected.  (A pulse on
+** the reset pin asks no 2; the page call is lent no state, and the listing a
+** frame alone.)
 **
 ** A terminal starts as its two chips do: call ssd1815b_start(), or
 ** ssd1815b_start_upright() for an old cabinet, once for each.  The library does
@@ -610,7 +615,9 @@ uint8_t ssd1815b_wide_run(
 **
 ** Draws what both halves show into the first 17,160 bytes of frame: row r,
 ** place x at 264r + x; places 0 to 131 of each row are the left chip's frame,
-** 132 to 263 the right chip's.
+** 132 to 263 the right chip's.  Each half is what ssd1815b_draw() draws of its
+** chip, and so two wide screens are compared by ssd1815b_compare_frames(), half
+** by half.
 **
 ** Answers 0; or 1 if a state, a memory or frame is too short, or 2 if either
 ** image is out of its ranges, and then nothing is written.
@@ -632,8 +639,9 @@ uint8_t ssd1815b_wide_draw(
 **     (side == SSD1815B_LEFT ? left_memory : right_memory) + place
 **
 ** Answers 0 with *place, 132 * page, and *length, 132; or 1 if either memory is
-** shorter than 1,188; or 13 if side is neither SSD1815B_LEFT nor
-** SSD1815B_RIGHT; or 4 if page is above 8; and then *place and *length are 0.
+** shorter than 1,188; else 13 if side is neither SSD1815B_LEFT nor
+** SSD1815B_RIGHT; else 4 if page is above 8; and then *place and *length are 0.
+** Page 8 is handed back as it lies there, its bits 1 to 7 too.
 */
 uint8_t ssd1815b_wide_page(
   const uint8_t *left_memory, size_t left_memory_len,

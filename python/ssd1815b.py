@@ -14,10 +14,9 @@
     wide.run(trace)                           a trace with select records; each run starts with both
     wide_listing(wide.draw().frame)           a frame of 264 places to a row as text
 
-Each call answers what host/ssd1815b.h says, with document 01's numbers.  A
-refusal is an answer, not an exception; an exception says that the module was
-misused (a byte that is none, a frame of another length) or that there is no
-library.
+Each call answers what host/ssd1815b.h says, with its numbers.  A refusal is an
+answer, not an exception; an exception says that the module was misused (a byte
+that is none, a frame of another length) or that there is no library.
 
 The library is looked for, in this order: what SSD1815B_LIBRARY names, which is
 then the only place; libssd1815b.so beside this file; the repository's own
@@ -66,7 +65,7 @@ Bytes = Union[bytes, bytearray, memoryview]
 
 
 class Number(enum.IntEnum):
-    """The numbers given: taken, or why not (document 01, "Numbers given")."""
+    """The numbers given: taken, or why not (host/ssd1815b.h, "Numbers given")."""
 
     TAKEN = 0
     TOO_SHORT = 1
@@ -430,9 +429,9 @@ class Chip:
 class WideTerminal:
     """A wide terminal: two chips side by side on one bus, 264 dots wide.
 
-    Each event is for the chips that are selected; a selection other than these three is refused, 13.  If a selected
+    Each event is given the Selection that it is for; a byte that is none of the three is refused, 13.  If a selected
     chip refuses, neither changes, and the number is the left's where both do.  2 is asked of both chips, whichever are
-    selected.  The terminal does not keep the selection.
+    selected, but not by reset().  The terminal does not keep the selection.
     """
 
     def __init__(self, *, upright: bool = False) -> None:
@@ -482,7 +481,8 @@ class WideTerminal:
         return _call("ssd1815b_wide_reset", *self._lent, _byte(selection))
 
     def run(self, trace: Bytes) -> Run:
-        """Runs a wide trace: Kind.SELECT with a payload of 1, 2 or 3 selects; each run starts with both."""
+        """Runs a wide trace: Kind.SELECT with a payload of 1, 2 or 3 selects, any other payload is 13; each run starts
+        with both, and a read with both is 14."""
         return _run("ssd1815b_wide_run", self._lent, trace)
 
     def draw(self) -> Drawn:

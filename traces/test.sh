@@ -598,6 +598,9 @@ check 'typed.py: --wide, what is selected' out_has "  $own/wide.txt:3: select bo
 check 'typed.py: --wide, what is awaited' out_has "  $own/wide.txt:2: command 81"
 typed "$own/wide.txt"
 check 'typed.py: without --wide, the line' out_has "$own/wide.txt:1: select right"
+typed --wide list "$own/wide.txt"
+check 'typed.py: an option before the command: status 2' status_is 2
+check 'typed.py: an option before the command, said' err_is 'typed.py: list: the command stands before its options'
 rm "$own/wide.txt"
 
 rm "$own/mine.txt"

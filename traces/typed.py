@@ -45,6 +45,7 @@ REFUSED = re.compile(rb"refused [0-9]+ at ([0-9]+) \(0x[0-9A-F]+\)")
 EARLIER = re.compile(rb"  .*since ([0-9]+) \(0x[0-9A-F]+\) in record")
 # Their standard output is for other programs; they tell refusals on standard error.
 TOLD_ON_STANDARD_ERROR = ("list", "picture")
+COMMANDS = ("list", "show", "picture", "state", "memory", "diff", "check")
 
 
 def fail(words):
@@ -134,6 +135,9 @@ def main(arguments):
     if not name.endswith((".txt", ".trace")):
         fail(f"typed.py: {name}: FILE.txt or FILE.trace is wanted, and stands last")
     if not before or before[0].startswith("-"):
+        late = next((word for word in before if word in COMMANDS), None)
+        if late:
+            fail(f"typed.py: {late}: the command stands before its options")
         before.insert(0, "show")
     command, *options = before
     return run(command, options, pathlib.Path(name))

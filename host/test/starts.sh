@@ -104,7 +104,9 @@ for command in list show 'picture --scale 1' state memory check; do
 done
 run --upright list sample.trace
 check 'no command: status 2' status_is 2
-check 'no command: said' err_has 'no such command: --upright'
+check 'no command: said' err_has 'the command stands before its options, and first is --upright'
+run --uprigh list sample.trace
+check 'no command and no option: said' err_has 'no such command: --uprigh'
 # Help of every command names it, and is the same with it.
 for command in list show picture state memory diff check; do
   run "$command" --help

@@ -58,6 +58,9 @@ answers 0 $'frame 264 65\n0 0-1 132-133\n1 0-0 132-132\nend' list --upright --wi
 # Each half is turned by itself.
 answers 0 $'frame 264 65\n62 131-131\n63 130-131\nend' list --wide left.trace
 answers 0 $'frame 264 65\n62 262-262\n63 0-0 263-263\nend' list --wide middle.trace
+# And by what its own chip was sent: a reset record for the left leaves the right turned.
+answers 0 $'frame 264 65\n0 0-1\n1 0-0\n62 263-263\n63 262-263\nend' \
+  list --wide <(cat both.trace; selects 01; pin; commands AF)
 answers 0 $'frame 264 65\nend' list --wide /dev/null
 answers 0 $'frame 264 65\n0 0-0\nend' list --wide --upright --after 4 <(commands AF; selects 01; writes 01; selects 02; writes 01)
 run list --wide --upright --after 9 left.trace
@@ -82,6 +85,9 @@ for command in list show state memory check; do
   run "$command" --wide=yes both.trace
   check "$command: --wide takes no value" err_has 'no value is taken by --wide'
 done
+run --wide list both.trace
+check 'before the command: status 2' status_is 2
+check 'before the command: said' err_has 'the command stands before its options, and first is --wide'
 for command in list show picture state memory diff check; do
   run "$command" --help
   check "$command: the help names it" grep -q -- '^  --wide ' out
@@ -108,16 +114,20 @@ check 'show: icons beside the middle' line_is 35 "│$(blank 131)▀▀$(blank 1
 
 # Why a half is dark, by itself.
 run show --wide --upright left.trace
-check 'dark: the right has no event' line_is 37 'right half, all dark: no event was taken: no record has any for this chip'
+check 'dark: the right has no event' line_is 37 'right half, all dark: no event was taken: no record that was played has any for this chip'
 check 'dark: no more' [ "$(wc -l < out)" -eq 37 ]
 run show --wide <(selects 01; commands AF; selects 02; commands A5)
 check 'dark: the left' line_is 37 'left half, all dark: the display is on, but all of memory is 0'
 check 'dark: the right' line_is 38 'right half, all dark: sleep: display off, entire on, indicator off; A4 and AF show memory'
 run show --wide <(selects 02; commands AE)
-check 'dark: not the other chip that had it' line_is 37 'left half, all dark: no event was taken: no record has any for this chip'
+check 'dark: not the other chip that had it' line_is 37 'left half, all dark: no event was taken: no record that was played has any for this chip'
 check 'dark: off' line_is 38 'right half, all dark: the display is off; AF turns it on'
 run show --wide <(selects 02; pin)
 check 'dark: the reset pin is an event of the one' line_is 38 'right half, all dark: the display is off; AF turns it on'
+run show --wide --after 2 <(selects 01; commands AF; selects 02; commands A5)
+check 'dark: the right has its first event later' line_is 38 'right half, all dark: no event was taken: no record that was played has any for this chip'
+run show --wide /dev/null
+check 'dark: no record' line_is 38 'right half, all dark: no event was taken: there was no record to play'
 run show --wide <(commands B9)
 check 'dark: none before it stopped' line_is 37 'left half, all dark: no event was taken before the run stopped'
 
@@ -256,6 +266,18 @@ says '  refused by the left chip alone, and so neither changes'
 says '  the column is 143, above 131 since 10 (0xA) in record 1: 18 (high four bits of the column) made it 143 from 15'
 commands B9 > mine.trace
 says '  refused by both chips'
+# Each for a reason of its own, and the left's is told.
+{ selects 01; commands 81; selects 02; commands D3; selects 03; writes 55; } > mine.trace
+says 'refused 6 at 29 (0x1D): a data write or read while a code is awaited'
+says '  refused by both chips; what follows is of the left'
+says '  awaited is the n of 81 (contrast), a command byte, since 9 (0x9) in record 1'
+{ selects 01; commands D3; selects 02; commands D4; selects 03; commands FF; } > mine.trace
+says 'refused 5 at 29 (0x1D): n of D3 or D4 not allowed; the code stays awaited'
+says '  refused by both chips; what follows is of the left'
+says '  D3 (offset) takes 00 to 3F, got FF'
+{ commands 0F 18; selects 01; commands 04; selects 03; writes 55; } > mine.trace
+says 'refused 7 at 25 (0x19): a data write or read with column above 131'
+says '  refused by both chips; what follows is of the left'
 { selects 01; commands D3; selects 03; commands B9; } > mine.trace
 says 'refused 5 at 19 (0x13): n of D3 or D4 not allowed; the code stays awaited'
 says '  refused by both chips, by the left with 5, which is the number, and by the right with 4'
@@ -404,6 +426,12 @@ run list --wide <(bytes 00 00 09 09)
 check 'looks: kinds 1 to 5' err_has 'a record begins with the length of its payload and its kind, 1 to 5,'
 run list --wide <(bytes 00 01 00 05 01)
 check 'looks: the higher byte first' err_has 'a trace whose numbers have their higher byte first'
+# Of a wide trace that is played without --wide the first header is one, too.
+run list <(bytes 00 01 00 05 01)
+check 'looks: the higher byte first, without --wide' err_has 'a trace whose numbers have their higher byte first'
+run list <(bytes 01 00 05 00)
+check 'looks: cut in a select record, without --wide' line_is 1 'refused 8 at 0'
+check 'looks: a select record is one of a trace' [ "$(grep -c 'looks like' err)" -eq 0 ]
 
 # ---- what host/README.md shows ----
 

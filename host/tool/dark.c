@@ -42,11 +42,12 @@ static const char *no_event(const struct played *played)
   if (played->number != SSD1815B_TAKEN) {
     return "no event was taken before the run stopped";
   }
-  if (played->wide) {
-    return "no event was taken: no record has any for this chip";
+  if (played->trace_len == 0) {
+    return "no event was taken: there was no record to play";
   }
-  return played->trace_len == 0
-           ? "no event was taken: there was no record to play"
+  return played->wide
+           ? "no event was taken: no record that was played has any for this"
+             " chip"
            : "no event was taken: no record holds any";
 }
 

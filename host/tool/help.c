@@ -58,9 +58,10 @@ static const char upright[] =
   "              direction 0; without it as new ones do, upside down, both 1\n";
 
 static const char wide[] =
-  "  --wide      a wide terminal: two chips side by side, each begun so; a\n"
+  "  --wide      a wide terminal: two chips side by side, both started so; a\n"
   "              record of kind 5 selects left (01), right (02) or both (03),\n"
-  "              and before the first of them both are selected\n";
+  "              before the first of them both are selected, and a read is\n"
+  "              from one alone\n";
 
 static const char after[] =
   "  --after N   stop after N whole records; where there are fewer, all is\n"
@@ -79,8 +80,8 @@ static const char which_start[] =
   "sees upright is printed turned by half a turn, as rows and columns are\n"
   "counted on the module, and nothing turns it back.  The reset pin puts both\n"
   "directions to 0; of the two, E2 puts the rows to 0 and leaves the columns.\n"
-  "Of a wide terminal each half is turned by itself, and they do not change\n"
-  "places.\n";
+  "All this is so for each half of a wide terminal by itself, by what its own\n"
+  "chip was sent, and the halves do not change places.\n";
 
 /* For those that do not. */
 static const char either_start[] =

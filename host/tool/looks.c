@@ -66,14 +66,14 @@ bool looks_wide(const struct played *played)
          && header[2] == KIND_SELECT && header[3] == 0;
 }
 
-/* What the first header of a trace says that no header can. */
+/* What the first header of a trace says that no header can; one of kind 5 is of
+** a trace, played wide or not. */
 static const char *first_header(const uint8_t *header, bool wide)
 {
-  uint8_t last = wide ? KIND_SELECT : KIND_RESET_PIN;
   bool kind = header[3] == 0 && header[2] >= KIND_COMMANDS
-              && header[2] <= last;
+              && header[2] <= KIND_SELECT;
   bool turned = header[2] == 0 && header[3] >= KIND_COMMANDS
-                && header[3] <= last;
+                && header[3] <= KIND_SELECT;
   if (kind) {
     return NULL;
   }

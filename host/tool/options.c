@@ -338,7 +338,9 @@ enum wish options_of(int argc, char **argv, struct options *options)
   }
   options->command = command_of(argv[1]);
   if (options->command == COMMANDS) {
-    options_wrong("no such command: ", argv[1]);
+    options_wrong(option_of(argv[1]) != NULL
+                    ? "the command stands before its options, and first is "
+                    : "no such command: ", argv[1]);
     return WISH_NONE;
   }
   options->traces = argv + 2;

@@ -81,7 +81,11 @@ void refusing_print(FILE *out, const struct played *played, size_t kind)
   uint8_t left = answer_of(played, SIDE_LEFT, kind);
   uint8_t right = answer_of(played, SIDE_RIGHT, kind);
   if (left == right) {
-    fputs("  refused by both chips\n", out);
+    /* Why a chip answers 5, 6 or 7 is in its registers: each may have its own
+    ** code or column.  3 and 4 are of the byte alone. */
+    fputs(left >= SSD1815B_NOT_ALLOWED
+            ? "  refused by both chips; what follows is of the left\n"
+            : "  refused by both chips\n", out);
   } else if (left != SSD1815B_TAKEN && right != SSD1815B_TAKEN) {
     fprintf(out, "  refused by both chips, by the left with %u, which is the"
             " number, and by the right with %u\n", left, right);
