@@ -132,7 +132,7 @@ fn halted(number: u8, registers: Both) -> WideStretch
 }
 
 // The same registers, named one by one: the compiler then keeps each by itself, and a stretch touches those that it uses (DECISIONS 152).
-fn parted(registers: Registers) -> Registers
+pub fn parted(registers: Registers) -> Registers
     ensures { λ r. ⌜ r ≡ registers ⌝ }
 {
     Registers {

@@ -26,10 +26,14 @@ pub mod WideGivenRun
 pub mod WideByCalls
 -- one result for each public call
 pub mod Settled
--- a record's events for one chip
-pub mod SideStretches
--- the record at an offset, for one chip
-pub mod SideKinds
+-- one chip refuses with no 0
+pub mod SideNeverZero
+-- a record as one chip heeds it
+pub mod Heeding
+-- how the code heeds a record
+pub mod HeedCode
+-- what stands at an offset, for one chip
+pub mod SideTurns
 -- a trace as far as a limit, played from an offset on
 pub mod SidePlays
 -- the terminal's events by its two sides

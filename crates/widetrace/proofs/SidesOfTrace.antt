@@ -28,7 +28,7 @@ use Rattle.widebus.specs.declared.selection.Side.{Side}
 use Rattle.widetrace.specs.Terminal.{Terminal, terminal, WideEvent, wideEventsOf, wideStep, theTerminal}
 use Rattle.widetrace.specs.Sides.{OneSide, oneSide, sideStep, theSide, upTo}
 use Rattle.widetrace.proofs.TerminalStretches.{terminal-never-zero}
-use Rattle.widetrace.proofs.SideStretches.{side-never-zero}
+use Rattle.widetrace.proofs.SideNeverZero.{side-never-zero}
 use Rattle.widetrace.proofs.SideRecords.{Made, bytewise, single, made}
 use Rattle.widetrace.proofs.TwoSides.{leftOf, rightOf, second, both-taken, both-stopped}
 

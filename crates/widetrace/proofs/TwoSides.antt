@@ -20,7 +20,7 @@ use Rattle.widebus.specs.declared.selection.Side.{Side}
 use Rattle.widetrace.specs.Terminal.{Terminal, terminal, WideEvent, selects, happens, wideStep}
 use Rattle.widetrace.specs.EachChip.{hears}
 use Rattle.widetrace.specs.Sides.{OneSide, oneSide, sideStep}
-use Rattle.widetrace.proofs.SideStretches.{side-never-zero}
+use Rattle.widetrace.proofs.SideNeverZero.{side-never-zero}
 
 -- both sides' results as the terminal's
 abbrev pub joined : Result OneSide → Result OneSide → Result Terminal

@@ -10,6 +10,8 @@ pub mod Code
 pub mod EachChip
 -- one chip by itself, up to an offset
 pub mod Sides
+-- what a record is to one chip
+pub mod Heeding
 -- what a run does as a whole
 pub mod WideRunLaws
 -- when a run gives each number, and what it leaves then

@@ -2,22 +2,19 @@
 use Prim.Native.Nat.{ℕ, _+_, _-_}
 use mathlib.Core.Bool.{cond, _&&_}
 use mathlib.Core.List.{List}
-use lib.Dec.{eqb, leb}
+use lib.Dec.{leb}
 use lib.ListN.{take}
-use Rattle.constants.specs.Numbers.{taken, bothSelected}
+use Rattle.constants.specs.Numbers.{bothSelected}
 use Rattle.constants.specs.Sizes.{headerSize}
 use Rattle.bus.specs.Chip.{Chip}
 use Rattle.trace.specs.Records.{Record, Trace, ended, cut, _then_}
-use Rattle.trace.specs.Play.{Result, refuses, gives, onResult, Machine, Ending, stopped, done, Played, played}
+use Rattle.trace.specs.Play.{Result, refuses, gives, onResult, Machine, Played, played}
 use Rattle.trace.specs.Kinds.{replay, chipOf}
-use Rattle.bus.specs.declared.registers.Registers.{Registers}
-use Rattle.widebus.specs.Selection.{selectionOf}
 use Rattle.widebus.specs.Events.{areBoth, readsData}
 use Rattle.widebus.specs.declared.selection.Selection.{Selection}
 use Rattle.widebus.specs.declared.selection.Side.{Side}
 use Rattle.widetrace.specs.Terminal.{WideEvent, selects, happens, wideEventsOf}
 use Rattle.widetrace.specs.EachChip.{hears}
-use Rattle.widetrace.specs.declared.side.SideEnding.{SideEnding}
 use Rattle.widetrace.specs.declared.side.SidePlayed.{SidePlayed}
 
 -- A chip, and what is selected.
@@ -48,19 +45,7 @@ upTo limit (ended offset) = ended offset
 upTo limit (cut offset) = cond (leb limit offset) (ended offset) (cut offset)
 upTo limit (r then rest) = cond (leb limit (r .place)) (ended (r .place)) (shortened limit r then upTo limit rest)
 
--- The code's own types, with the memory that is left beside them.
-unfoldable pub sideEndingOf : SideEnding → List ℕ → Ending OneSide
-sideEndingOf e memory =
-    let t = oneSide (chipOf (e .registers) memory) (e .selection) in
-    cond (eqb (e .number) taken) (done t) (stopped (e .number) (e .offset) t)
-
-abbrev pub sideEnding : Registers → Selection → ℕ → ℕ → SideEnding
-sideEnding r chosen answer place = record { registers = r; selection = chosen; number = answer; offset = place }
-
--- A select record of one byte, at an offset.
-unfoldable pub selectedSide : ℕ → Selection → Registers → ℕ → SideEnding
-selectedSide byte was r at = onResult (selectionOf byte) (λ number. sideEnding r was number at) (λ next. sideEnding r next taken at)
-
+-- A played trace, with the memory that is left beside it.
 unfoldable pub sidePlayedOf : SidePlayed → List ℕ → Played OneSide
 sidePlayedOf p memory = played (p .stop .number) (p .stop .offset) (p .stop .count) (oneSide (chipOf (p .registers) memory) (p .selection))
 
