@@ -16,7 +16,7 @@ outOfRange = 2
 abbrev pub outsideTable : ℕ
 outsideTable = 3
 
--- B9 to BF with no code awaited
+-- B9 to BF with no code awaited; a page above 8 in the page call
 abbrev pub noPage : ℕ
 noPage = 4
 
@@ -36,7 +36,7 @@ columnAbove = 7
 abbrev pub headerCut : ℕ
 headerCut = 8
 
--- a kind that is not 1 to 4, or kind 4 with a payload
+-- a kind that is not 1 to 4 (in a wide trace 1 to 5), or kind 4 with a payload
 abbrev pub kindUnknown : ℕ
 kindUnknown = 9
 

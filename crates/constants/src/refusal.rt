@@ -7,7 +7,7 @@ pub const TOO_SHORT: u8 = 1;
 pub const OUT_OF_RANGE: u8 = 2;
 // A command byte outside the table, B9 to BF apart, with no code awaited.
 pub const OUTSIDE_TABLE: u8 = 3;
-// B9 to BF with no code awaited.
+// B9 to BF with no code awaited; a page above 8 in the page call.
 pub const NO_PAGE: u8 = 4;
 // An n of D3 or D4 that is not allowed; the code stays awaited.
 pub const NOT_ALLOWED: u8 = 5;
@@ -17,7 +17,7 @@ pub const CODE_AWAITED: u8 = 6;
 pub const COLUMN_ABOVE: u8 = 7;
 // One to three bytes where a header should stand, or a payload past the end.
 pub const HEADER_CUT: u8 = 8;
-// A kind that is not 1 to 4, or kind 4 with a payload.
+// A kind that is not 1 to 4 (in a wide trace 1 to 5), or kind 4 with a payload.
 pub const KIND_UNKNOWN: u8 = 9;
 // A compared read differs; that read has not happened.
 pub const READ_DIFFERS: u8 = 10;

@@ -1,4 +1,4 @@
--- Document 01's listing, and document 02's of the wide frame: the text for a frame and for a stopped run's number and offset.
+-- Document 01's listing, and the same for the wide frame (DECISIONS 133): the text for a frame and for a stopped run's number and offset.
 use Prim.Native.Nat.{ℕ, zero, suc, _*_}
 use mathlib.Core.Bool.{cond}
 use mathlib.Core.List.{List, [], _∷_, _++_}

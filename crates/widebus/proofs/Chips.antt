@@ -2,13 +2,13 @@
 -- Assumes nothing.
 use mathlib.Core.Path.{_≡_, refl, sym, _∙_, ap}
 use mathlib.Core.Bool.{Bool, true, false, true≢false, false≢true}
-use mathlib.Core.Logic.{_↔_, _⊎_, inl, inr}
+use mathlib.Core.Logic.{_↔_, _⊎_, inl, inr, _≢_}
 use Prim.Native.Nat.{ℕ}
-use Rattle.bus.specs.Chip.{Chip}
+use Rattle.bus.specs.Chip.{Chip, commandByte, dataWritten, dataRead, resetPulse}
 use Rattle.bus.specs.Result.{Result, refuses, gives, onResult}
-use Rattle.bus.specs.Recorded.{Recorded, replay}
+use Rattle.bus.specs.Recorded.{Recorded, event, readAs, replay}
 use Rattle.widebus.specs.Pair.{Pair, _beside_}
-use Rattle.widebus.specs.Events.{toSelected, areBoth, replayOn}
+use Rattle.widebus.specs.Events.{toSelected, readsData, replayOn}
 use Rattle.widebus.specs.Chips.{OnTheSelected, OnTheChips}
 use Rattle.widebus.specs.declared.selection.Selection.{Selection}
 use Rattle.widebus.proofs.Selected.{no-read}
@@ -71,12 +71,26 @@ module _ {S E : Type 0} (step : E → S → Result S) (event : E) (pair later : 
         thenRight = λ left l r. rw (l, r);
       }
 
-one-chip : (recorded : Recorded) (chips : Pair Chip) (selection : Selection) → areBoth selection ≡ false → replayOn selection recorded chips ≡ toSelected replay selection recorded chips
+one-chip : (recorded : Recorded) (chips : Pair Chip) (selection : Selection) → selection ≢ Selection.Both → replayOn selection recorded chips ≡ toSelected replay selection recorded chips
 unfolding replayOn
 one-chip recorded chips Selection.Left e = refl
 one-chip recorded chips Selection.Right e = refl
-one-chip recorded chips Selection.Both e = absurd (true≢false e)
+one-chip recorded chips Selection.Both e = absurd (e refl)
+
+-- what is neither of the two reads does not read
+reads-nothing : (recorded : Recorded) → recorded ≢ event dataRead → ((byte : ℕ) → recorded ≢ readAs byte) → readsData recorded ≡ false
+reads-nothing (event (commandByte b)) n m = refl
+reads-nothing (event (dataWritten b)) n m = refl
+reads-nothing (event dataRead) n m = absurd (n refl)
+reads-nothing (event resetPulse) n m = refl
+reads-nothing (readAs byte) n m = absurd (m byte refl)
 
 pub onTheChips : (recorded : Recorded) (chips : Pair Chip) → OnTheChips recorded chips
 unfolding replayOn
-onTheChips recorded chips = record { readsOfBoth = λ e. rw e; anythingElse = no-read Selection.Both recorded chips; oneChip = one-chip recorded chips }
+onTheChips recorded chips =
+    record {
+      readsBoth = λ e. rw e;
+      comparesBoth = λ byte e. rw e;
+      anythingElse = λ n m. no-read Selection.Both recorded chips (reads-nothing recorded n m);
+      oneChip = one-chip recorded chips;
+    }

@@ -14,6 +14,8 @@ pub mod OneChip
 pub mod Conclusions
 -- how the calls of the code end
 pub mod CallCode
+-- what the tests of both chips say of the left and of the right
+pub mod OneAndTwo
 -- how a call ends, in full
 pub mod Endings
 -- each number exactly when
@@ -26,5 +28,7 @@ pub mod PageLaws
 pub mod Chips
 -- what is legal stays legal
 pub mod WideStaysLegal
+-- calls computed: which of 1, 2, 13, 14 and 6 goes first
+pub mod Samples
 -- one result for each statement
 pub mod Settled

@@ -15,7 +15,7 @@ use Rattle.constants.specs.Numbers.{taken, tooShort, noPage}
 use Rattle.widebus.specs.Pair.{_beside_, at, Lent}
 use Rattle.widebus.specs.Page.{Handed, handed, pageIn, pageOf}
 use Rattle.widebus.specs.PageLaws.{LongEnough, PageLaws, OneSidesPage}
-use Rattle.widebus.specs.WideUntouched.{leftBy}
+use Rattle.widebus.specs.WideUntouched.{after}
 use Rattle.widebus.specs.declared.selection.Side.{Side}
 use Rattle.widebus.proofs.WideUntouched.{wideUntouched}
 
@@ -98,7 +98,7 @@ oneSidesPage page =
       ofTheLeft = of-left page;
       ofTheRight = of-right page;
       leftStays = λ event all. let u = wideUntouched 2 event all in
-          ap (λ (l : Lent). pageOf Side.Left (l .memory) (leftBy 2 event all .right .memory) page) (u .leftStays refl) ∙ of-left page _ _ _ (u .lengths Side.Right .1);
+          ap (λ (l : Lent). pageOf Side.Left (l .memory) (after 2 event all .right .memory) page) (u .leftStays refl) ∙ of-left page _ _ _ (u .lengths Side.Right .1);
       rightStays = λ event all. let u = wideUntouched 1 event all in
-          ap (λ (r : Lent). pageOf Side.Right (leftBy 1 event all .left .memory) (r .memory) page) (u .rightStays refl) ∙ of-right page _ _ _ (u .lengths Side.Left .1);
+          ap (λ (r : Lent). pageOf Side.Right (after 1 event all .left .memory) (r .memory) page) (u .rightStays refl) ∙ of-right page _ _ _ (u .lengths Side.Left .1);
     }

@@ -2,7 +2,7 @@
 -- Assumes nothing.
 use mathlib.Core.Path.{_≡_, refl, sym, _∙_, ap}
 use mathlib.Core.Logic.{_⊎_, inl, inr, ⊎-elim, _≢_}
-use mathlib.Core.Bool.{true, false, true≢false}
+use mathlib.Core.Bool.{false, true≢false}
 use Prim.Native.Nat.{ℕ, _≤_}
 use native.Mathlib.Omega.{arith}
 use Rattle.constants.specs.Numbers.{taken, tooShort, outOfRange, columnAbove, noSelection, bothSelected}
@@ -10,11 +10,12 @@ use Rattle.bus.specs.Chip.{Event, dataRead, resetPulse}
 use Rattle.bus.specs.declared.calls.Reply.{Reply}
 use Rattle.bus.proofs.Given.{given}
 use Rattle.widebus.specs.Pair.{Pair, at, Lent}
-use Rattle.widebus.specs.Asked.{anyShort}
+use Rattle.widebus.specs.OneAndTwo.{EitherShort, BothLong, EitherOutside}
 use Rattle.widebus.specs.WideCalls.{WideCalled, refusedWide, wideCall}
 use Rattle.widebus.specs.WideGiven.{wideReplyTo, wideNumber, replyOn, TakenUp, EachTakes, WideGiven}
 use Rattle.widebus.specs.declared.selection.Side.{Side}
-use Rattle.widebus.proofs.Endings.{Outside, of-side, replies-so, refusal-replies, refusal-says, Ending, tooShortFirst, rangesFirst, noneSelected, leftAlone, rightAlone, bothRead, leftRefuses, rightRefuses, bothTake, ending, short-ends, ranges-end, none-ends, left-ends, right-ends, read-ends, left-refuses, right-refuses, both-take}
+use Rattle.widebus.proofs.OneAndTwo.{one-short, long-both}
+use Rattle.widebus.proofs.Endings.{of-side, replies-so, refusal-replies, refusal-says, Ending, tooShortFirst, rangesFirst, noneSelected, leftAlone, rightAlone, bothRead, leftRefuses, rightRefuses, bothTake, ending, short-ends, ranges-end, none-ends, left-ends, right-ends, read-ends, left-refuses, right-refuses, both-take}
 
 -- a number that a chip's own call gives where all is taken up
 abbrev OfChip : ℕ → Type 0
@@ -28,8 +29,8 @@ of-chip event all t side =
 
 -- why a number is given
 data Reason (number : ℕ) (event : Event) (all : Pair Lent) (n : ℕ) : Type 0 where
-  one : n ≡ tooShort → anyShort all ≡ true → Reason number event all n
-  two : n ≡ outOfRange → anyShort all ≡ false → event ≢ resetPulse → Outside all → Reason number event all n
+  one : n ≡ tooShort → EitherShort all → Reason number event all n
+  two : n ≡ outOfRange → BothLong all → event ≢ resetPulse → EitherOutside all → Reason number event all n
   thirteen : n ≡ noSelection → TakenUp event all → number ≢ 1 → number ≢ 2 → number ≢ 3 → Reason number event all n
   fourteen : n ≡ bothSelected → TakenUp event all → number ≡ 3 → event ≡ dataRead → Reason number event all n
   chips : OfChip n → Reason number event all n
@@ -54,14 +55,14 @@ module _ (number : ℕ) (event : Event) (all : Pair Lent) where
   reason (bothTake t a other l r) = chips (rw (gives-number (both-take number event all t a other l r)) (of-chip event all t Side.Left))
 
   module _ {n : ℕ} where
-    is-one : Reason number event all n → n ≡ tooShort → anyShort all ≡ true
+    is-one : Reason number event all n → n ≡ tooShort → EitherShort all
     is-one (one e s) z = s
     is-one (two e s p o) z = absurd (omega arith)
     is-one (thirteen e t a b c) z = absurd (omega arith)
     is-one (fourteen e t a r) z = absurd (omega arith)
     is-one (chips c) z = absurd (c .0 z)
 
-    is-two : Reason number event all n → n ≡ outOfRange → (anyShort all ≡ false) × (event ≢ resetPulse) × Outside all
+    is-two : Reason number event all n → n ≡ outOfRange → BothLong all × (event ≢ resetPulse) × EitherOutside all
     is-two (one e s) z = absurd (omega arith)
     is-two (two e s p o) z = (s, p, o)
     is-two (thirteen e t a b c) z = absurd (omega arith)
@@ -107,7 +108,7 @@ module _ (number : ℕ) (event : Event) (all : Pair Lent) where
       each
 
   right-counts : TakenUp event all → number ≡ 3 → event ≢ dataRead → replyOn event (all .left) .number ≡ taken → Ending number event all → wideNumber number event all ≡ replyOn event (all .right) .number
-  right-counts u c mine z (tooShortFirst s) = absurd (true≢false (sym s ∙ u .longEnough))
+  right-counts u c mine z (tooShortFirst s) = absurd (true≢false (sym (one-short all s) ∙ long-both all (u .longEnough)))
   right-counts u c mine z (rangesFirst s p o) = absurd (⊎-elim (λ l. true≢false (sym (u .inRanges p .0) ∙ l)) (λ r. true≢false (sym (u .inRanges p .1) ∙ r)) o)
   right-counts u c mine z (noneSelected t a b d) = absurd (d c)
   right-counts u c mine z (leftAlone t a) = absurd (omega arith)

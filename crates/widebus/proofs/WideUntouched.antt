@@ -13,7 +13,7 @@ use Rattle.bus.proofs.Untouched.{untouched}
 use Rattle.widebus.specs.Pair.{Pair, at, Lent}
 use Rattle.widebus.specs.WideCalls.{WideCalled, refusedWide, leaves, callOn, wideCall}
 use Rattle.widebus.specs.WideGiven.{wideNumber, replyOn}
-use Rattle.widebus.specs.WideUntouched.{leftBy, WideUntouched}
+use Rattle.widebus.specs.WideUntouched.{after, WideUntouched}
 use Rattle.widebus.specs.declared.selection.Side.{Side}
 use Rattle.widebus.proofs.Endings.{Ending, tooShortFirst, rangesFirst, noneSelected, leftAlone, rightAlone, bothRead, leftRefuses, rightRefuses, bothTake, ending, leaves-so, replies-so, refusal-leaves, refusal-says, short-ends, ranges-end, none-ends, left-ends, right-ends, read-ends, left-refuses, right-refuses, both-take}
 
@@ -22,20 +22,20 @@ own : (event : Event) (one : Lent) → replyOn event one .number ≢ taken → l
 own event one n = let u = untouched event (one .state) (one .memory) .refused n in rw (u .0, u .1)
 
 module _ (number : ℕ) (event : Event) (all : Pair Lent) where
-  later : {c : WideCalled} → wideCall number event all ≡ c → leftBy number event all ≡ c .lent
+  later : {c : WideCalled} → wideCall number event all ≡ c → after number event all ≡ c .lent
   later = leaves-so number event all
 
-  kept : (n : ℕ) → wideCall number event all ≡ refusedWide n all → leftBy number event all ≡ all
+  kept : (n : ℕ) → wideCall number event all ≡ refusedWide n all → after number event all ≡ all
   kept = refusal-leaves number event all
 
   -- what each chip is left as: as it was, or as its own call leaves it
-  pub each : (side : Side) (P : Lent → Type 0) → P (at side all) → P (leaves (callOn event (at side all))) → P (at side (leftBy number event all))
+  pub each : (side : Side) (P : Lent → Type 0) → P (at side all) → P (leaves (callOn event (at side all))) → P (at side (after number event all))
   each side P same called = by (ending number event all) side same called
     where
-      all-kept : (n : ℕ) → wideCall number event all ≡ refusedWide n all → (side : Side) → P (at side all) → P (at side (leftBy number event all))
+      all-kept : (n : ℕ) → wideCall number event all ≡ refusedWide n all → (side : Side) → P (at side all) → P (at side (after number event all))
       all-kept n e side same = rw (kept n e) same
 
-      by : Ending number event all → (side : Side) → P (at side all) → P (leaves (callOn event (at side all))) → P (at side (leftBy number event all))
+      by : Ending number event all → (side : Side) → P (at side all) → P (leaves (callOn event (at side all))) → P (at side (after number event all))
       by (tooShortFirst s) side same called = all-kept _ (short-ends number event all s) side same
       by (rangesFirst s n o) side same called = all-kept _ (ranges-end number event all s n o) side same
       by (noneSelected t a b c) side same called = all-kept _ (none-ends number event all t a b c) side same
@@ -49,7 +49,7 @@ module _ (number : ℕ) (event : Event) (all : Pair Lent) where
       by (bothTake t a other l r) Side.Left same called = rw (later (both-take number event all t a other l r)) called
       by (bothTake t a other l r) Side.Right same called = rw (later (both-take number event all t a other l r)) called
 
-  refused : Ending number event all → wideNumber number event all ≢ taken → leftBy number event all ≡ all
+  refused : Ending number event all → wideNumber number event all ≢ taken → after number event all ≡ all
   refused (tooShortFirst s) n = kept _ (short-ends number event all s)
   refused (rangesFirst s p o) n = kept _ (ranges-end number event all s p o)
   refused (noneSelected t a b c) n = kept _ (none-ends number event all t a b c)
@@ -60,7 +60,7 @@ module _ (number : ℕ) (event : Event) (all : Pair Lent) where
   refused (rightRefuses t a other l r) n = kept _ (right-refuses number event all t a other l r)
   refused (bothTake t a other l r) n = absurd (n (ap (λ (r : Reply). r .number) (replies-so number event all (both-take number event all t a other l r)) ∙ l))
 
-  right-stays : Ending number event all → number ≡ 1 → leftBy number event all .right ≡ all .right
+  right-stays : Ending number event all → number ≡ 1 → after number event all .right ≡ all .right
   right-stays (tooShortFirst s) n = rw (kept _ (short-ends number event all s))
   right-stays (rangesFirst s p o) n = rw (kept _ (ranges-end number event all s p o))
   right-stays (noneSelected t a b c) n = absurd (a n)
@@ -71,7 +71,7 @@ module _ (number : ℕ) (event : Event) (all : Pair Lent) where
   right-stays (rightRefuses t a other l r) n = absurd (omega arith)
   right-stays (bothTake t a other l r) n = absurd (omega arith)
 
-  left-stays : Ending number event all → number ≡ 2 → leftBy number event all .left ≡ all .left
+  left-stays : Ending number event all → number ≡ 2 → after number event all .left ≡ all .left
   left-stays (tooShortFirst s) n = rw (kept _ (short-ends number event all s))
   left-stays (rangesFirst s p o) n = rw (kept _ (ranges-end number event all s p o))
   left-stays (noneSelected t a b c) n = absurd (b n)
@@ -85,7 +85,7 @@ module _ (number : ℕ) (event : Event) (all : Pair Lent) where
   says : (n : ℕ) → wideCall number event all ≡ refusedWide n all → wideNumber number event all ≡ n
   says = refusal-says number event all
 
-  both-change : Ending number event all → number ≡ 3 → wideNumber number event all ≡ taken → (leftBy number event all .left ≡ leaves (callOn event (all .left))) × (leftBy number event all .right ≡ leaves (callOn event (all .right)))
+  both-change : Ending number event all → number ≡ 3 → wideNumber number event all ≡ taken → (after number event all .left ≡ leaves (callOn event (all .left))) × (after number event all .right ≡ leaves (callOn event (all .right)))
   both-change (tooShortFirst s) n z = absurd (omega (arith, says _ (short-ends number event all s), z))
   both-change (rangesFirst s p o) n z = absurd (omega (arith, says _ (ranges-end number event all s p o), z))
   both-change (noneSelected t a b c) n z = absurd (c n)

@@ -1,14 +1,13 @@
 -- Document 02, Order 4: an event on the selected ones of two machines, by what each does of its own, and a read with both selected.
 use Prim.Native.Nat.{ℕ}
 use mathlib.Core.Path.{_≡_}
-use mathlib.Core.Bool.{true, false}
-use mathlib.Core.Logic.{_↔_, _⊎_}
+use mathlib.Core.Logic.{_↔_, _⊎_, _≢_}
 use Rattle.constants.specs.Numbers.{bothSelected}
-use Rattle.bus.specs.Chip.{Chip}
+use Rattle.bus.specs.Chip.{Chip, dataRead}
 use Rattle.bus.specs.Result.{Result, refuses, gives}
-use Rattle.bus.specs.Recorded.{Recorded, replay}
+use Rattle.bus.specs.Recorded.{Recorded, event, readAs, replay}
 use Rattle.widebus.specs.Pair.{Pair}
-use Rattle.widebus.specs.Events.{toSelected, readsData, areBoth, replayOn}
+use Rattle.widebus.specs.Events.{toSelected, replayOn}
 use Rattle.widebus.specs.declared.selection.Selection.{Selection}
 
 pub record OnTheSelected {S E : Type 0} (step : E → S → Result S) (event : E) (pair later : Pair S) (number : ℕ) : Type 0 where
@@ -31,8 +30,10 @@ pub record OnTheSelected {S E : Type 0} (step : E → S → Result S) (event : E
 
 pub record OnTheChips (recorded : Recorded) (chips : Pair Chip) : Type 0 where
   -- A read with both selected is refused 14, whatever the chips would answer: before 6, 7 and 10.
-  pub readsOfBoth : readsData recorded ≡ true → replayOn Selection.Both recorded chips ≡ refuses bothSelected
+  pub readsBoth : recorded ≡ event dataRead → replayOn Selection.Both recorded chips ≡ refuses bothSelected
+  -- So is one that a trace compares, whatever byte the firmware read.
+  pub comparesBoth : (byte : ℕ) → recorded ≡ readAs byte → replayOn Selection.Both recorded chips ≡ refuses bothSelected
   -- Anything else goes to each selected chip.
-  pub anythingElse : readsData recorded ≡ false → replayOn Selection.Both recorded chips ≡ toSelected replay Selection.Both recorded chips
+  pub anythingElse : recorded ≢ event dataRead → ((byte : ℕ) → recorded ≢ readAs byte) → replayOn Selection.Both recorded chips ≡ toSelected replay Selection.Both recorded chips
   -- So does a read of one chip.
-  pub oneChip : (selection : Selection) → areBoth selection ≡ false → replayOn selection recorded chips ≡ toSelected replay selection recorded chips
+  pub oneChip : (selection : Selection) → selection ≢ Selection.Both → replayOn selection recorded chips ≡ toSelected replay selection recorded chips

@@ -14,6 +14,8 @@ pub mod WideStretch
 -- the page that is handed back
 pub mod Page
 -- 2. Laws, each proved in the file of that name in proofs/.
+-- refusals 1 and 2 of the left or of the right, in document 01's words
+pub mod OneAndTwo
 -- each number exactly when
 pub mod WideGiven
 -- what a call leaves as it was
@@ -24,5 +26,7 @@ pub mod PageLaws
 pub mod Chips
 -- what is legal stays legal
 pub mod WideStaysLegal
+-- calls computed: which of 1, 2, 13, 14 and 6 goes first
+pub mod Samples
 -- one result for each statement
 pub mod Settled

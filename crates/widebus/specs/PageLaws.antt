@@ -9,7 +9,7 @@ use Rattle.constants.specs.Numbers.{taken, tooShort, noPage}
 use Rattle.bus.specs.Chip.{Event}
 use Rattle.widebus.specs.Pair.{Pair, _beside_, at, Lent}
 use Rattle.widebus.specs.Page.{Handed, pageOf}
-use Rattle.widebus.specs.WideUntouched.{leftBy}
+use Rattle.widebus.specs.WideUntouched.{after}
 use Rattle.widebus.specs.declared.selection.Side.{Side}
 
 -- Both memories are long enough.
@@ -40,6 +40,6 @@ pub record OneSidesPage (page : ℕ) : Type 0 where
   -- and the right page beside any left one.
   pub ofTheRight : (left right other : List ℕ) → length other ≡ length left → pageOf Side.Right other right page ≡ pageOf Side.Right left right page
   -- An event for the right chip alone, a data write among them, leaves each page of the left,
-  pub leftStays : (event : Event) (all : Pair Lent) → pageFrom Side.Left (leftBy 2 event all) page ≡ pageFrom Side.Left all page
+  pub leftStays : (event : Event) (all : Pair Lent) → pageFrom Side.Left (after 2 event all) page ≡ pageFrom Side.Left all page
   -- and one for the left chip each page of the right.
-  pub rightStays : (event : Event) (all : Pair Lent) → pageFrom Side.Right (leftBy 1 event all) page ≡ pageFrom Side.Right all page
+  pub rightStays : (event : Event) (all : Pair Lent) → pageFrom Side.Right (after 1 event all) page ≡ pageFrom Side.Right all page

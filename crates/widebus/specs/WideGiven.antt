@@ -1,14 +1,13 @@
 -- Documents 01 and 02, the numbers given, for the call of a single event over two chips: each number exactly when its line says so. What a chip's own call gives, and when, is bus/specs/Given.
 use Prim.Native.Nat.{ℕ, _≤_}
 use mathlib.Core.Path.{_≡_}
-use mathlib.Core.Bool.{true, false}
+use mathlib.Core.Bool.{false}
 use mathlib.Core.Logic.{_↔_, _⊎_, _≢_}
 use Rattle.constants.specs.Numbers.{taken, tooShort, outOfRange, columnAbove, noSelection, bothSelected}
-use Rattle.bus.specs.Image.{legal}
 use Rattle.bus.specs.Chip.{Event, dataRead, resetPulse}
 use Rattle.bus.specs.declared.calls.Reply.{Reply}
 use Rattle.widebus.specs.Pair.{Pair, Lent}
-use Rattle.widebus.specs.Asked.{anyShort}
+use Rattle.widebus.specs.OneAndTwo.{EitherShort, BothLong, EitherOutside, BothLegal}
 use Rattle.widebus.specs.WideCalls.{callOn, wideCall}
 
 -- What the call of an event replies, and the number in it.
@@ -24,8 +23,8 @@ replyOn event one = callOn event one .reply
 
 -- Neither 1 nor 2 holds of what is lent: all of it long enough, and both images in their ranges, which a single reset-pin event does not ask.
 pub record TakenUp (event : Event) (all : Pair Lent) : Type 0 where
-  pub longEnough : anyShort all ≡ false
-  pub inRanges : event ≢ resetPulse → (legal (all .left .state) ≡ true) × (legal (all .right .state) ≡ true)
+  pub longEnough : BothLong all
+  pub inRanges : event ≢ resetPulse → BothLegal all
 
 -- Each selected chip takes the event, which is no read where both are selected.
 abbrev pub EachTakes : ℕ → Event → Pair Lent → Type 0
@@ -38,9 +37,9 @@ pub record WideGiven (number : ℕ) (event : Event) (all : Pair Lent) : Type 0 w
   -- 0: each selected chip takes the event.
   pub number0 : wideNumber number event all ≡ taken ↔ TakenUp event all × EachTakes number event all
   -- 1: a lent state or memory of either chip is too short.
-  pub number1 : wideNumber number event all ≡ tooShort ↔ anyShort all ≡ true
+  pub number1 : wideNumber number event all ≡ tooShort ↔ EitherShort all
   -- 2: either image is out of its ranges, whichever chip is selected (not asked at a single reset-pin event), where 1 does not go first.
-  pub number2 : wideNumber number event all ≡ outOfRange ↔ (anyShort all ≡ false) × (event ≢ resetPulse) × ((legal (all .left .state) ≡ false) ⊎ (legal (all .right .state) ≡ false))
+  pub number2 : wideNumber number event all ≡ outOfRange ↔ BothLong all × (event ≢ resetPulse) × EitherOutside all
   -- 13: the selection's number is not 1, 2 or 3, where neither 1 nor 2 goes first.
   pub number13 : wideNumber number event all ≡ noSelection ↔ TakenUp event all × (number ≢ 1) × (number ≢ 2) × (number ≢ 3)
   -- 14: a read with both selected, where none of these goes first.

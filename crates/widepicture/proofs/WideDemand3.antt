@@ -160,5 +160,24 @@ module _ (first second : Both) where
         λ agree leftMemory rightMemory l r. rw (left .1 (agree .0) leftMemory l, right .1 (agree .1) rightMemory r),
       )
 
+module _ (side : Side) (other : Chip) (first second : Registers) (f : Full first) (s : Full second) where
+  own-half : (r : Registers) (memory : List ℕ) → halfOf side (wideWith side other r memory) ≡ frame r memory
+  own-half r memory = half-frame (onSide side (chipOf r memory) other) side ∙ ap frameOf (this-side side (chipOf r memory) other)
+
+  drawn-alike : (memory : List ℕ) → frame first memory ≡ frame second memory → wideWith side other first memory ≡ wideWith side other second memory
+  unfolding wideFrame
+  drawn-alike memory e = by side
+    where
+      by : (side : Side) → wideWith side other first memory ≡ wideWith side other second memory
+      by Side.Left = rw e
+      by Side.Right = rw e
+
+  same-half : ((memory : List ℕ) → Content memory → wideWith side other first memory ≡ wideWith side other second memory) ↔ Agree first second
+  same-half =
+      let one = demand3 .same first second f s in (
+        λ alike. one .0 (λ memory content. sym (own-half first memory) ∙ ap (halfOf side) (alike memory content) ∙ own-half second memory),
+        λ agree memory content. drawn-alike memory (one .1 agree memory content),
+      )
+
 pub wideDemand3 : WideDemand3
-wideDemand3 = record { eachBit = each-bit; eachPlace = each-place; scrolls = wide-scrolls; same = wide-same }
+wideDemand3 = record { eachBit = each-bit; eachPlace = each-place; scrolls = wide-scrolls; same = wide-same; sameHalf = same-half }

@@ -1,16 +1,16 @@
 -- What the call that draws the wide frame comes to.
 -- Assumes nothing.
 use mathlib.Core.Path.{_≡_, refl, sym, _∙_, ap}
-use mathlib.Core.Logic.{_≢_, _↔_}
+use mathlib.Core.Logic.{_≢_, _↔_, inl, inr, ⊎-elim}
 use mathlib.Core.Bool.{Bool, true, false, cond, _&&_, _||_, true≢false, false≢true}
 use mathlib.Core.List.{List, _++_}
 use Prim.Native.Nat.{ℕ, _≤_}
 use native.Mathlib.Omega.{arith}
-use borrow.Author.Tests.{le-ltb}
+use borrow.Author.Tests.{lt-ltb, le-ltb, ltb-true, ltb-false}
 use lib.Dec.{ltb}
 use lib.ListN.{length, drop}
 use lib.Seq.{drop-at}
-use Rattle.codes.proofs.Tests.{both}
+use Rattle.codes.proofs.Tests.{both, either}
 use Rattle.constants.specs.Sizes.{frameSize, wideFrameSize}
 use Rattle.constants.specs.Numbers.{taken, tooShort, outOfRange}
 use Rattle.bus.specs.Registers.{registersOf}
@@ -20,11 +20,13 @@ use Rattle.picture.specs.Frame.{frame}
 use Rattle.picture.specs.Draw.{Drawn, drawn, drawOn, draw}
 use Rattle.widebus.specs.Pair.{Pair, Lent, at}
 use Rattle.widebus.specs.Asked.{anyShort, bothFound, askedBoth}
+use Rattle.widebus.specs.OneAndTwo.{EitherOutside, BothLegal}
 use Rattle.widebus.specs.declared.both.BothAsked.{BothAsked}
 use Rattle.widebus.specs.declared.selection.Side.{Side}
+use Rattle.widebus.proofs.OneAndTwo.{short-one, one-short, none-short, long-both, outside-one, one-outside}
 use Rattle.widepicture.specs.WideFrame.{wideFrame, halfOf}
 use Rattle.widepicture.specs.WideDraw.{drawOnBoth, drawWide}
-use Rattle.widepicture.specs.WideDrawing.{tooShortToDraw, bothLegal, chipsIn, WideDrawCall, WideDrawing}
+use Rattle.widepicture.specs.WideDrawing.{TooShortToDraw, LongToDraw, chipsIn, WideDrawCall, WideDrawing}
 use Rattle.widepicture.proofs.Asked.{neither, ranges-asked}
 use Rattle.widepicture.proofs.Halves.{half-frame, half-front, wide-length}
 
@@ -64,11 +66,40 @@ module _ (was later : List ℕ) where
   past k e false false = refl
 
 module _ (all : Pair Lent) (was : List ℕ) where
+  -- the tests of the call, and what they say
+  abbrev tooShortToDraw : Bool
+  tooShortToDraw = ltb (length was) wideFrameSize || anyShort all
+
+  abbrev bothLegal : Bool
+  bothLegal = legal (all .left .state) && legal (all .right .state)
+
+  too-short : tooShortToDraw ≡ true ↔ TooShortToDraw all was
+  too-short = (
+    λ e. ⊎-elim (λ f. inl (ltb-true (length was) wideFrameSize f)) (λ s. inr (short-one all s)) (either (ltb (length was) wideFrameSize) (anyShort all) e),
+    λ h. ⊎-elim (λ f. rw (lt-ltb (length was) wideFrameSize f)) (λ s. rw (one-short all s) (or-true (ltb (length was) wideFrameSize))) h,
+  )
+    where
+      or-true : (t : Bool) → (t || true) ≡ true
+      or-true true = refl
+      or-true false = refl
+
+  long-enough : tooShortToDraw ≡ false ↔ LongToDraw all was
+  long-enough = (
+    (λ e. let none = neither (ltb (length was) wideFrameSize) (anyShort all) e in (ltb-false (length was) wideFrameSize (none .0), none-short all (none .1))),
+    λ h. rw (le-ltb (length was) wideFrameSize (h .0), long-both all (h .1)),
+  )
+
+  out-of-ranges : bothLegal ≡ false ↔ EitherOutside all
+  out-of-ranges = (outside-one all, one-outside all)
+
+  in-ranges : bothLegal ≡ true ↔ BothLegal all
+  in-ranges = (both (legal (all .left .state)) (legal (all .right .state)), λ h. rw (h .0, h .1))
+
   abbrev left : List ℕ
   left = wideFrame (chipsIn all) ++ drop wideFrameSize was
 
   -- the call is that outcome
-  whole-call : drawWide all was ≡ outcome was left (tooShortToDraw all was) (bothLegal all)
+  whole-call : drawWide all was ≡ outcome was left tooShortToDraw bothLegal
   unfolding drawWide drawOnBoth askedBoth bothFound
   whole-call = by (ltb (length was) wideFrameSize) (short (all .left .state) (all .left .memory)) refl (short (all .right .state) (all .right .memory)) refl
     where
@@ -79,7 +110,7 @@ module _ (all : Pair Lent) (was : List ℕ) where
       ranges false false = refl
 
       by : (f s : Bool) → short (all .left .state) (all .left .memory) ≡ s → (t : Bool) → short (all .right .state) (all .right .memory) ≡ t
-          → cond f (drawn tooShort was) (drawOnBoth (cond (s || t) (BothAsked.Refused tooShort) (bothFound (askedState (all .left .state)) (askedState (all .right .state)))) all was) ≡ outcome was left (f || (s || t)) (bothLegal all)
+          → cond f (drawn tooShort was) (drawOnBoth (cond (s || t) (BothAsked.Refused tooShort) (bothFound (askedState (all .left .state)) (askedState (all .right .state)))) all was) ≡ outcome was left (f || (s || t)) bothLegal
       by true s e t d = refl
       by false true e t d = refl
       by false false e true d = refl
@@ -95,11 +126,10 @@ module _ (all : Pair Lent) (was : List ℕ) where
   unfolding draw drawOn asked
   own-call state memory own e l k = rw (le-ltb (length own) frameSize k, e, l)
 
-  own-tests : (side : Side) → tooShortToDraw all was ≡ false → bothLegal all ≡ true → (short (at side all .state) (at side all .memory) ≡ false) × (legal (at side all .state) ≡ true)
+  own-tests : (side : Side) → tooShortToDraw ≡ false → bothLegal ≡ true → (short (at side all .state) (at side all .memory) ≡ false) × (legal (at side all .state) ≡ true)
   own-tests side e l =
-      let long = neither (ltb (length was) wideFrameSize) (anyShort all) e in
-      let chips = neither (short (all .left .state) (all .left .memory)) (short (all .right .state) (all .right .memory)) (long .1) in
-      let legals = both (legal (all .left .state)) (legal (all .right .state)) l in
+      let chips = long-enough .0 e .1 in
+      let legals = in-ranges .0 l in
       pick side (chips .0, legals .0) (chips .1, legals .1)
     where
       pick : (s : Side) → (short (all .left .state) (all .left .memory) ≡ false) × (legal (all .left .state) ≡ true) → (short (all .right .state) (all .right .memory) ≡ false) × (legal (all .right .state) ≡ true)
@@ -116,8 +146,8 @@ module _ (all : Pair Lent) (was : List ℕ) where
 
   by-half : drawWide all was .number ≡ taken → (side : Side) (own : List ℕ) → frameSize ≤ length own → draw (at side all .state) (at side all .memory) own ≡ drawn taken (halfOf side (drawWide all was .frame) ++ drop frameSize own)
   by-half e side own k =
-      let s = tooShortToDraw all was in
-      let l = bothLegal all in
+      let s = tooShortToDraw in
+      let l = bothLegal in
       let number : outcome was left s l .number ≡ taken = ap (λ (o : Drawn). o .number) (sym whole-call) ∙ e in
       let tests = zero was left s l .0 number in
       let chip = own-tests side (tests .0) (tests .1) in
@@ -126,12 +156,12 @@ module _ (all : Pair Lent) (was : List ℕ) where
 
   wide-draw-call : WideDrawCall all was
   wide-draw-call =
-      let s = tooShortToDraw all was in
-      let l = bothLegal all in
+      let s = tooShortToDraw in
+      let l = bothLegal in
       record {
-        one = rw whole-call (one was left s l);
-        two = rw whole-call (two was left s l);
-        zero = rw whole-call (zero was left s l);
+        one = rw whole-call (let it = one was left s l in (λ e. too-short .0 (it .0 e), λ h. it .1 (too-short .1 h)));
+        two = rw whole-call (let it = two was left s l in ((λ e. let both = it .0 e in (long-enough .0 (both .0), out-of-ranges .0 (both .1))), λ h. it .1 (long-enough .1 (h .0), out-of-ranges .1 (h .1))));
+        zero = rw whole-call (let it = zero was left s l in ((λ e. let both = it .0 e in (long-enough .0 (both .0), in-ranges .0 (both .1))), λ h. it .1 (long-enough .1 (h .0), in-ranges .1 (h .1))));
         refused = rw whole-call (refused was left s l);
         whole = rw whole-call (done was left s l);
         past = rw whole-call (past was left wideFrameSize past-left s l);

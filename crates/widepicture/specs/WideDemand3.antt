@@ -77,3 +77,6 @@ pub record WideDemand3 : Type 0 where
   pub same : (first second : Both) → Full (first .left) → Full (first .right) → Full (second .left) → Full (second .right)
       → ((leftMemory rightMemory : List ℕ) → Content leftMemory → Content rightMemory → wideFrame (chipsOf first leftMemory rightMemory) ≡ wideFrame (chipsOf second leftMemory rightMemory))
       ↔ Agree (first .left) (second .left) × Agree (first .right) (second .right)
+  -- Two settings of a chip draw the same wide frame from every content of its memory, whatever the other chip is, exactly when they agree.
+  pub sameHalf : (side : Side) (other : Chip) (first second : Registers) → Full first → Full second
+      → ((memory : List ℕ) → Content memory → wideWith side other first memory ≡ wideWith side other second memory) ↔ Agree first second

@@ -22,8 +22,12 @@ pub mod OneChipAlone
 pub mod WideNotOneOrTwo
 -- when a run gives each number, and what it leaves then
 pub mod WideGivenRun
--- the events of a run by the calls of the wide bus
+-- kinds 1 to 4: a trace of one chip, behind a record that selects it
+pub mod AsNarrow
+-- the events of a run by the calls of the wide bus; one event and its call
 pub mod WideByCalls
+-- runs from power-on, computed
+pub mod Samples
 -- one result for each public call
 pub mod Settled
 -- one chip refuses with no 0

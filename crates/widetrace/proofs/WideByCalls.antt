@@ -1,7 +1,7 @@
--- A run is what the wide terminal's event calls give one by one, up to the first refused one.
+-- A run is what the wide terminal's event calls give one by one, up to the first refused one; one call is what its event does to the chips that are lent.
 -- Assumes nothing.
-use mathlib.Core.Path.{_≡_, refl, _∙_, ap}
-use mathlib.Core.Logic.{_≢_}
+use mathlib.Core.Path.{_≡_, refl, sym, _∙_, ap}
+use mathlib.Core.Logic.{_≢_, inl}
 use mathlib.Core.Bool.{Bool, true, false, cond, not, _&&_, _||_}
 use mathlib.Core.List.{List, [], _∷_, _++_}
 use Prim.Native.Nat.{ℕ, _+_, _≤_}
@@ -36,13 +36,15 @@ use Rattle.trace.proofs.ChipKeeps.{Held, Brings, brings, replay-held}
 use Rattle.widebus.specs.Pair.{Pair, _beside_, Lent, lent, at}
 use Rattle.widebus.specs.Selection.{selectionOf}
 use Rattle.widebus.specs.Events.{toSelected, isRead, replayOn}
-use Rattle.widebus.specs.WideCalls.{WideCalled, refusedWide, leaves, callBoth, callSelected, asksRanges, wideCall}
+use Rattle.widebus.specs.WideCalls.{WideCalled, wideCalled, refusedWide, leaves, callBoth, callSelected, asksRanges, wideCall}
 use Rattle.widebus.specs.declared.selection.Selection.{Selection}
 use Rattle.widebus.specs.declared.selection.Side.{Side}
 use Rattle.widetrace.specs.Terminal.{Terminal, terminal, WideEvent, selects, happens, wideStep, theTerminal}
 use Rattle.widetrace.specs.WideRun.{wideRan, lentAfter, wideRanOf, wideRun}
 use Rattle.widetrace.specs.WideRunLaws.{BothAccepted, terminalIn}
-use Rattle.widetrace.specs.WideByCalls.{selectionNumber, onEvent, wideByCalls, wideRunByCalls, WideByCalls}
+use Rattle.widetrace.specs.WideByCalls.{selectionNumber, onEvent, wideByCalls, wideRunByCalls, WideByCalls, OneCall}
+use Rattle.widebus.proofs.WideGiven.{wideGiven}
+use Rattle.widebus.proofs.WideUntouched.{wideUntouched}
 use Rattle.widetrace.proofs.TerminalHeard.{WideBrings, wide-brings, step-keeps}
 use Rattle.widetrace.proofs.WideRunOnLent.{run-found, accepted-on}
 use Rattle.widetrace.proofs.WideRunLaws.{at-start}
@@ -222,3 +224,39 @@ module _ (all : Pair Lent) (ok : BothAccepted all) (trace : List ℕ) (bytes : B
 
 pub wide-by-calls : (all : Pair Lent) → WideByCalls all
 wide-by-calls all = record { byCalls = run-by-calls all }
+
+-- one call on what is lent
+module _ (all : Pair Lent) (ok : BothAccepted all) (selection : Selection) (e : Event) where
+  abbrev those : Pair Chip
+  those = terminalIn all selection .chips
+
+  own-lent : lentNow all ok those ≡ all
+  own-lent = rw (stored-own (all .left .state) (image all ok Side.Left), stored-own (all .right .state) (image all ok Side.Right))
+
+  there : Wide all ok those (at-start all ok) (wideCall (selectionNumber selection) e all .reply .number) (wideCall (selectionNumber selection) e all .lent) (replayOn selection (event e) those)
+  there =
+      let it = by-selection all ok those (at-start all ok) selection (event e) in
+      let now = rw (← (selected all ok those (at-start all ok) selection e)) at it in
+      rw own-lent at now
+
+  takes : (later : Pair Chip) → replayOn selection (event e) those ≡ gives later → (wideCall (selectionNumber selection) e all .reply .number ≡ taken) × (wideCall (selectionNumber selection) e all .lent ≡ lentNow all ok later)
+  takes later h = rw h at there
+
+  refused : (number : ℕ) → replayOn selection (event e) those ≡ refuses number → wideCall (selectionNumber selection) e all ≡ refusedWide number all
+  unfolding refusedWide replyOf numberOf byteOf dummyOf
+  refused number h =
+      let met = rw h at there in
+      let other : wideCall (selectionNumber selection) e all .reply .number ≢ taken = λ z. met .1 (sym (met .0) ∙ z) in
+      let quiet = wideGiven (selectionNumber selection) e all .silent (inl other) in
+      let same = wideUntouched (selectionNumber selection) e all .refused other in
+      outcome (wideCall (selectionNumber selection) e all) (met .0) (quiet .0) (quiet .1) same
+    where
+      outcome : (o : WideCalled) → o .reply .number ≡ number → o .reply .byte ≡ 0 → o .reply .dummy ≡ false → o .lent ≡ all → o ≡ wideCalled (record { number = number; byte = 0; dummy = false }) all
+      outcome o n b d l =
+          ap (λ (x : ℕ). wideCalled (record { number = x; byte = o .reply .byte; dummy = o .reply .dummy }) (o .lent)) n
+          ∙ ap (λ (x : ℕ). wideCalled (record { number = number; byte = x; dummy = o .reply .dummy }) (o .lent)) b
+          ∙ ap (λ (x : Bool). wideCalled (record { number = number; byte = 0; dummy = x }) (o .lent)) d
+          ∙ ap (λ (x : Pair Lent). wideCalled (record { number = number; byte = 0; dummy = false }) x) l
+
+pub one-call : (all : Pair Lent) → OneCall all
+one-call all = record { refused = refused all; takes = takes all }

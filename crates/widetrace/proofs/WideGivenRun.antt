@@ -2,7 +2,7 @@
 -- Assumes nothing.
 use mathlib.Core.Path.{_≡_, refl, sym, _∙_, ap, subst}
 use mathlib.Core.Logic.{_≢_, _⊎_, inl, inr}
-use mathlib.Core.Bool.{Bool, true, false, _&&_, false≢true}
+use mathlib.Core.Bool.{Bool, true, _&&_, false≢true}
 use mathlib.Core.List.{List, [], _∷_, _++_, map}
 use Prim.Native.Nat.{ℕ, _+_, _≤_, _<_}
 use native.Mathlib.Nat.{add-zero}
@@ -23,7 +23,9 @@ use Rattle.trace.specs.AnyMachine.{AnyMachine, Reached, EndsAs, allTaken, heade
 use Rattle.trace.proofs.AnyMachine.{any-machine}
 use Rattle.trace.proofs.WhatStands.{cut-tests, where-left, whole-left}
 use Rattle.widebus.specs.Pair.{Pair, Lent}
-use Rattle.widebus.specs.Asked.{anyShort, askedBoth}
+use Rattle.widebus.specs.Asked.{askedBoth}
+use Rattle.widebus.specs.OneAndTwo.{EitherShort, BothLong, EitherOutside}
+use Rattle.widebus.proofs.OneAndTwo.{short-one, one-short, none-short, long-both, outside-one, one-outside}
 use Rattle.widebus.specs.declared.both.BothAsked.{BothAsked}
 use Rattle.widebus.specs.declared.selection.Selection.{Selection}
 use Rattle.widetrace.specs.Terminal.{Terminal, WideEvent, happens, wideEventsOf, wideStep, theTerminal}
@@ -230,35 +232,35 @@ module _ (all : Pair Lent) (trace : List ℕ) where
   unfolding wideRanOf
   found-neither a = rw (run-found all a trace) (neither all a trace)
 
-  one-leaves : anyShort all ≡ true → wideRun all trace ≡ wideRan (stopOf tooShort 0 0) all
+  one-leaves : EitherShort all → wideRun all trace ≡ wideRan (stopOf tooShort 0 0) all
   unfolding askedBoth
-  one-leaves s = run-refused all trace (rw s)
+  one-leaves s = run-refused all trace (rw (one-short all s))
 
   its-refusal : (number : ℕ) → askedBoth all ≡ BothAsked.Refused number → wideRun all trace .stop .number ≡ number
   its-refusal number e = ap (λ (o : WideRan). o .stop .number) (run-refused all trace e)
 
-  is-one : wideRun all trace .stop .number ≡ tooShort → anyShort all ≡ true
+  is-one : wideRun all trace .stop .number ≡ tooShort → EitherShort all
   is-one h = by-asking all _ (λ a. absurd (not-one (found-neither a) h)) (λ number e n. by (why-refused all e) (sym (its-refusal number e) ∙ h))
     where
-      by : {number : ℕ} → Refused all number → number ≡ tooShort → anyShort all ≡ true
-      by (tooFew s) e = s
+      by : {number : ℕ} → Refused all number → number ≡ tooShort → EitherShort all
+      by (tooFew s) e = short-one all s
       by (ranges s r) e = absurd (omega arith)
 
-  is-two : wideRun all trace .stop .number ≡ outOfRange → (anyShort all ≡ false) × ((legal (all .left .state) && legal (all .right .state)) ≡ false)
+  is-two : wideRun all trace .stop .number ≡ outOfRange → BothLong all × EitherOutside all
   is-two h = by-asking all _ (λ a. absurd (not-two (found-neither a) h)) (λ number e n. by (why-refused all e) (sym (its-refusal number e) ∙ h))
     where
-      by : {number : ℕ} → Refused all number → number ≡ outOfRange → (anyShort all ≡ false) × ((legal (all .left .state) && legal (all .right .state)) ≡ false)
+      by : {number : ℕ} → Refused all number → number ≡ outOfRange → BothLong all × EitherOutside all
       by (tooFew s) e = absurd (omega arith)
-      by (ranges s r) e = (s, r)
+      by (ranges s r) e = (none-short all s, outside-one all r)
 
-  two-leaves : anyShort all ≡ false → (legal (all .left .state) && legal (all .right .state)) ≡ false → wideRun all trace ≡ wideRan (stopOf outOfRange 0 0) all
-  two-leaves s r = by-asking all _ (λ a. absurd (false≢true (sym r ∙ both-legal a))) (λ number e n. run-refused all trace e ∙ ap (λ (number : ℕ). wideRan (stopOf number 0 0) all) (by (why-refused all e)))
+  two-leaves : BothLong all → EitherOutside all → wideRun all trace ≡ wideRan (stopOf outOfRange 0 0) all
+  two-leaves s r = by-asking all _ (λ a. absurd (false≢true (sym (one-outside all r) ∙ both-legal a))) (λ number e n. run-refused all trace e ∙ ap (λ (number : ℕ). wideRan (stopOf number 0 0) all) (by (why-refused all e)))
     where
       both-legal : BothAccepted all → (legal (all .left .state) && legal (all .right .state)) ≡ true
       both-legal a = rw (a .0 .inRanges, a .1 .inRanges)
 
       by : {number : ℕ} → Refused all number → number ≡ outOfRange
-      by (tooFew t) = absurd (false≢true (sym s ∙ t))
+      by (tooFew t) = absurd (false≢true (sym (long-both all s) ∙ t))
       by (ranges t q) = refl
 
   no-other : Known (wideRun all trace .stop .number)

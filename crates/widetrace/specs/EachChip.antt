@@ -52,8 +52,8 @@ pub record EachChip : Type 0 where
   pub overEvents : (events : List WideEvent) (t : Terminal) → stretch wideStep events t .number ≡ taken → (side : Side) → let heard = heardBy side (t .selection) events in
       stretch replay heard (at side (t .chips)) ≡ stretched (at side (stretch wideStep events t .state .chips)) (length heard) taken
   -- A run with no refusal: each chip takes exactly the events it was selected for, and the image and the memory that are left are those of the model of one chip over them.
-  pub inRun : (all : Pair Lent) (trace : List ℕ) → wideRun all trace .stop .number ≡ taken → (side : Side) → let alone = stretch replay (heardIn side trace) (chipIn (at side all .state) (at side all .memory)) in
-      (alone .number ≡ taken) × (alone .count ≡ length (heardIn side trace)) × (at side (wideRun all trace .lent) ≡ lentAfter (alone .state) (at side all))
+  pub inRun : (all : Pair Lent) (trace : List ℕ) → wideRun all trace .stop .number ≡ taken → (side : Side) → let model = stretch replay (heardIn side trace) (chipIn (at side all .state) (at side all .memory)) in
+      (model .number ≡ taken) × (model .count ≡ length (heardIn side trace)) × (at side (wideRun all trace .lent) ≡ lentAfter (model .state) (at side all))
   -- A trace of one chip with just those events, all its headers being taken, runs on that chip's state and memory without a refusal, and leaves what the wide run left of them.
   pub asOneRun : (all : Pair Lent) (trace : List ℕ) → wideRun all trace .stop .number ≡ taken → (side : Side) (narrow : List ℕ) → let script = scriptFrom theChip (split narrow) 0 in
       script .number ≡ taken → unplaced (script .events) ≡ heardIn side trace → let ran = run (at side all .state) (at side all .memory) narrow in

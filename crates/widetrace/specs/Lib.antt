@@ -18,7 +18,11 @@ pub mod WideRunLaws
 pub mod WideGivenRun
 -- one chip alone: what is not selected stays
 pub mod OneChipAlone
--- the events of a run by the calls of the wide bus
+-- kinds 1 to 4: a trace of one chip, behind a record that selects it
+pub mod AsNarrow
+-- the events of a run by the calls of the wide bus; one event and its call
 pub mod WideByCalls
+-- runs from power-on, computed
+pub mod Samples
 -- one result for each public call
 pub mod Settled

@@ -20,10 +20,10 @@ abbrev pub alone : Side → Selection
 alone Side.Left = Selection.Left
 alone Side.Right = Selection.Right
 
--- Two chips with another one on a side.
-abbrev pub withOn : Side → Chip → Pair Chip → Pair Chip
-withOn Side.Left chip chips = chip beside chips .right
-withOn Side.Right chip chips = chips .left beside chip
+-- A pair with another one on a side.
+abbrev pub withOn : {S : Type 0} → Side → S → Pair S → Pair S
+withOn Side.Left one pair = one beside pair .right
+withOn Side.Right one pair = pair .left beside one
 
 -- A chip after a pulse on the reset pin, where it is selected.
 abbrev pub afterPulse : Side → Selection → Pair Chip → Chip

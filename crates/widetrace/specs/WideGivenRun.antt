@@ -2,19 +2,18 @@
 use Prim.Native.Nat.{ℕ, _+_, _≤_}
 use mathlib.Core.Path.{_≡_}
 use mathlib.Core.Logic.{_≢_, _⊎_, _↔_}
-use mathlib.Core.Bool.{true, false, _&&_}
+use mathlib.Core.Bool.{true}
 use mathlib.Core.List.{List, [], _∷_}
 use lib.ListN.{length, take, drop}
 use Rattle.constants.specs.Numbers.{taken, tooShort, outOfRange, headerCut, kindUnknown, readDiffers, noSelection, bothSelected}
 use Rattle.constants.specs.Sizes.{headerSize}
-use Rattle.bus.specs.Image.{legal}
 use Rattle.bus.specs.Stretch.{stretch}
 use Rattle.trace.specs.Records.{kindOf, payloadOf, whole, CutShort, split}
 use Rattle.trace.specs.OneByOne.{scriptFrom}
 use Rattle.trace.specs.Play.{refuses, gives}
 use Rattle.trace.specs.Run.{stopOf}
 use Rattle.widebus.specs.Pair.{Pair, Lent}
-use Rattle.widebus.specs.Asked.{anyShort}
+use Rattle.widebus.specs.OneAndTwo.{EitherShort, BothLong, EitherOutside}
 use Rattle.widebus.specs.declared.selection.Selection.{Selection}
 use Rattle.widetrace.specs.Terminal.{wideEventsOf, wideStep, theTerminal}
 use Rattle.widetrace.specs.WideRun.{WideRan, wideRan, wideRun}
@@ -76,11 +75,11 @@ pub record WideGivenRun (all : Pair Lent) (trace : List ℕ) : Type 0 where
   -- 0: all is taken.
   pub number0 : wideRun all trace .stop .number ≡ taken ↔ EveryTaken all trace
   -- 1: a lent state or memory of either chip is too short. Offset and count are 0, and nothing changes.
-  pub number1 : wideRun all trace .stop .number ≡ tooShort ↔ anyShort all ≡ true
-  pub number1Leaves : anyShort all ≡ true → wideRun all trace ≡ wideRan (stopOf tooShort 0 0) all
+  pub number1 : wideRun all trace .stop .number ≡ tooShort ↔ EitherShort all
+  pub number1Leaves : EitherShort all → wideRun all trace ≡ wideRan (stopOf tooShort 0 0) all
   -- 2: the state image of either chip is out of its ranges, where 1 does not go first. Offset and count are 0, and nothing changes.
-  pub number2 : wideRun all trace .stop .number ≡ outOfRange ↔ (anyShort all ≡ false) × ((legal (all .left .state) && legal (all .right .state)) ≡ false)
-  pub number2Leaves : anyShort all ≡ false → (legal (all .left .state) && legal (all .right .state)) ≡ false → wideRun all trace ≡ wideRan (stopOf outOfRange 0 0) all
+  pub number2 : wideRun all trace .stop .number ≡ outOfRange ↔ BothLong all × EitherOutside all
+  pub number2Leaves : BothLong all → EitherOutside all → wideRun all trace ≡ wideRan (stopOf outOfRange 0 0) all
   -- 13: a select record whose payload is not one byte of 1 to 3, at the record's first byte. What the records before it left stands.
   pub number13 : (offset : ℕ) → WideGivesAt (wideRun all trace) noSelection offset ↔ WholeRecord NoSelection all trace offset
   pub number13Leaves : (offset : ℕ) → WholeRecord NoSelection all trace offset → wideRun all trace ≡ wideStoppedAfter noSelection offset (wideRun all (take offset trace))
