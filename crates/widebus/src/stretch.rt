@@ -98,8 +98,7 @@ fn writes_for_both(
 fn on_left(stretch: Stretch, right: Registers) -> WideStretch
     ensures { λ r. ⌜ r ≡ record { registers = record { left = stretch .registers; right = right }; count = stretch .count; number = stretch .number } ⌝ }
 {
-    let left = parted(stretch.registers);
-    let right = parted(right);
+    let left = stretch.registers;
     WideStretch {
         registers: Both { left, right },
         count: stretch.count,
@@ -111,8 +110,7 @@ fn on_left(stretch: Stretch, right: Registers) -> WideStretch
 fn on_right(stretch: Stretch, left: Registers) -> WideStretch
     ensures { λ r. ⌜ r ≡ record { registers = record { left = left; right = stretch .registers }; count = stretch .count; number = stretch .number } ⌝ }
 {
-    let left = parted(left);
-    let right = parted(stretch.registers);
+    let right = stretch.registers;
     WideStretch {
         registers: Both { left, right },
         count: stretch.count,
@@ -128,36 +126,5 @@ fn halted(number: u8, registers: Both) -> WideStretch
         registers,
         count: 0,
         number,
-    }
-}
-
-// The same registers, named one by one: the compiler then keeps each by itself, and a stretch touches those that it uses (DECISIONS 152).
-pub fn parted(registers: Registers) -> Registers
-    ensures { λ r. ⌜ r ≡ registers ⌝ }
-{
-    Registers {
-        page: registers.page,
-        column: registers.column,
-        start: registers.start,
-        offset: registers.offset,
-        multiplex: registers.multiplex,
-        contrast: registers.contrast,
-        ratio: registers.ratio,
-        power: registers.power,
-        bias: registers.bias,
-        quarter: registers.quarter,
-        held: registers.held,
-        phases: registers.phases,
-        column_direction: registers.column_direction,
-        row_direction: registers.row_direction,
-        entire: registers.entire,
-        reverse: registers.reverse,
-        on: registers.on,
-        indicator: registers.indicator,
-        mode: registers.mode,
-        awaited: registers.awaited,
-        modify: registers.modify,
-        saved: registers.saved,
-        fresh: registers.fresh,
     }
 }

@@ -13,7 +13,7 @@ use Rattle.bus.specs.Chip.{Chip, resetPulse}
 use Rattle.bus.specs.Stretch.{Stretched, stretch, stretchOf}
 use Rattle.bus.specs.declared.stretch.Stretch.{Stretch}
 use Rattle.bus.proofs.StretchLaws.{stretches, the-chip-never-zero}
-use Rattle.trace.specs.Play.{Result, refuses, gives}
+use Rattle.trace.specs.Play.{Result, refuses}
 use Rattle.trace.specs.Kinds.{Recorded, event, recordedCommand, recordedWrite, readAs, eventsOf, replay}
 use Rattle.trace.proofs.ChipKinds.{Kind, by-kind}
 use Rattle.trace.proofs.ChipKinds as kinds

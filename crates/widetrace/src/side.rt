@@ -24,7 +24,6 @@ use trace::records::Front;
 use trace::run::Stop;
 use widebus::selection::Selection;
 use widebus::selection::Side;
-use widebus::stretch::parted;
 
 // A played trace: where it stopped, and the registers and the selection that it leaves.
 pub struct SidePlayed {
@@ -130,5 +129,36 @@ fn end(
         },
         registers,
         selection,
+    }
+}
+
+// The same registers, named one by one: the compiler then keeps each by itself (DECISIONS 152).
+fn parted(registers: Registers) -> Registers
+    ensures { λ r. ⌜ r ≡ registers ⌝ }
+{
+    Registers {
+        page: registers.page,
+        column: registers.column,
+        start: registers.start,
+        offset: registers.offset,
+        multiplex: registers.multiplex,
+        contrast: registers.contrast,
+        ratio: registers.ratio,
+        power: registers.power,
+        bias: registers.bias,
+        quarter: registers.quarter,
+        held: registers.held,
+        phases: registers.phases,
+        column_direction: registers.column_direction,
+        row_direction: registers.row_direction,
+        entire: registers.entire,
+        reverse: registers.reverse,
+        on: registers.on,
+        indicator: registers.indicator,
+        mode: registers.mode,
+        awaited: registers.awaited,
+        modify: registers.modify,
+        saved: registers.saved,
+        fresh: registers.fresh,
     }
 }
