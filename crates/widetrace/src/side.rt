@@ -83,15 +83,15 @@ pub fn play_side(
     }
 }
 
-// A record of a kind that the chip obeys.
+// A record of a kind that the chip obeys. The order of the kinds is what the compiler makes the fastest loop of (DECISIONS 152).
 fn obey(kind: usize, registers: Registers, memory: &mut [u8], bytes: &[u8]) -> Stretch
     requires { ⌜ Brings kind (now bytes) ⌝ }
     ensures { λ r. ⌜ stretchOf r (now (memory .exit)) ≡ stretch replay (eventsIn kind (now (bytes .entry))) (chipOf registers (now (memory .entry))) ⌝ }
 {
     match kind {
-        1 => commands(registers, bytes),
         2 => writes(registers, memory, bytes),
         3 => reads(registers, memory, bytes),
+        1 => commands(registers, bytes),
         _ => reset_pin(registers),
     }
 }
