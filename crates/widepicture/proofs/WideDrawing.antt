@@ -27,7 +27,8 @@ use Rattle.widebus.proofs.OneAndTwo.{short-one, one-short, none-short, long-bot
 use Rattle.widepicture.specs.WideFrame.{wideFrame, halfOf}
 use Rattle.widepicture.specs.WideDraw.{drawOnBoth, drawWide}
 use Rattle.widepicture.specs.WideDrawing.{TooShortToDraw, LongToDraw, chipsIn, WideDrawCall, WideDrawing}
-use Rattle.widepicture.proofs.Asked.{neither, ranges-asked}
+use Rattle.widebus.proofs.Asking.{neither}
+use Rattle.widepicture.proofs.Asked.{ranges-asked}
 use Rattle.widepicture.proofs.Halves.{half-frame, half-front, wide-length}
 
 -- what is answered and left, by whether something is too short and whether both images are in their ranges

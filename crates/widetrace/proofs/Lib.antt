@@ -1,7 +1,5 @@
 -- a record's events are a stretch on the selected chips
 pub mod TerminalStretches
--- how the run of the code ends
-pub mod WideRunCode
 -- a script's events one by one, and in a stretch
 pub mod AppliedStretches
 -- what a record's kind and payload are made of
@@ -50,5 +48,7 @@ pub mod SideRecords
 pub mod Pasted
 -- what a side leaves as it was
 pub mod SideKeeps
--- how a run by the two sides ends
+-- a play by the two sides is the terminal's
 pub mod RunBySides
+-- how the code's run ends
+pub mod WideRunCode

@@ -3,15 +3,9 @@
 pub mod Terminal
 -- the run
 pub mod WideRun
--- what the code's types stand for
-pub mod Code
 -- 2. What is proved of them.
 -- each chip over the events it was selected for
 pub mod EachChip
--- one chip by itself, up to an offset
-pub mod Sides
--- what a record is to one chip
-pub mod Heeding
 -- what a run does as a whole
 pub mod WideRunLaws
 -- when a run gives each number, and what it leaves then
@@ -26,3 +20,10 @@ pub mod WideByCalls
 pub mod Samples
 -- one result for each public call
 pub mod Settled
+-- 3. What functions within the crate state, and no other crate cites.
+-- one chip by itself, up to an offset
+pub mod Sides
+-- what a record is to one chip
+pub mod Heeding
+-- what the code's type of a played trace stands for
+pub mod Code
