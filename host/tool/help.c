@@ -165,7 +165,9 @@ static const char *const usage[COMMANDS] = {
     "\n"
     "A trace that is refused part-way is compared as it stands there, and so\n"
     "is a listing that begins with `refused`; standard error names it, the\n"
-    "number and the offset, and without --refused the status is 2.\n"
+    "number and the offset, and without --refused the status is 2.  Of a wide\n"
+    "terminal's trace it says what was selected, since when, and which chip\n"
+    "refused.\n"
     "\n"
     "With --wide both are of wide terminals, a listing too (`frame 264 65`),\n"
     "and they are compared half by half, the left first:\n"
@@ -195,6 +197,9 @@ static const char *const usage[COMMANDS] = {
     "  FILE: taken, N records\n"
     "  FILE: refused R at O: what R means\n"
     "  FILE: cannot be read\n"
+    "\n"
+    "With --wide standard error says of a refused one what was selected,\n"
+    "since when, and which chip refused.\n"
     "\n"
     "Status 0: all taken.  1: one is refused.  2: one cannot be read.\n",
 };
