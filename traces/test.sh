@@ -372,7 +372,7 @@ untouched() {
 }
 untouched 'make.py' "$copy/traces/make.py"
 check 'make.py: notes beside a recording are no fault' status_is 0
-check 'make.py: sources in recorded/ are not counted' out_is 'traces: 1 sources, 0 wrong'
+check 'make.py: sources in recorded/ are not counted' out_is 'traces: 1 source, 0 wrong'
 untouched 'make.py --force' "$copy/traces/make.py" --force
 untouched 'make.py --check' "$copy/traces/make.py" --check
 check 'make.py --check: notes beside a recording are no fault' status_is 0
@@ -462,6 +462,7 @@ echo 'command AF' > "$copy/other.txt"
 rm -f "$made"
 ran "$copy/traces/make.py" "$source" "$copy/other.txt"
 check 'make.py: several' [ -e "$made" ]
+check 'make.py: several, said' out_is 'traces: 2 sources, 0 wrong'
 check 'make.py: the other of them' [ -e "$copy/other.trace" ]
 
 # ---- sources: what is not overwritten ----
