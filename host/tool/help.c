@@ -11,7 +11,7 @@ static const char all[] =
   "usage: ssd1815b COMMAND [OPTION...] [--] [TRACE]\n"
   "       ssd1815b diff [OPTION...] [--] FIRST SECOND\n"
   "       ssd1815b check [OPTION...] [--] [TRACE...]\n"
-  "       ssd1815b COMMAND --help | --help | --version\n"
+  "       ssd1815b COMMAND --help | help COMMAND | --help | --version\n"
   "\n"
   "Plays a trace of recorded bus traffic on a model of the SSD1815B, from\n"
   "power-on with zero memory, but with column and row direction 1, as new\n"
