@@ -590,8 +590,11 @@ uint8_t ssd1815b_wide_read(
 ** Each run starts with both selected; the reset pin keeps the selection.  The
 ** next run starts with both again, whatever this one ended with: to run a long
 ** trace in parts, cut it where both are selected, or begin the next part with a
-** select record.  A trace without select records and reads does to both chips
-** what ssd1815b_run() does to one, up to the first byte that either refuses.
+** select record.  To know what is selected at a place, walk the trace up to it
+** with ssd1815b_record(): the payload of the last record of kind 5 tells, and
+** without one both are.  A trace without select records and reads does to both
+** chips what ssd1815b_run() does to one, up to the first byte that either
+** refuses.
 **
 ** Answers as ssd1815b_run() does, and:
 **

@@ -121,6 +121,7 @@ if command -v groff > /dev/null; then
   grep -oE -- '--[a-z]+' "$here/help" | sort -u > "$here/words"
   sed -nE 's/^  ([a-z]+)   .*/\1/p' "$here/help" >> "$here/words"
   check 'the help has commands and options' [ "$(wc -l < "$here/words")" -gt 4 ]
+  check 'the man page has help COMMAND among its usage lines' grep -qE '^ +ssd1815b help \[command\]$' "$here/page"
   while read -r word; do
     check "the man page names $word" grep -qE -- "(^|[^a-z-])$word([^a-z-]|$)" "$here/page"
   done < "$here/words"

@@ -293,11 +293,16 @@ def _call(name: str, *arguments: Any) -> Number:
     return Number(getattr(_library(), name)(*arguments))
 
 
+def _number(value: int, what: str) -> int:
+    """A number; says so where it is none, and neither True nor False is one."""
+    if isinstance(value, bool) or not isinstance(value, int):
+        raise TypeError(f"{what} is a number, not {type(value).__name__}")
+    return value
+
+
 def _byte(value: int) -> int:
     """A byte; says so where it is none."""
-    if not isinstance(value, int):
-        raise TypeError(f"a byte is a number, not {type(value).__name__}")
-    if not 0 <= value <= 0xFF:
+    if not 0 <= _number(value, "a byte") <= 0xFF:
         raise ValueError(f"a byte is 0 to 255, not {value}")
     return value
 
@@ -339,7 +344,7 @@ def _draw(name: str, lent: tuple[Any, ...], size: int) -> Drawn:
 
 def _list(name: str, frame: bytes, text_size: int, number: int, offset: int) -> str:
     """A call that lists, with a text that is always enough."""
-    if offset < 0:
+    if _number(offset, "an offset") < 0:
         raise ValueError(f"an offset is 0 or more, not {offset}")
     text, length = (BYTE * text_size)(), SIZE()
     _call(name, _byte(number), offset, frame, len(frame), text, text_size, ctypes.byref(length))
@@ -548,6 +553,6 @@ def record(kind: int, payload: Bytes = b"") -> bytes:
     content = _bytes(payload, "a payload")
     if len(content) > 0xFFFF:
         raise ValueError(f"a payload has at most 65,535 bytes, not {len(content)}")
-    if not 0 <= kind <= 0xFFFF:
+    if not 0 <= _number(kind, "a kind") <= 0xFFFF:
         raise ValueError(f"a kind is 0 to 65,535, not {kind}")
     return len(content).to_bytes(2, "little") + kind.to_bytes(2, "little") + content

@@ -400,6 +400,13 @@ class Wide(unittest.TestCase):
             wide.page(Selection.LEFT, -1)
         with self.assertRaisesRegex(TypeError, "a byte is a number, not str"):
             wide.command("left", 0xAF)  # type: ignore[arg-type]
+        for flag in False, True:  # is no selection, side, byte or page
+            for name, arguments in (("command", (flag, 0xAF)), ("command", (Selection.LEFT, flag)), ("write", (flag, 0x55)),
+                                    ("write", (Selection.RIGHT, flag)), ("read", (flag,)), ("reset", (flag,)),
+                                    ("page", (flag, 0)), ("page", (Selection.LEFT, flag))):
+                with self.subTest(name, arguments=arguments), self.assertRaisesRegex(TypeError, "a byte is a number, not bool"):
+                    getattr(wide, name)(*arguments)
+        self.assertEqual(held(wide), (UPSIDE_DOWN, bytes(1188)) * 2)
         with self.assertRaisesRegex(ValueError, "a wide frame has 17160 bytes, not 8580"):
             ssd1815b.wide_listing(bytes(8580))
         with self.assertRaises(AttributeError):
@@ -417,6 +424,8 @@ class Misuse(unittest.TestCase):
                     call(value)
             with self.assertRaisesRegex(TypeError, "a byte is a number, not str"):
                 call("AF")  # type: ignore[arg-type]
+            with self.assertRaisesRegex(TypeError, "a byte is a number, not bool"):
+                call(True)
         self.assertEqual((chip.state, chip.memory), (UPSIDE_DOWN, bytes(1188)))
 
     def test_lengths(self) -> None:
@@ -437,6 +446,18 @@ class Misuse(unittest.TestCase):
             ssd1815b.record(1, bytes(65536))
         with self.assertRaisesRegex(ValueError, "a kind is 0 to 65,535, not 65536"):
             ssd1815b.record(65536)
+
+    def test_a_flag_is_no_number(self) -> None:
+        for flag in False, True:
+            for listing, frame in (ssd1815b.listing, bytes(8580)), (ssd1815b.wide_listing, bytes(17160)):
+                with self.assertRaisesRegex(TypeError, "a byte is a number, not bool"):
+                    listing(frame, flag)
+                with self.assertRaisesRegex(TypeError, "an offset is a number, not bool"):
+                    listing(frame, 3, flag)
+            with self.assertRaisesRegex(TypeError, "a kind is a number, not bool"):
+                ssd1815b.record(flag)
+        with self.assertRaisesRegex(TypeError, "a kind is a number, not str"):
+            ssd1815b.record("5")  # type: ignore[arg-type]
 
     def test_a_text_is_no_trace(self) -> None:
         with self.assertRaisesRegex(TypeError, "a trace: bytes are wanted, not str"):

@@ -311,7 +311,7 @@ def main(arguments):
         if kept:
             sys.exit("\n".join(kept))
         write_traces(traces, force)
-    print(f"traces: {len(traces)} sources, {wrong} wrong")
+    print(f"traces: {len(traces)} source{'' if len(traces) == 1 else 's'}, {wrong} wrong")
     return 0 if traces and wrong == 0 else 1
 
 

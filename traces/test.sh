@@ -372,7 +372,7 @@ untouched() {
 }
 untouched 'make.py' "$copy/traces/make.py"
 check 'make.py: notes beside a recording are no fault' status_is 0
-check 'make.py: sources in recorded/ are not counted' out_is 'traces: 1 sources, 0 wrong'
+check 'make.py: sources in recorded/ are not counted' out_is 'traces: 1 source, 0 wrong'
 untouched 'make.py --force' "$copy/traces/make.py" --force
 untouched 'make.py --check' "$copy/traces/make.py" --check
 check 'make.py --check: notes beside a recording are no fault' status_is 0
@@ -462,6 +462,7 @@ echo 'command AF' > "$copy/other.txt"
 rm -f "$made"
 ran "$copy/traces/make.py" "$source" "$copy/other.txt"
 check 'make.py: several' [ -e "$made" ]
+check 'make.py: several, said' out_is 'traces: 2 sources, 0 wrong'
 check 'make.py: the other of them' [ -e "$copy/other.trace" ]
 
 # ---- sources: what is not overwritten ----
@@ -601,6 +602,36 @@ check 'typed.py: without --wide, the line' out_has "$own/wide.txt:1: select righ
 typed --wide list "$own/wide.txt"
 check 'typed.py: an option before the command: status 2' status_is 2
 check 'typed.py: an option before the command, said' err_is 'typed.py: list: the command stands before its options'
+# check and diff name the source, and not the standard input that its trace is given on.
+typed check "$own/wide.txt"
+check 'typed.py check: refused, status 1' status_is 1
+check 'typed.py check: refused, by name' out_is "$own/wide.txt: refused 9 at 0: kind not 1 to 4, or kind 4 with a payload"
+check 'typed.py check: what it wants, by name' \
+  err_is "ssd1815b: $own/wide.txt: kind 5 selects a chip of a wide terminal: --wide plays such a trace"
+typed check --wide "$own/wide.txt"
+check 'typed.py check --wide: by name' out_is "$own/wide.txt: refused 6 at 19: a data write or read while a code is awaited"
+check 'typed.py check --wide: the chips, by name, and the line that selected them' err_is "ssd1815b: $own/wide.txt:
+  selected: both, since 10 (0xA) in record 2
+  $own/wide.txt:3: select both
+  refused by the right chip alone, and so neither changes"
+typed check "$copy/traces/rules/bits.txt"
+check 'typed.py check: taken, by name' grep -qxE "$copy/traces/rules/bits.txt: taken, [0-9]+ records?" "$here/out"
+check 'typed.py check: taken, one line' [ "$(wc -l < "$here/out")" -eq 1 ]
+typed check "$own/sample.trace"
+check 'typed.py check: a trace by its own name' out_is "$own/sample.trace: taken, 2 records"
+typed diff --wide --brief "$own/sample.trace" "$own/wide.txt"
+check 'typed.py diff: by name' grep -qE "^$own/sample.trace and $own/wide.txt: left half: " "$here/out"
+check 'typed.py diff: refused, by name' err_has "ssd1815b: $own/wide.txt: refused 6 at 19: "
+printf 'command AF\nwrite 03 01\n' > "$own/wide.txt"
+typed diff --after 9 "$own/sample.trace" "$own/wide.txt"
+check 'typed.py diff: the same' status_is 0
+check 'typed.py diff: fewer records, by name' err_has "ssd1815b: --after 9: $own/wide.txt has 2 records, and all of it is played"
+: > "$own/wide.txt"
+typed diff "$own/sample.trace" "$own/wide.txt"
+check 'typed.py diff: empty, by name' err_is "ssd1815b: $own/wide.txt is empty: a trace of no record"
+# A trace on standard input beside another is not the other.
+typed diff --brief - "$own/sample.trace"
+check 'typed.py diff: standard input by its own name' out_has "- and $own/sample.trace: 2 runs differ, 3 places in 2 rows"
 rm "$own/wide.txt"
 
 rm "$own/mine.txt"

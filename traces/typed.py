@@ -43,6 +43,8 @@ FAILED = 2
 LONGEST_TEXT = 100
 REFUSED = re.compile(rb"refused [0-9]+ at ([0-9]+) \(0x[0-9A-F]+\)")
 EARLIER = re.compile(rb"  .*since ([0-9]+) \(0x[0-9A-F]+\) in record")
+# Where check and diff name a trace that they were given as -.
+NAMED = re.compile(rb"^(ssd1815b: (?:--after [0-9]+: )?|.* and |)-(?=:| has | is empty)", re.M)
 # Their standard output is for other programs; they tell refusals on standard error.
 TOLD_ON_STANDARD_ERROR = ("list", "picture")
 COMMANDS = ("list", "show", "picture", "state", "memory", "diff", "check")
@@ -85,6 +87,11 @@ def told_line(source, lines, match):
     return f"{source}:{line.place}: {text}\n".encode()
 
 
+def named(words, source):
+    """What the tool printed of a source's trace, with the source's name."""
+    return NAMED.sub(lambda match: match[1] + os.fsencode(source), words)
+
+
 def told(words, source, lines):
     """What the tool printed, with the lines of the source that it speaks of, each once."""
     rows, said = [], set()
@@ -121,8 +128,8 @@ def run(command, options, path):
                           stdout=output, stderr=subprocess.PIPE, check=False)
     # From here on a reader that has seen enough ends this; a tool that ends before it has read all does not.
     signal.signal(signal.SIGPIPE, signal.SIG_DFL)
-    sys.stderr.buffer.write(told(done.stderr, source, lines))
-    sys.stdout.buffer.write(told(done.stdout or b"", source, lines))
+    for stream, words in (sys.stderr, done.stderr), (sys.stdout, done.stdout or b""):
+        stream.buffer.write(told(named(words, source) if typed else words, source, lines))
     sys.stdout.flush()
     return done.returncode
 

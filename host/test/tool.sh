@@ -266,6 +266,10 @@ helps -h
 helps help
 helps --help x
 helps picture --scale --help
+helps --upright --help
+helps help help
+helps help --help
+check 'help: a usage line says of help COMMAND' grep -q '^  *ssd1815b .*| help COMMAND |' <("${tool[@]}" --help)
 for command in list show picture state memory diff check; do
   check "help: names $command" grep -q "^  $command " <("${tool[@]}" --help)
   helps $command --help
@@ -296,6 +300,13 @@ wrong() {
 }
 wrong 'no command'
 wrong 'no such command: print' print
+# With help asked for it is none either, and the words are the same.
+cp "$here/err" "$here/no_command"
+for words in 'print --help' 'print -h' 'print --wide --help' 'help print' 'help print --help'; do
+  # shellcheck disable=SC2086  # some words
+  wrong 'no such command: print' $words
+  check "wrong: the same words ($words)" cmp -s "$here/err" "$here/no_command"
+done
 wrong 'no such option: --scales' picture --scales 2
 wrong 'no such option: --scales=2' picture --scales=2
 wrong 'no such option: -x' list -x

@@ -213,9 +213,16 @@ check 'memory: a read that differs, of which chip' \
 # ---- check ----
 
 answers 1 'left.trace: taken, 3 records
-refused.trace: refused 4 at 20: B9 to BF name no page
 mine.trace: refused 8 at 10: one to three bytes left where a header should stand, or payload past the end' \
-  check --wide left.trace refused.trace mine.trace
+  check --wide left.trace mine.trace
+run check --wide left.trace refused.trace mine.trace
+check 'check: refused for a chip, status 1' status_is 1
+check 'check: refused for a chip, a line for each all the same' out_is 'left.trace: taken, 3 records
+refused.trace: refused 4 at 20: B9 to BF name no page
+mine.trace: refused 8 at 10: one to three bytes left where a header should stand, or payload past the end'
+# Records of 5, 6 and 5 bytes, the third of which selects.
+check 'check: what was selected, by name' err_is 'ssd1815b: refused.trace:
+  selected: right, since 11 (0xB) in record 2'
 record 06 > six.trace
 answers 1 'six.trace: refused 9 at 0: kind not 1 to 5, or kind 4 with a payload' check --wide six.trace
 
@@ -290,6 +297,82 @@ check 'refused: one alone is selected, no more of it' [ "$(grep -c 'refused by' 
 says '  awaited is the n of 81 (contrast), a command byte, since 4 (0x4) in record 0'
 { writes 11 22; selects 01; commands 00 10; writes 33; commands 00 10; reads 00 22; } > mine.trace
 says '  recorded is 22, the model reads 33 (hex), at page 0, column 0'
+
+# ---- what check and diff say of the chips there ----
+
+# told NUMBER OFFSET LINE...: of mine.trace they say these lines on standard error
+# and nothing else of it; show, state and memory have the first of them too.
+told() {
+  local lines heading="mine.trace: refused $1 at $2: "
+  lines=$(printf '%s\n' "${@:3}")
+  run check --wide mine.trace
+  check "check: status 1 (${*:3})" status_is 1
+  check "check: one line (${*:3})" [ "$(grep -c "^$heading" out)-$(wc -l < out)" = 1-1 ]
+  check "check: ${*:3}" err_is "ssd1815b: mine.trace:
+$lines"
+  # As the first, and as the second after one that is taken.
+  for names in 'mine.trace left.trace' 'left.trace mine.trace'; do
+    read -ra two <<< "$names"
+    run diff --wide --refused "${two[@]}"
+    check "diff: which ($names, ${*:3})" [ "$(grep -c "^ssd1815b: $heading" err)" -eq 1 ]
+    check "diff: $names, ${*:3}" [ "$(tail -n +2 err)" = "$lines"$'\n  compared as it stands there' ]
+  done
+  for command in show state memory; do
+    run "$command" --wide mine.trace
+    check "$command: the same ($3)" out_has "$3"
+  done
+}
+# The reset pin keeps the selection.
+{ selects 01; pin; commands B9; } > mine.trace
+told 4 13 '  selected: left, since 0 (0x0) in record 0'
+commands B9 > mine.trace
+told 4 4 '  selected: both, as every run begins' '  refused by both chips'
+{ selects 02; commands 81; selects 03; writes FF; } > mine.trace
+told 6 19 '  selected: both, since 10 (0xA) in record 2' '  refused by the right chip alone, and so neither changes'
+{ selects 01; commands 0F 18; selects 03; writes FF; } > mine.trace
+told 7 20 '  selected: both, since 11 (0xB) in record 2' '  refused by the left chip alone, and so neither changes'
+{ selects 01; commands D3; selects 03; commands B9; } > mine.trace
+told 5 19 '  selected: both, since 10 (0xA) in record 2' \
+  '  refused by both chips, by the left with 5, which is the number, and by the right with 4'
+# Nothing of the left follows here, and so nothing is said of that.
+{ selects 01; commands 81; selects 02; commands D3; selects 03; writes 55; } > mine.trace
+told 6 29 '  selected: both, since 20 (0x14) in record 4' '  refused by both chips'
+# A read with both selected is asked of neither.
+reads 00 > mine.trace
+told 14 4 '  selected: both, as every run begins'
+{ selects 01; reads 00; selects 03; reads 55; } > mine.trace
+told 14 19 '  selected: both, since 10 (0xA) in record 2'
+{ selects 02; reads 00 07; } > mine.trace
+told 10 10 '  selected: right, since 0 (0x0) in record 0'
+# In a later part of what is read: 5 bytes, 20 records of 65,539, 5 bytes.
+{ selects 02; for _ in {1..20}; do bytes FF FF 02 00; head -c 65535 /dev/zero; done; selects 01; commands 30; } > mine.trace
+told 3 1310794 '  selected: left, since 1310785 (0x140041) in record 21'
+# Of a header no chip is asked.
+for header in 'bytes 01 00 01' 'record 06' 'selects 04' 'record 04 00'; do
+  { selects 02; $header; } > mine.trace
+  run check --wide mine.trace
+  check "check: status 1 ($header)" status_is 1
+  check "check: no chip ($header)" nothing_on err
+  run diff --wide mine.trace left.trace
+  check "diff: no chip ($header)" [ "$(grep -cE 'selected:|refused by' err)" -eq 0 ]
+done
+# Both of the two, and those records alone that are played.
+run diff --wide --refused --upright refused.trace <(commands AF; writes 03 01; commands 81; selects 01; writes 00)
+check 'diff: both are refused, the same screens' status_is 0
+check 'diff: both are refused, the lines of each' [ "$(sed -E 's/^ssd1815b: [^:]*:/-:/' err)" = \
+'-: refused 4 at 20: B9 to BF name no page
+  selected: right, since 11 (0xB) in record 2
+  compared as it stands there
+-: refused 6 at 25: a data write or read while a code is awaited
+  selected: left, since 16 (0x10) in record 3
+  compared as it stands there' ]
+run diff --wide --after 3 refused.trace both.trace
+check 'diff: not refused in these records, nothing of the chips' [ "$(grep -cE 'selected:|refused by' err)" -eq 0 ]
+# One chip is not one of two.
+run check <(commands B9)
+check 'narrow: check, of no chip' nothing_on err
+run diff --refused <(commands B9) both.trace
+check 'narrow: diff, of no chip' [ "$(grep -cE 'selected:|refused by' err)" -eq 0 ]
 
 # ---- without --wide ----
 
@@ -366,7 +449,8 @@ right half, row 1, 0: dark, then lit
 right half: 2 runs differ, 3 places in 2 rows' diff --wide left.list both.list
 run diff --wide --refused refused.list both.list
 check 'listing: refused, compared' status_is 0
-check 'listing: refused, said' err_has 'refused.list: refused 4 at 20'
+check 'listing: refused, said, and no chip, which it has not' err_is 'ssd1815b: refused.list: refused 4 at 20: B9 to BF name no page
+  compared as it stands there'
 run diff both.list both.trace
 check 'listing: wide without --wide, status 2' status_is 2
 check 'listing: wide without --wide, said' \

@@ -4,9 +4,10 @@
 #include "numbers.h"
 #include "player.h"
 #include "plural.h"
+#include "stop.h"
 
 /* The verdict on a trace, in a line; on standard error what a trace of a wide
-** terminal wants. */
+** terminal wants, and which of its chips refused. */
 static void print_verdict(FILE *out, const char *name,
                           const struct played *played)
 {
@@ -18,6 +19,10 @@ static void print_verdict(FILE *out, const char *name,
   }
   if (looks_wide(played)) {
     fprintf(stderr, "ssd1815b: %s: %s\n", name, LOOKS_WIDE);
+  }
+  if (stop_at_chips(played)) {
+    fprintf(stderr, "ssd1815b: %s:\n", name);
+    stop_print_chips(stderr, played);
   }
 }
 

@@ -8,6 +8,7 @@
 #include "numbers.h"
 #include "picture.h"
 #include "sides.h"
+#include "stop.h"
 
 void diff_side(FILE *out, const struct options *options, enum side side,
                const char *part)
@@ -17,7 +18,8 @@ void diff_side(FILE *out, const struct options *options, enum side side,
   }
 }
 
-/* Says of a run that was refused where, and what that does to the status. */
+/* Says of a run that was refused where, by which chip of a wide terminal, and
+** what that does to the status. */
 static void tell_refused(const struct options *options,
                          const struct screen *screen)
 {
@@ -27,6 +29,9 @@ static void tell_refused(const struct options *options,
   if (!screen->stored && (played->number == SSD1815B_HEADER_CUT
                           || played->number == SSD1815B_KIND_UNKNOWN)) {
     looks_print(stderr, played, played->offset);
+  }
+  if (!screen->stored && stop_at_chips(played)) {
+    stop_print_chips(stderr, played);
   }
   fprintf(stderr, "  compared as it stands there%s\n",
           options->refused ? "" : "; so the status is 2, and with --refused"

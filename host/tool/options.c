@@ -208,6 +208,8 @@ static bool take_option(int argc, char **argv, int *i, struct options *options)
 
 /* ---- the command line ---- */
 
+#define NO_COMMAND "no such command: "
+
 /* The command of that name; COMMANDS if there is none. */
 static enum command command_of(const char *text)
 {
@@ -218,10 +220,15 @@ static enum command command_of(const char *text)
   return (enum command)i;
 }
 
+static bool is_help(const char *text)
+{
+  return strcmp(text, "help") == 0;
+}
+
 /* Help is asked for: as the command, or by its options before any `--`. */
 static bool help_wanted(int argc, char **argv)
 {
-  bool wanted = argc > 1 && strcmp(argv[1], "help") == 0;
+  bool wanted = argc > 1 && is_help(argv[1]);
   for (int i = 1; i < argc && strcmp(argv[i], "--") != 0; i++) {
     wanted = wanted || strcmp(argv[i], "--help") == 0
              || strcmp(argv[i], "-h") == 0;
@@ -229,12 +236,19 @@ static bool help_wanted(int argc, char **argv)
   return wanted;
 }
 
-/* The command that help is asked for: the first word, or the one after
-** `help`. */
-static enum command command_to_explain(int argc, char **argv)
+/* Finds the command that help is asked for, the first word or the one after
+** `help`: COMMANDS where an option stands there, or nothing.  Answers whether
+** that is a command; says so if it is none. */
+static bool find_explained(int argc, char **argv, enum command *command)
 {
-  int i = strcmp(argv[1], "help") == 0 ? 2 : 1;
-  return i < argc ? command_of(argv[i]) : COMMANDS;
+  int i = is_help(argv[1]) ? 2 : 1;
+  bool named = i < argc && argv[i][0] != '-' && !is_help(argv[i]);
+  *command = named ? command_of(argv[i]) : COMMANDS;
+  if (named && *command == COMMANDS) {
+    options_wrong(NO_COMMAND, argv[i]);
+    return false;
+  }
+  return true;
 }
 
 /* Options and traces; the names of the traces are moved to the front. */
@@ -330,8 +344,8 @@ enum wish options_of(int argc, char **argv, struct options *options)
     return WISH_NONE;
   }
   if (help_wanted(argc, argv)) {
-    options->command = command_to_explain(argc, argv);
-    return WISH_HELP;
+    return find_explained(argc, argv, &options->command) ? WISH_HELP
+                                                         : WISH_NONE;
   }
   if (strcmp(argv[1], "--version") == 0) {
     return WISH_VERSION;
@@ -340,7 +354,7 @@ enum wish options_of(int argc, char **argv, struct options *options)
   if (options->command == COMMANDS) {
     options_wrong(option_of(argv[1]) != NULL
                     ? "the command stands before its options, and first is "
-                    : "no such command: ", argv[1]);
+                    : NO_COMMAND, argv[1]);
     return WISH_NONE;
   }
   options->traces = argv + 2;

@@ -73,7 +73,8 @@ enum side refusing_side(const struct played *played, size_t kind)
                                                               : SIDE_RIGHT;
 }
 
-void refusing_print(FILE *out, const struct played *played, size_t kind)
+void refusing_print(FILE *out, const struct played *played, size_t kind,
+                    bool more)
 {
   if (played->selection != SSD1815B_BOTH) {
     return;
@@ -83,7 +84,7 @@ void refusing_print(FILE *out, const struct played *played, size_t kind)
   if (left == right) {
     /* Why a chip answers 5, 6 or 7 is in its registers: each may have its own
     ** code or column.  3 and 4 are of the byte alone. */
-    fputs(left >= SSD1815B_NOT_ALLOWED
+    fputs(more && left >= SSD1815B_NOT_ALLOWED
             ? "  refused by both chips; what follows is of the left\n"
             : "  refused by both chips\n", out);
   } else if (left != SSD1815B_TAKEN && right != SSD1815B_TAKEN) {

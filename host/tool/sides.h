@@ -25,7 +25,9 @@ void selection_print(FILE *out, const struct played *played);
 ** kind. */
 enum side refusing_side(const struct played *played, size_t kind);
 
-/* Where both are selected, a line on which of them refused. */
-void refusing_print(FILE *out, const struct played *played, size_t kind);
+/* Where both are selected, a line on which of them refused; more tells whether
+** more of that chip follows it. */
+void refusing_print(FILE *out, const struct played *played, size_t kind,
+                    bool more);
 
 #endif

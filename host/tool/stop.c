@@ -129,6 +129,28 @@ static bool at_header(const struct played *played)
          || played->number == SSD1815B_NO_SELECTION;
 }
 
+bool stop_at_chips(const struct played *played)
+{
+  return played->wide && played->number != SSD1815B_TAKEN
+         && !at_header(played);
+}
+
+/* The chips of a wide terminal there; a read of both is asked of neither.  more
+** tells whether more of the one that refused follows. */
+static void print_chips(FILE *out, const struct played *played,
+                        struct record record, bool more)
+{
+  selection_print(out, played);
+  if (played->number != SSD1815B_BOTH_SELECTED) {
+    refusing_print(out, played, record.kind, more);
+  }
+}
+
+void stop_print_chips(FILE *out, const struct played *played)
+{
+  print_chips(out, played, record_at(played), false);
+}
+
 /* What a chip holds there, where that tells more than the number, and what it
 ** would have taken. */
 static void print_chip(FILE *out, const struct played *played, enum side side)
@@ -171,13 +193,12 @@ static void print_particulars(FILE *out, const struct played *played,
     return;
   }
   if (played->wide) {
-    selection_print(out, played);
+    print_chips(out, played, record, true);
   }
   if (played->number == SSD1815B_BOTH_SELECTED) {
     print_read_of_both(out, played);
     return;
   }
-  refusing_print(out, played, record.kind);
   print_chip(out, played, refusing_side(played, record.kind));
 }
 
