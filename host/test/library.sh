@@ -22,9 +22,9 @@ check 'the library has the calls of the header, each once' out_is "$declared"
 needed() { "$NM" -u "$library" | awk '$1 == "U" { print $2 }' | sort -u; }
 
 ran needed
-check 'the library needs memset and nothing else' out_is memset
+check 'the library needs memcpy and memset and nothing else' out_is $'memcpy\nmemset'
 # shellcheck disable=SC2016  # backquotes of the text
-check 'host/README.md says so' grep -qF 'needs `memset` and nothing else' "$readme"
+check 'host/README.md says so' grep -qF 'needs `memset` and `memcpy` and nothing else' "$readme"
 
 cat > "$here/mine.c" <<'END'
 #include "ssd1815b.h"
