@@ -67,6 +67,7 @@ DIFFER   := $(OUT)/differences
 TUNED    := $(OUT)/compare-tuned
 T_DIFFER := $(OUT)/differences-tuned
 SAMPLES  := $(OUT)/samples
+EVERYROW := $(OUT)/everyrow
 PARTS    := $(OUT)/parts
 LISTINGS := $(OUT)/listings
 HEADER   := $(OUT)/header
@@ -106,7 +107,7 @@ help:
 	@echo 'make uninstall     removes just those files'
 	@echo 'make test          all tests of the C side and of python/: the next six'
 	@echo 'make compare       the library beside the oracle; SEED=2 TIMES=10 for more'
-	@echo 'make calls         the start calls, the calls that the oracle has no cases for, where two screens differ, the wide terminal, the header, the archive'
+	@echo 'make calls         the start calls, the calls that the oracle has no cases for, where two screens differ, every row, the wide terminal, the header, the archive'
 	@echo 'make check-tool    the tool: what it prints, and its status'
 	@echo 'make check-traces  every trace, yours in traces/recorded too: oracle beside the tool'
 	@echo 'make check-install an installation in an empty folder, and C programs built against it'
@@ -132,11 +133,12 @@ compare: $(COMPARE) $(TUNED) oracle
 	host/compare/compare.sh $(ORACLE) $(SEED) $(TIMES) -- $(RUN) $(COMPARE)
 	bench/tuned.sh $(ORACLE) $(SEED) $(TIMES) -- $(RUN) $(TUNED)
 
-calls: $(CALLS) $(DIFFER) $(T_DIFFER) $(SAMPLES) $(WIDE_CALLS) $(HEADER)
+calls: $(CALLS) $(DIFFER) $(T_DIFFER) $(SAMPLES) $(EVERYROW) $(WIDE_CALLS) $(HEADER)
 	$(RUN) $(CALLS)
 	$(RUN) $(DIFFER)
 	$(RUN) $(T_DIFFER)
 	$(RUN) $(SAMPLES)
+	$(RUN) $(EVERYROW)
 	$(RUN) $(OUT)/wide
 	$(RUN) $(OUT)/widerun
 	$(RUN) $(OUT)/widepicture
@@ -243,6 +245,7 @@ $(TUNED) $(T_DIFFER):
 	$(Q)$(CC) $(CFLAGS) $^ -o $@
 
 $(SAMPLES): $(OUT)/host/test/samples.o $(LINKED)
+$(EVERYROW): $(OUT)/host/test/everyrow.o $(LINKED)
 $(WIDE_CALLS): $(OUT)/%: $(OUT)/host/test/%.o $(OUT)/host/test/twochips.o \
          $(OUT)/host/compare/room.o $(LINKED)
 $(PARTS): $(OUT)/host/test/parts.o \
@@ -254,7 +257,7 @@ $(NO_PNG): $(filter-out %/png.o,$(call objects,host/tool/*.c)) \
 $(BENCH): $(addprefix $(OUT)/bench/,bench.o workloads.o plain.o tuned.o) \
           $(LINKED)
 
-$(TOOL) $(NO_PNG) $(COMPARE) $(CALLS) $(DIFFER) $(SAMPLES) $(WIDE_CALLS) $(PARTS) $(LISTINGS) $(BENCH):
+$(TOOL) $(NO_PNG) $(COMPARE) $(CALLS) $(DIFFER) $(SAMPLES) $(EVERYROW) $(WIDE_CALLS) $(PARTS) $(LISTINGS) $(BENCH):
 	$(Q)$(CC) $(CFLAGS) $^ -o $@
 
 # The header as C++ takes it.
