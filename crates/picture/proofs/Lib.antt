@@ -6,6 +6,8 @@ pub mod Places
 pub mod RamRows
 -- a page that is lent on has its RAM rows' bits
 pub mod PageBits
+-- masks of low bits are remainders
+pub mod Masks
 -- bijections of the numbers below n
 pub mod Bijection
 -- the row rule with all rows in use is a turn of the rows, over any size

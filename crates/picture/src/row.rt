@@ -44,15 +44,15 @@ pub fn draw_row(registers: Registers, memory: &[u8], row: PanelRow, places: &mut
     }
 }
 
-// Draws the bits of a RAM row, its columns in the column direction.
+// Draws the bits of a RAM row, its columns in the column direction. RAM row 8p + b is bit b of page p: the low three bits of its number are the bit, the others the page.
 fn draw_bits(registers: Registers, memory: &[u8], row: RamRow, places: &mut [u8])
     requires { ⌜ (row .0 ≤ height) × (memorySize ≤ length (now memory)) × (length (now places) ≡ width) ⌝ }
     ensures { λ _. ⌜ now (places .exit) ≡ line width (shownBit registers (now (memory .entry)) row) ⌝ }
 {
     let number = row.0 as usize;
-    let bit = row.0 % 8;
-    let reverse = registers.reverse % 2;
-    let start = number / 8 * WIDTH;
+    let bit = row.0 & 7;
+    let reverse = registers.reverse & 1;
+    let start = (number >> 3) * WIDTH;
     let end = start + WIDTH;
     if registers.column_direction == 0 {
         straight(&memory[start..end], bit, reverse, places);
@@ -68,7 +68,7 @@ fn straight(page: &[u8], bit: u8, reverse: u8, places: &mut [u8])
 {
     let mut x = 0;
     while x < WIDTH {
-        places[x] = ((page[x] >> bit) % 2 + reverse) % 2;
+        places[x] = (((page[x] >> bit) & 1) + reverse) & 1;
         x += 1;
     }
 }
@@ -81,7 +81,7 @@ fn mirrored(page: &[u8], bit: u8, reverse: u8, places: &mut [u8])
     let mut x = 0;
     while x < WIDTH {
         let column = WIDTH - 1 - x;
-        places[x] = ((page[column] >> bit) % 2 + reverse) % 2;
+        places[x] = (((page[column] >> bit) & 1) + reverse) & 1;
         x += 1;
     }
 }

@@ -1,6 +1,6 @@
 // The three countings of rows, and the row rule that converts between them.
 ghost use mathlib.Core.Path.{_≡_};
-ghost use Prim.Native.Nat.{_≤_, _<_, _-_, _%_};
+ghost use Prim.Native.Nat.{_≤_, _<_, _-_, _*_, _%_};
 ghost use Rattle.constants.specs.Sizes.{height};
 ghost use Rattle.picture.specs.Scan.{comNumber, comOf, used, ramRowOf, rowShows};
 ghost use Rattle.picture.specs.Rows.{rowsInUse, rowsAbove, shift, scanOf};
@@ -91,7 +91,7 @@ fn rows_not_above(registers: Registers) -> u16
     let panel_rows = HEIGHT as u16;
     let in_use = rows_in_use(registers);
     if in_use < panel_rows {
-        return (panel_rows + in_use + 1) / 2;
+        return (panel_rows + in_use + 1) >> 1;
     }
     panel_rows
 }
@@ -103,9 +103,24 @@ fn rows_in_use(registers: Registers) -> u16
     (registers.multiplex as u16) + 1
 }
 
-// A row counted on past the last panel row comes round to the first.
+// A row counted on past the last panel row comes round to the first. Its low byte comes to the same row, since 256 is four times round, and from there two steps are enough (DECISIONS 165).
 fn around(row: u16) -> u8
     ensures { λ r. ⌜ r ≡ row % height ⌝ }
 {
-    (row % (HEIGHT as u16)) as u8
+    let panel_rows = HEIGHT as u16;
+    let twice = panel_rows + panel_rows;
+    let low = row & 0xFF;
+    let left = once_around(low, twice);
+    once_around(left, panel_rows) as u8
+}
+
+// A row that is past so many rows at most once comes round by compare and subtract.
+fn once_around(row: u16, rows: u16) -> u16
+    requires { ⌜ row < 2 * rows ⌝ }
+    ensures { λ r. ⌜ r ≡ row % rows ⌝ }
+{
+    if row < rows {
+        return row;
+    }
+    row - rows
 }

@@ -8,6 +8,7 @@ use Prim.Native.Nat.{_+_, _-_, _*_, _/_}
 use native.Mathlib.Omega.{arith}
 use borrow.Author.Tests.{eq-eqb, ne-eqb}
 use denote.Ref.{now}
+use lib.Bits.{and-mask, mask-lt}
 use Rattle.constants.specs.Sizes.{width}
 use Rattle.picture.specs.Scan.{columnOf}
 use Rattle.picture.specs.Frame.{shownBit}
@@ -33,7 +34,9 @@ part-straight-end : tie.Need-part-straight-end
 part-straight-end c = search needs
 
 straight-requires : tie.Need-straight-requires
-straight-requires c κs = search needs
+straight-requires c κs =
+    let a = c .before .before .before .before .before .before .before .before .before .args in
+    search (needs, mask-lt (a .row .0) 3, mask-lt (a .registers .reverse) 1)
 
 sub-mirrored : tie.Need-sub-mirrored
 sub-mirrored c = search needs
@@ -45,7 +48,9 @@ part-mirrored-end : tie.Need-part-mirrored-end
 part-mirrored-end c = search needs
 
 mirrored-requires : tie.Need-mirrored-requires
-mirrored-requires c κs = search needs
+mirrored-requires c κs =
+    let a = c .before .before .before .before .before .before .before .before .before .args in
+    search (needs, mask-lt (a .row .0) 3, mask-lt (a .registers .reverse) 1)
 
 same-length : tie.Need-same-length
 same-length c = search needs
@@ -54,7 +59,7 @@ returns : tie.Need-returns
 unfolding shownBit columnOf
 returns c =
     let a = c .before .before .before .before .before .before .before .before .before .before .before .before .args in
-    c .before .before .straight .ensures ∙ line-same width _ _ (λ x h. rw (eq-eqb _ _ (c .before .before .before .before .before .if1 .taken)) (page-bit (now (a .memory)) (a .row) (a .row .0 / 8 * width + width - a .row .0 / 8 * width) x (a .registers .reverse) (omega arith)))
+    c .before .before .straight .ensures ∙ line-same width _ _ (λ x h. rw (eq-eqb _ _ (c .before .before .before .before .before .if1 .taken), and-mask (a .row .0) 3, and-mask (a .registers .reverse) 1) (page-bit (now (a .memory)) (a .row) (a .row .0 / 8 * width + width - a .row .0 / 8 * width) x (a .registers .reverse) (omega arith)))
 
 same-length-2 : tie.Need-same-length-2
 same-length-2 c = search needs
@@ -63,7 +68,7 @@ returns-2 : tie.Need-returns-2
 unfolding shownBit columnOf
 returns-2 c =
     let a = c .before .before .before .before .before .before .before .before .before .before .before .before .args in
-    c .before .before .mirrored .ensures ∙ line-same width _ _ (λ x h. rw (ne-eqb _ _ (c .before .before .before .before .before .if1 .left)) (page-bit (now (a .memory)) (a .row) (a .row .0 / 8 * width + width - a .row .0 / 8 * width) (width - 1 - x) (a .registers .reverse) (omega arith)))
+    c .before .before .mirrored .ensures ∙ line-same width _ _ (λ x h. rw (ne-eqb _ _ (c .before .before .before .before .before .if1 .left), and-mask (a .row .0) 3, and-mask (a .registers .reverse) 1) (page-bit (now (a .memory)) (a .row) (a .row .0 / 8 * width + width - a .row .0 / 8 * width) (width - 1 - x) (a .registers .reverse) (omega arith)))
 
 pub draw-bits-spec : {M : Type 1} → statement M
 draw-bits-spec =

@@ -9,9 +9,11 @@ use Prim.Native.Nat.{ℕ, _≤_, _-_, _/_, _%_, _^_}
 use native.Mathlib.Omega.{arith}
 use denote.Ref.{now}
 use lib.ListN.{getD, drop}
+use lib.Bits.{mask-lt}
 use Rattle.constants.specs.Sizes.{width}
 use Rattle.picture.specs.Frame.{line, turned}
 use Rattle.picture.proofs.Lines.{line-turn, line-done, line-kept}
+use Rattle.picture.proofs.Masks.{low-bits}
 
 abbrev shown : List ℕ → ℕ → ℕ → ℕ → ℕ
 shown page bit reverse x = turned reverse (getD page (width - 1 - x) 0 / 2 ^ bit % 2)
@@ -39,7 +41,9 @@ shr-places : tie.Need-shr-places Inv-loop μ-loop
 shr-places c = omega arith
 
 add-places : tie.Need-add-places Inv-loop μ-loop
-add-places c = omega arith
+add-places c =
+    let a = c .before .before .before .args in
+    omega (arith, mask-lt (getD (now (a .page)) (width - 1 - c .before .before .loop .x) 0 / 2 ^ a .bit) 1)
 
 slice-write-places : tie.Need-slice-write-places Inv-loop μ-loop
 slice-write-places c =
@@ -53,10 +57,9 @@ loop-less : tie.Need-loop-less Inv-loop μ-loop
 loop-less c = omega arith
 
 loop-again : tie.Need-loop-again Inv-loop μ-loop
-unfolding turned
 loop-again c =
     let a = c .before .before .before .args in
-    (omega arith, rw (c .before .before .loop .inv .1) (line-turn (shown (now (a .page)) (a .bit) (a .reverse)) (now (a .places)) (c .before .before .loop .x) (omega arith)))
+    (omega arith, rw (c .before .before .loop .inv .1, low-bits (getD (now (a .page)) (width - 1 - c .before .before .loop .x) 0 / 2 ^ a .bit) (a .reverse)) (line-turn (shown (now (a .page)) (a .bit) (a .reverse)) (now (a .places)) (c .before .before .loop .x) (omega arith)))
 
 same-length : tie.Need-same-length Inv-loop μ-loop
 same-length c =
