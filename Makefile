@@ -144,8 +144,9 @@ calls: $(CALLS) $(DIFFER) $(T_DIFFER) $(SAMPLES) $(EVERYROW) $(WIDE_CALLS) $(HEA
 	$(RUN) $(OUT)/widepicture
 	$(RUN) $(HEADER)
 ifeq ($(MODEL),proved)
-	CC=$(CC) NM=$(CROSS)nm host/test/library.sh $(LIBRARY) $(RUN)
+	CC=$(CC) NM=$(CROSS)nm OBJDUMP=$(CROSS)objdump host/test/library.sh $(LIBRARY) $(RUN)
 endif
+	$(if $(VARIANT),,CC=$(CC) AR=$(CROSS)ar OBJDUMP=$(CROSS)objdump host/test/divides.sh)
 
 check-tool: $(TOOL) $(NO_PNG) $(PARTS) $(LISTINGS)
 	$(RUN) $(PARTS)

@@ -2,7 +2,8 @@
 # Tests of the archive by itself, as host/README.md has it: what it needs of
 # others, and the line that links a program of one's own.
 #
-#   CC=COMPILER NM=NM library.sh LIBRARY [RUN...]      RUN... runs a program
+#   CC=COMPILER NM=NM OBJDUMP=OBJDUMP library.sh LIBRARY [RUN...]
+#                                             RUN... runs a program
 set -euo pipefail
 
 library=$1
@@ -25,6 +26,10 @@ ran needed
 check 'the library needs memcpy and memset and nothing else' out_is $'memcpy\nmemset'
 # shellcheck disable=SC2016  # backquotes of the text
 check 'host/README.md says so' grep -qF 'needs `memset` and `memcpy` and nothing else' "$readme"
+
+# Document 02, Order 5, of what is compiled.
+ran "$(dirname "$0")/../../.ci/divides" archive "$library" "$OBJDUMP"
+check 'drawing, events and run have no divide instruction' status_is 0
 
 cat > "$here/mine.c" <<'END'
 #include "ssd1815b.h"
