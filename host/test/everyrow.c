@@ -1,8 +1,9 @@
 /*
-** Every setting, each row: the frame and the wide frame beside the row rule of
-** document 01, "The frame", with document 02, Orders 2 and 4.  What is expected
-** was written from these documents, and divides as they do; by Order 5 the
-** model does not, and nothing that anyone is told about the row may change.
+** Every setting of the row rule, each row: the frame and the wide frame beside
+** document 01, "The frame", with document 02, Orders 2 and 4; other looks than
+** the plain one with some of the settings.  What is expected was written from
+** these documents, and divides as they do; by Order 5 the model does not, and
+** nothing that anyone is told about the row may change.
 **
 ** Two sentences are read so.  "Modulo 64" is the remainder from 0 to 63 of a
 ** number below 0 too, as Order 2's p + offset - t can be.  And Order 2 changes

@@ -114,7 +114,7 @@ fn around(row: u16) -> u8
     once_around(left, panel_rows) as u8
 }
 
-// A row that is past so many rows at most once comes round by compare and subtract.
+// The remainder of a row that is below twice the rows: one compare, at most one subtraction.
 fn once_around(row: u16, rows: u16) -> u16
     requires { ⌜ row < 2 * rows ⌝ }
     ensures { λ r. ⌜ r ≡ row % rows ⌝ }
