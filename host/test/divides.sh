@@ -177,6 +177,14 @@ for operation in '(rem unsigned)' '(div signed)' modulo fdiv; do
   read_of < <(program '(sub unsigned)' "$operation")
   refused "$operation" 'picture::rows::around: has (rem|div|modulo|fdiv)$'
 done
+read_of < <(program '(sub unsigned)' '(mul unsigned)')
+refused 'a row rule that multiplies' 'picture::rows::around: has mul$'
+read_of < <(program '(sub unsigned)' 'eq (loop skip)')
+refused 'a row rule in a loop' 'picture::rows::around: has a loop$'
+read_of < <(program; fn picture::rows::on eq picture::rows::back; fn picture::rows::back eq picture::rows::on)
+refused 'a row rule that comes back to itself' '^picture::rows::on: calls itself$'
+read_of < <(program; fn picture::row::fill '(mul unsigned) (loop skip)')
+passed 'other drawing that multiplies, in a loop'
 read_of < <(program '(rem unsigned)')
 refused 'in another crate' '^host::draw::ssd1815b_draw > bus::image::ask > bus::image::short: has rem$'
 read_of < <(program; fn picture::rows::unused '(rem unsigned)')
