@@ -8,31 +8,37 @@ use native.Mathlib.Omega.{arith}
 use lib.Dec.{leb, ltb, eqb, lit≤}
 use lib.ListN.{length, getD}
 use borrow.Author.Tests.{eqb-true, eqb-false}
+use Rattle.codes.specs.OneOf.{oneOf}
 use Rattle.codes.specs.Table.{meaningOf}
 use Rattle.codes.specs.declared.Command.{Command}
 use Rattle.codes.proofs.Tests.{chosen}
 use Rattle.codes.proofs.Others.{sortOf}
 use Rattle.constants.specs.Sizes.{lastColumn, pages, memorySize}
-use Rattle.constants.specs.Numbers.{taken, outOfRange, outsideTable, noPage, notAllowed, codeAwaited, columnAbove}
+use Rattle.constants.specs.Numbers.{taken, outOfRange, outsideTable, noPage, notAllowed, codeAwaited, columnAbove, testMode}
 use Rattle.bus.specs.Events.{numberOf, obeyed, command, access, write, read, resetPin}
 use Rattle.bus.specs.Chip.{Event, commandByte, dataWritten, dataRead, resetPulse, step, Leaves}
+use Rattle.bus.specs.Given.{callNumbers}
 use Rattle.bus.specs.declared.registers.Registers.{Registers}
 use Rattle.bus.specs.declared.answer.After.{After}
 use Rattle.bus.specs.declared.answer.Answer.{Answer}
 
--- an answer stands for a number: taken for 0, or refused with it, and then it is one of 1 to 7
+-- a number that the call of an event can give
+abbrev pub Callable : ℕ → Type 0
+Callable number = oneOf callNumbers number ≡ true
+
+-- an answer stands for a number: taken for 0, or refused with it, and then it is a call's and not 0
 abbrev pub StandsFor : ℕ → Answer → Type 0
 StandsFor number (Answer.Taken after) = number ≡ taken
-StandsFor number (Answer.Refused refusal) = (number ≡ refusal) × (taken < refusal) × (refusal ≤ columnAbove)
+StandsFor number (Answer.Refused refusal) = (number ≡ refusal) × (taken < refusal) × Callable refusal
 
 -- a taken event that is no read answers byte 0 and not "dummy"
 abbrev pub Silent : Answer → Type 0
 Silent (Answer.Taken after) = (after .byte ≡ 0) × (after .dummy ≡ false)
 Silent (Answer.Refused number) = Unit {0}
 
--- the number of a named command: 0 of one that the table has, 4 of B9-BF, 5 of an n that is not allowed, 2 of one whose code is none of the seven, 3 of a byte outside
+-- the number of a named command: 0 of one that the table has, 4 of B9-BF, 5 of an n that is not allowed, 2 of one whose code is none of the seven, 3 of a byte outside, 15 of test mode
 abbrev pub numberOfCommand : Command → ℕ
-numberOfCommand named = getD (taken ∷ noPage ∷ notAllowed ∷ outOfRange ∷ outsideTable ∷ []) (sortOf named) taken
+numberOfCommand named = getD (taken ∷ noPage ∷ notAllowed ∷ outOfRange ∷ outsideTable ∷ testMode ∷ []) (sortOf named) taken
 
 -- what the registers of a legal state meet
 abbrev pub numberOfEvent : Event → Registers → ℕ
@@ -67,7 +73,7 @@ obeyed-answers Command.IndicatorOff r = (refl, (refl, refl), refl)
 obeyed-answers (Command.IndicatorMode value) r = (refl, (refl, refl), refl)
 obeyed-answers (Command.DisplayOn value) r = (refl, (refl, refl), refl)
 obeyed-answers (Command.Page value) r = (refl, (refl, refl), refl)
-obeyed-answers Command.NoPage r = ((refl, lit≤ tt, lit≤ tt), tt, tt)
+obeyed-answers Command.NoPage r = ((refl, lit≤ tt, refl), tt, tt)
 obeyed-answers (Command.RowDirection value) r = (refl, (refl, refl), refl)
 obeyed-answers (Command.Offset value) r = (refl, (refl, refl), refl)
 obeyed-answers (Command.FramePhases value) r = (refl, (refl, refl), refl)
@@ -76,22 +82,20 @@ obeyed-answers Command.SoftwareReset r = (refl, (refl, refl), refl)
 obeyed-answers Command.Nothing r = (refl, (refl, refl), refl)
 obeyed-answers Command.LeaveReadModifyWrite r = (refl, (refl, refl), refl)
 obeyed-answers (Command.Await value) r = (refl, (refl, refl), refl)
-obeyed-answers Command.NotAllowed r = ((refl, lit≤ tt, lit≤ tt), tt, tt)
-obeyed-answers Command.NotAwaited r = ((refl, lit≤ tt, lit≤ tt), tt, tt)
-obeyed-answers Command.Outside r = ((refl, lit≤ tt, lit≤ tt), tt, tt)
+obeyed-answers Command.NotAllowed r = ((refl, lit≤ tt, refl), tt, tt)
+obeyed-answers Command.NotAwaited r = ((refl, lit≤ tt, refl), tt, tt)
+obeyed-answers Command.TestMode r = ((refl, lit≤ tt, refl), tt, tt)
+obeyed-answers Command.Outside r = ((refl, lit≤ tt, refl), tt, tt)
 
-abbrev Small : ℕ → Type 0
-Small number = number ≤ columnAbove
-
--- what a data event meets is 0 or one of 1 to 7
-access-bound : (r : Registers) (size : ℕ) → access r size ≤ columnAbove
+-- what a data event meets is a call's number
+access-callable : (r : Registers) (size : ℕ) → Callable (access r size)
 unfolding access
-access-bound r size =
-    chosen Small (ltb size memorySize) _ _ (λ e. lit≤ tt)
-    (λ e. chosen Small (ltb (r .page) pages) _ _ (λ e. chosen Small (eqb (r .awaited) 0) _ _ (λ e. chosen Small (leb (r .column) lastColumn) _ _ (λ e. lit≤ tt) (λ e. lit≤ tt)) (λ e. lit≤ tt)) (λ e. lit≤ tt))
+access-callable r size =
+    chosen Callable (ltb size memorySize) _ _ (λ e. refl)
+    (λ e. chosen Callable (ltb (r .page) pages) _ _ (λ e. chosen Callable (eqb (r .awaited) 0) _ _ (λ e. chosen Callable (leb (r .column) lastColumn) _ _ (λ e. refl) (λ e. refl)) (λ e. refl)) (λ e. refl))
 
 -- an event that is taken where a number is 0 and else refused with it
-guarded : (number : ℕ) (answer : Answer) → number ≤ columnAbove → StandsFor taken answer → StandsFor number (cond (eqb number taken) answer (Answer.Refused number))
+guarded : (number : ℕ) (answer : Answer) → Callable number → StandsFor taken answer → StandsFor number (cond (eqb number taken) answer (Answer.Refused number))
 guarded number answer h p =
     chosen (StandsFor number) (eqb number taken) answer (Answer.Refused number)
     (λ e. rw (eqb-true number taken e) p)
@@ -107,8 +111,8 @@ metBy resetPulse r size = taken
 pub step-answers : (event : Event) (r : Registers) (memory : List ℕ) → StandsFor (metBy event r (length memory)) (step event r memory .answer)
 unfolding step command write read resetPin
 step-answers (commandByte b) r memory = obeyed-answers (meaningOf (r .awaited) b) _ .0
-step-answers (dataWritten b) r memory = guarded (access r (length memory)) _ (access-bound r (length memory)) refl
-step-answers dataRead r memory = guarded (access r (length memory)) _ (access-bound r (length memory)) (chosen (StandsFor taken) (eqb (r .fresh) 1) _ _ (λ e. refl) (λ e. refl))
+step-answers (dataWritten b) r memory = guarded (access r (length memory)) _ (access-callable r (length memory)) refl
+step-answers dataRead r memory = guarded (access r (length memory)) _ (access-callable r (length memory)) (chosen (StandsFor taken) (eqb (r .fresh) 1) _ _ (λ e. refl) (λ e. refl))
 step-answers resetPulse r memory = refl
 
 -- every event but a read is silent

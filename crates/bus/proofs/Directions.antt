@@ -97,6 +97,7 @@ module _ (a b c d : ℕ) where
     obeyed-alike (Command.Await code) = (refl, refl, (refl, λ e. e, λ e. e))
     obeyed-alike Command.NotAllowed = refl
     obeyed-alike Command.NotAwaited = refl
+    obeyed-alike Command.TestMode = refl
     obeyed-alike Command.Outside = refl
 
     -- a data event that is refused with a number, or taken

@@ -197,6 +197,7 @@ obeyed-keeps (Command.Await code) r h l =
     (record { inRanges = put r awaited code (l .inRanges) (one-of-at-most 255 (codesOf table) code refl h); code = code-legal code h; savedZero = l .savedZero })
 obeyed-keeps Command.NotAllowed r h l = tt
 obeyed-keeps Command.NotAwaited r h l = tt
+obeyed-keeps Command.TestMode r h l = tt
 obeyed-keeps Command.Outside r h l = tt
 
 -- registers that await no code any more

@@ -1,7 +1,7 @@
 -- The reply that a call gives, with its number by the tests that lead to it; and that no event on a legal state meets 1 or 2.
 -- Assumes nothing.
 use mathlib.Core.Path.{_≡_, refl, sym, _∙_, ap, subst}
-use mathlib.Core.Bool.{Bool, true, false, cond, not, _&&_, _||_, or-true, false≢true}
+use mathlib.Core.Bool.{Bool, true, false, cond, not, _&&_, _||_, or-true, and-false, false≢true}
 use mathlib.Core.List.{List, [], _∷_}
 use Prim.Native.Nat.{ℕ, _/_, _≤_, _<_}
 use native.Mathlib.Decide.{decLt}
@@ -16,7 +16,7 @@ use Rattle.codes.specs.declared.Command.{Command}
 use Rattle.codes.proofs.Tests.{chosen, one-of-each}
 use Rattle.codes.proofs.Others.{sort-listed, past-all}
 use Rattle.constants.specs.Sizes.{lastColumn, pages, memorySize}
-use Rattle.constants.specs.Numbers.{taken, tooShort, outOfRange, outsideTable, noPage, notAllowed}
+use Rattle.constants.specs.Numbers.{taken, tooShort, outOfRange, outsideTable, noPage, notAllowed, testMode}
 use Rattle.bus.specs.Registers.{largestValues, registersOf}
 use Rattle.bus.specs.Memory.{address, kept}
 use Rattle.bus.specs.Events.{numberOf, byteOf, dummyOf, access, dummyRead, byteRead, read}
@@ -149,20 +149,31 @@ NamesNeither named = Neither (numberOfCommand named)
 abbrev pub isOther : ℕ → Bool
 isOther b = among others b || leb 256 b
 
+abbrev pub isTest : ℕ → Bool
+isTest b = leb 0xF0 b && leb b 0xFF
+
 abbrev pub namesNoPage : ℕ → Bool
 namesNoPage b = leb 0xB9 b && leb b 0xBF
 
-by-lists : (o p : Bool) → getD (taken ∷ noPage ∷ notAllowed ∷ outOfRange ∷ outsideTable ∷ []) (cond o 4 (cond p 1 0)) taken ≡ cond (o || false) outsideTable (cond p noPage taken)
-by-lists true p = refl
-by-lists false true = refl
-by-lists false false = refl
+-- the number by these tests
+abbrev pub numberByLists : Bool → Bool → Bool → ℕ
+numberByLists other test noneNamed = cond other (cond test testMode outsideTable) (cond noneNamed noPage taken)
 
-pub first-number : (b : ℕ) → numberOfCommand (commandOf b) ≡ cond (isOther b) outsideTable (cond (namesNoPage b) noPage taken)
+by-lists : (o t p : Bool) → getD (taken ∷ noPage ∷ notAllowed ∷ outOfRange ∷ outsideTable ∷ testMode ∷ []) (cond o (cond t 5 4) (cond p 1 0)) taken ≡ numberByLists (o || false) t p
+by-lists true true p = refl
+by-lists true false p = refl
+by-lists false t true = refl
+by-lists false t false = refl
+
+pub first-number : (b : ℕ) → numberOfCommand (commandOf b) ≡ numberByLists (isOther b) (isTest b) (namesNoPage b)
 first-number b = by (decLt b 256)
   where
-    by : Dec (b < 256) → numberOfCommand (commandOf b) ≡ cond (isOther b) outsideTable (cond (namesNoPage b) noPage taken)
-    by (yes h) = rw (sort-listed b h, lt-leb 256 b h) (by-lists (among others b) (namesNoPage b))
-    by (no h) = let past : 256 ≤ b = omega (arith, h) in rw (← (past-all b past), le-leb 256 b past, or-true (among others b))
+    by : Dec (b < 256) → numberOfCommand (commandOf b) ≡ numberByLists (isOther b) (isTest b) (namesNoPage b)
+    by (yes h) = rw (sort-listed b h, lt-leb 256 b h) (by-lists (among others b) (isTest b) (namesNoPage b))
+    by (no h) =
+        let past : 256 ≤ b = omega (arith, h) in
+        let test : isTest b ≡ false = rw (lt-leb b 0xFF (omega (arith, h))) (and-false (leb 0xF0 b)) in
+        rw (← (past-all b past), le-leb 256 b past, or-true (among others b), test)
 
 -- an n that its code allows
 abbrev pub allows : ℕ → ℕ → Bool
@@ -181,7 +192,7 @@ second-number code n h none =
 
 -- no command byte is refused with 1 or 2 where its code may be awaited
 command-neither : (b : ℕ) → NamesNeither (commandOf b)
-command-neither b = rw (first-number b) (chosen Neither (isOther b) _ _ (λ e. refl) (λ e. chosen Neither (namesNoPage b) _ _ (λ e. refl) (λ e. refl)))
+command-neither b = rw (first-number b) (chosen Neither (isOther b) _ _ (λ e. chosen Neither (isTest b) _ _ (λ e. refl) (λ e. refl)) (λ e. chosen Neither (namesNoPage b) _ _ (λ e. refl) (λ e. refl)))
 
 operand-neither : (code n : ℕ) → oneOf awaitedCodes code ≡ true → eqb code 0 ≡ false → NamesNeither (operandOf code n)
 operand-neither code n h none = rw (second-number code n h none) (chosen Neither (allows code n) _ _ (λ e. refl) (λ e. refl))

@@ -7,7 +7,7 @@ use lib.ListN.{length, getD, set}
 use Rattle.codes.specs.Table.{meaningOf}
 use Rattle.codes.specs.declared.Command.{Command}
 use Rattle.constants.specs.Sizes.{lastColumn, pages, memorySize}
-use Rattle.constants.specs.Numbers.{taken, tooShort, outOfRange, outsideTable, noPage, notAllowed, codeAwaited, columnAbove}
+use Rattle.constants.specs.Numbers.{taken, tooShort, outOfRange, outsideTable, noPage, notAllowed, codeAwaited, columnAbove, testMode}
 use Rattle.bus.specs.Places.{page, column, startLine, offset, multiplex, contrast, ratio, power, bias, quarter, held, phases, columnDirection, rowDirection, entire, reverse, on, indicator, mode, awaited, modify, saved, fresh}
 use Rattle.bus.specs.Registers.{_with_≔_, powerOn}
 use Rattle.bus.specs.Memory.{address, kept, onward}
@@ -78,6 +78,7 @@ obeyed Command.LeaveReadModifyWrite r = commandTaken (leave r)
 obeyed (Command.Await code) r = commandTaken (r with awaited ≔ code)
 obeyed Command.NotAllowed r = Answer.Refused notAllowed
 obeyed Command.NotAwaited r = Answer.Refused outOfRange
+obeyed Command.TestMode r = Answer.Refused testMode
 obeyed Command.Outside r = Answer.Refused outsideTable
 
 -- A command byte: once it is taken the awaited code is 00, as it was where none was awaited, unless the byte itself is a code that awaits n.

@@ -12,6 +12,7 @@ use constants::refusal::NO_PAGE;
 use constants::refusal::NOT_ALLOWED;
 use constants::refusal::OUT_OF_RANGE;
 use constants::refusal::OUTSIDE_TABLE;
+use constants::refusal::TEST_MODE;
 
 impl Registers {
     // A command byte: a command where no code is awaited, else the n of the awaited code.
@@ -69,6 +70,7 @@ impl Registers {
             Command::Await(code) => self.awaited = code,
             Command::NotAllowed => return Answer::Refused(NOT_ALLOWED),
             Command::NotAwaited => return Answer::Refused(OUT_OF_RANGE),
+            Command::TestMode => return Answer::Refused(TEST_MODE),
             Command::Outside => return Answer::Refused(OUTSIDE_TABLE),
         }
         self.fresh = 1;

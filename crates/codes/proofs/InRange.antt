@@ -30,7 +30,7 @@ carried-by (two code gives ∷ rows) b s =
 sound : Sound table
 unfolding table codesOf
 sound =
-    (λ b low high. omega arith, (λ b low high. omega arith, (λ b low high. omega arith, (λ b low high. omega arith, (λ b low high. omega arith, (refl, (λ b low high. omega arith, (λ b low high. omega arith, (λ b low high. omega arith, (λ b low high. omega arith, (refl, (refl, (λ b low high. omega arith, (λ b low high. tt, (refl, (λ b low high. omega arith, (λ b low high. omega arith, (λ b low high. tt, (λ b low high. omega arith, (λ b low high. omega arith, (refl, (refl, (λ b low high. tt, (λ b low high. tt, (λ b low high. tt, (λ b low high. tt, tt))))))))))))))))))))))))))
+    (λ b low high. omega arith, (λ b low high. omega arith, (λ b low high. omega arith, (λ b low high. omega arith, (λ b low high. omega arith, (refl, (λ b low high. omega arith, (λ b low high. omega arith, (λ b low high. omega arith, (λ b low high. omega arith, (refl, (refl, (λ b low high. omega arith, (λ b low high. tt, (refl, (λ b low high. omega arith, (λ b low high. omega arith, (λ b low high. tt, (λ b low high. omega arith, (λ b low high. omega arith, (refl, (refl, (λ b low high. tt, (λ b low high. tt, (λ b low high. tt, (λ b low high. tt, (λ b low high. tt, tt)))))))))))))))))))))))))))
 
 pub command-in-range : (b : ℕ) → CommandInRange (commandOf b)
 unfolding commandOf

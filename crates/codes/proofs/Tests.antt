@@ -1,7 +1,7 @@
 -- Laws on tests that every layer uses: a test that fails, the two halves of one that holds, and membership in a list of codes.
 -- Assumes nothing.
-use mathlib.Core.Path.{_≡_, refl, sym, subst}
-use mathlib.Core.Bool.{Bool, true, false, cond, _&&_, _||_, false≢true}
+use mathlib.Core.Path.{_≡_, refl, sym, _∙_, subst}
+use mathlib.Core.Bool.{Bool, true, false, cond, _&&_, _||_, or-true, false≢true}
 use mathlib.Core.Logic.{_⊎_, inl, inr, ⊎-elim}
 use mathlib.Core.List.{List, [], _∷_}
 use Prim.Native.Nat.{ℕ, _≤_}
@@ -26,6 +26,14 @@ chosen P false x y p q = q refl
 pub either : (s t : Bool) → (s || t) ≡ true → (s ≡ true) ⊎ (t ≡ true)
 either true t e = inl refl
 either false t e = inr e
+
+-- a number of a list is none that the list does not have
+pub not-listed : (ms : List ℕ) {n : ℕ} (m : ℕ) → n ≡ m → oneOf ms m ≡ false → oneOf ms n ≡ true → ⊥
+not-listed ms m e p q = false≢true (sym p ∙ rw e at q)
+
+-- a number of a list is one of a longer list
+pub listed-later : (m : ℕ) (ms : List ℕ) (n : ℕ) → oneOf ms n ≡ true → oneOf (m ∷ ms) n ≡ true
+listed-later m ms n e = rw e (or-true (eqb n m))
 
 -- every number of the list is at most x
 abbrev pub atMost : ℕ → List ℕ → Bool

@@ -1,4 +1,4 @@
--- Document 01, "Command bytes (hex)": its table, row by row, with B9-BF after the pages that they do not name, and how a byte is looked up in it.
+-- Document 01, "Command bytes (hex)": its table, row by row, with B9-BF after the pages that they do not name and document 02's test mode (Order 6) at its end, and how a byte is looked up in it.
 use Prim.Native.Nat.{ℕ, _/_, _%_}
 use mathlib.Core.Bool.{cond, _&&_}
 use mathlib.Core.List.{List, [], _∷_}
@@ -48,6 +48,7 @@ table =
     one 0xE2 0xE2 (λ b. Command.SoftwareReset) ∷
     one 0xE3 0xE3 (λ b. Command.Nothing) ∷
     one 0xEE 0xEE (λ b. Command.LeaveReadModifyWrite) ∷
+    one 0xF0 0xFF (λ b. Command.TestMode) ∷
     []
 
 -- The command that a byte is by the first row that has it; a code that wants n is awaited; a byte in no row is outside.

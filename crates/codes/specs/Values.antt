@@ -43,6 +43,7 @@ CommandInRange Command.LeaveReadModifyWrite = Unit {0}
 CommandInRange (Command.Await code) = oneOf (codesOf table) code ≡ true
 CommandInRange Command.NotAllowed = Unit {0}
 CommandInRange Command.NotAwaited = Unit {0}
+CommandInRange Command.TestMode = Unit {0}
 CommandInRange Command.Outside = Unit {0}
 
 -- Every command byte, named, carries a value in its range, whatever code is awaited.

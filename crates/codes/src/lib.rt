@@ -36,7 +36,9 @@ pub enum Command {
     NotAllowed,
     // An n where the code is none that awaits n.
     NotAwaited,
-    // A byte outside the table: reserved, test or not modelled.
+    // F0 to FF, which would put a real chip in test mode.
+    TestMode,
+    // Any other byte outside the table: reserved or not modelled.
     Outside,
 }
 
@@ -90,9 +92,10 @@ fn command_of(byte: u8) -> Command
         0xE2 => Command::SoftwareReset,
         0xE3 => Command::Nothing,
         0xEE => Command::LeaveReadModifyWrite,
+        0xF0..=0xFF => Command::TestMode,
         0x30..=0x3F | 0x80 | 0x82..=0x9F => Command::Outside,
         0xD0..=0xD2 | 0xD5..=0xDF => Command::Outside,
-        0xE1 | 0xE4..=0xED | 0xEF | 0xF0..=0xFF => Command::Outside,
+        0xE1 | 0xE4..=0xED | 0xEF => Command::Outside,
     }
 }
 

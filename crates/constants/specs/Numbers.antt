@@ -12,7 +12,7 @@ tooShort = 1
 abbrev pub outOfRange : ℕ
 outOfRange = 2
 
--- a command byte outside the table, B9 to BF apart, with no code awaited
+-- a command byte outside the table, B9 to BF and F0 to FF apart, with no code awaited
 abbrev pub outsideTable : ℕ
 outsideTable = 3
 
@@ -59,3 +59,7 @@ noSelection = 13
 -- a read with both chips selected
 abbrev pub bothSelected : ℕ
 bothSelected = 14
+
+-- a command byte F0 to FF, test mode, with no code awaited, in the place of 3
+abbrev pub testMode : ℕ
+testMode = 15

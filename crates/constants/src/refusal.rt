@@ -5,7 +5,7 @@ pub const TAKEN: u8 = 0;
 pub const TOO_SHORT: u8 = 1;
 // The state image is out of its ranges.
 pub const OUT_OF_RANGE: u8 = 2;
-// A command byte outside the table, B9 to BF apart, with no code awaited.
+// A command byte outside the table, B9 to BF and F0 to FF apart, with no code awaited.
 pub const OUTSIDE_TABLE: u8 = 3;
 // B9 to BF with no code awaited; a page above 8 in the page call.
 pub const NO_PAGE: u8 = 4;
@@ -29,3 +29,5 @@ pub const FRAME_BYTE_ABOVE: u8 = 12;
 pub const NO_SELECTION: u8 = 13;
 // A read with both chips selected.
 pub const BOTH_SELECTED: u8 = 14;
+// A command byte F0 to FF, test mode, with no code awaited.
+pub const TEST_MODE: u8 = 15;

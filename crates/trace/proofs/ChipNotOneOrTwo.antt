@@ -75,6 +75,7 @@ obeyed-leaves Command.LeaveReadModifyWrite r h l = chosen (λ (s : Registers). A
 obeyed-leaves (Command.Await code) r h l = (is-code code h, l .1)
 obeyed-leaves Command.NotAllowed r h l = tt
 obeyed-leaves Command.NotAwaited r h l = tt
+obeyed-leaves Command.TestMode r h l = tt
 obeyed-leaves Command.Outside r h l = tt
 
 -- the n of an awaited code, which may be any number

@@ -4,17 +4,17 @@ use mathlib.Core.Path.{_≡_, refl, subst, sym}
 use mathlib.Core.Bool.{Bool, true, false, cond, _||_, not}
 use mathlib.Core.List.{List}
 use mathlib.Core.Logic.{_≢_}
-use Prim.Native.Nat.{ℕ, _≤_, _<_}
+use Prim.Native.Nat.{ℕ, _<_}
 use native.Mathlib.Omega.{arith}
 use borrow.Author.Tests.{eqb-false, ne-eqb}
 use lib.Dec.{eqb}
-use Rattle.constants.specs.Numbers.{taken, columnAbove, kindUnknown, readDiffers}
+use Rattle.constants.specs.Numbers.{taken, kindUnknown, readDiffers}
 use Rattle.bus.specs.Chip.{Chip, dataRead, step}
 use Rattle.bus.specs.declared.answer.After.{After}
 use Rattle.bus.specs.declared.answer.Answer.{Answer}
 use Rattle.bus.specs.Events.{numberOf, byteOf, dummyOf}
 use Rattle.bus.specs.Calls.{replyOf}
-use Rattle.bus.proofs.Answers.{StandsFor, step-answers}
+use Rattle.bus.proofs.Answers.{Callable, StandsFor, step-answers}
 use Rattle.trace.specs.Play.{Result, refuses, gives}
 use Rattle.trace.specs.Kinds.{Recorded, event, readAs, chipOf, happened, compared, replay, theChip}
 use Rattle.trace.specs.AnyMachine.{Sound}
@@ -34,9 +34,9 @@ headed (reads k) = tt
 headed (reset k e) = tt
 headed (none n) = refl
 
--- an event is refused with its answer's number, 1 to 7, or with 10: it is a read, taken and no dummy, and answers another byte
+-- an event is refused with its answer's number, which is a call's, or with 10: it is a read, taken and no dummy, and answers another byte
 pub data Refusal (recorded : Recorded) (c : Chip) (number : ℕ) : Type 0 where
-  own : taken < number → number ≤ columnAbove → Refusal recorded c number
+  own : taken < number → Callable number → Refusal recorded c number
   differing : (byte : ℕ) (after : After) → recorded ≡ readAs byte → step dataRead (c .registers) (c .memory) .answer ≡ Answer.Taken after → after .dummy ≡ false → (after .byte ≡ byte → ⊥) → number ≡ readDiffers → Refusal recorded c number
 
 event-refusal : (recorded : Recorded) (c : Chip) (number : ℕ) (answer : Answer) (memory : List ℕ) → StandsFor number answer → Refusing (Refusal recorded c) (happened answer memory)

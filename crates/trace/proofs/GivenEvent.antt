@@ -1,8 +1,8 @@
--- A run gives 3 to 7 and 10 exactly when an event is refused, at its byte, and leaves what the bytes before it leave.
+-- A run gives 3 to 7, 10 and 15 exactly when an event is refused, at its byte, and leaves what the bytes before it leave.
 -- Assumes nothing.
 use mathlib.Core.Path.{_≡_, refl, sym, _∙_, ap, subst}
 use mathlib.Core.Logic.{_≢_}
-use mathlib.Core.Bool.{Bool, true, false, cond, not, _&&_, _||_, false≢true}
+use mathlib.Core.Bool.{Bool, true, false, cond, not, _&&_, _||_}
 use mathlib.Core.List.{List, [], _++_, map, append-nil}
 use Prim.Native.Nat.{ℕ, _+_, _-_, _≤_}
 use native.Mathlib.Omega.{arith}
@@ -11,24 +11,25 @@ use lib.Dec.{eqb}
 use lib.ListN.{length, getD, take, drop}
 use lib.Seq.{slice}
 use Rattle.codes.specs.OneOf.{oneOf}
-use Rattle.constants.specs.Numbers.{taken, columnAbove, headerCut, kindUnknown, readDiffers}
+use Rattle.codes.proofs.Tests.{not-listed, one-of-each}
+use Rattle.constants.specs.Numbers.{taken, headerCut, kindUnknown, readDiffers}
 use Rattle.constants.specs.Sizes.{headerSize}
-use Rattle.bus.specs.Chip.{Chip, Event, step}
-use Rattle.bus.specs.Events.{numberOf}
-use Rattle.bus.specs.Calls.{Called, replyOf, refused, concluded, askedBefore, callOn, call}
+use Rattle.bus.specs.Chip.{Chip, step}
+use Rattle.bus.specs.Calls.{Called, replyOf, concluded, call}
+use Rattle.bus.specs.Given.{callNumbers}
+use Rattle.bus.specs.Image.{Accepted}
 use Rattle.bus.specs.Bytes.{All, Bytes}
-use Rattle.bus.specs.declared.answer.Answer.{Answer}
-use Rattle.bus.specs.declared.image.Asked.{Asked}
 use Rattle.bus.specs.declared.calls.Reply.{Reply}
-use Rattle.bus.proofs.Answers.{StandsFor, step-answers}
-use Rattle.bus.proofs.Asking.{OneOrTwo, before-refusal}
-use Rattle.bus.proofs.Stored.{call-stored}
-use Rattle.trace.specs.Records.{lengthOf, kindOf, recordBytes, recordAt, splitFrom, split}
+use Rattle.bus.proofs.Answers.{Callable}
+use Rattle.bus.proofs.Asking.{found-legal}
+use Rattle.bus.proofs.Given.{given}
+use Rattle.bus.proofs.Stored.{call-stored, asked-stored}
+use Rattle.trace.specs.Records.{lengthOf, kindOf, whole, recordBytes, recordAt, splitFrom, split}
 use Rattle.trace.specs.Play.{refuses, Ending, stopped, done, played, onEnding, playEvents, playRecord, playFrom, play}
 use Rattle.trace.specs.Kinds.{Recorded, readAs, recordedCommand, recordedWrite, replay, chipOf, theChip}
 use Rattle.trace.specs.ByCalls.{calledBy, meets}
 use Rattle.trace.specs.Run.{Ran, ran, stopOf, ranOf, run}
-use Rattle.trace.specs.Given.{recordedBy, ranBefore, replyThere, metThere, EventRefused, ReadDiffers, eventNumbers}
+use Rattle.trace.specs.Given.{recordedBy, ranBefore, replyThere, metThere, EventRefused, ReadDiffers, recordedNumbers, runNumbers}
 use Rattle.trace.specs.AnyMachine.{Gives, further}
 use Rattle.trace.proofs.PlayedFurther.{plays-stop, endingFurther, events-further, is-done}
 use Rattle.trace.proofs.PlayedJoined.{Stops, events-stop, joined}
@@ -42,16 +43,22 @@ use Rattle.trace.proofs.RunOnLent.{fits, run-found, left-held}
 use Rattle.trace.proofs.ChipKinds.{each-byte, its-bytes}
 use Rattle.trace.proofs.RunStops.{Standing, standing, ran-there, ran-on, RunStop, notAsked, nowhere, whereCut, atItsKind, atItsByte, header-at}
 
--- the number that an event is refused with is no header's, and at most 10
+-- the number that an event is refused with is no header's, and a run's
 pub record OfEvent (number : ℕ) : Type 0 where
   pub notTaken : number ≡ taken → ⊥
   pub notCut : number ≡ headerCut → ⊥
   pub notKind : number ≡ kindUnknown → ⊥
-  pub most : number ≤ readDiffers
+  pub listed : oneOf runNumbers number ≡ true
 
 pub of-event : {recorded : Recorded} {c : Chip} {number : ℕ} → Refusal recorded c number → OfEvent number
-of-event (own p q) = record { notTaken = λ e. omega arith; notCut = λ e. omega arith; notKind = λ e. omega arith; most = omega arith }
-of-event (differing byte after r a d b n) = record { notTaken = λ e. omega arith; notCut = λ e. omega arith; notKind = λ e. omega arith; most = omega arith }
+of-event {number = number} (own p q) =
+    record {
+      notTaken = λ e. omega arith;
+      notCut = λ e. not-listed callNumbers headerCut e refl q;
+      notKind = λ e. not-listed callNumbers kindUnknown e refl q;
+      listed = one-of-each (λ (n : ℕ). oneOf runNumbers n ≡ true) callNumbers number (refl, (refl, (refl, (refl, (refl, (refl, (refl, (refl, (refl, tt))))))))) q;
+    }
+of-event (differing byte after r a d b n) = record { notTaken = λ e. omega arith; notCut = λ e. omega arith; notKind = λ e. omega arith; listed = rw n }
 
 module _ (state memory trace : List ℕ) where
   -- the bytes of a record that stands at a place, up to an offset
@@ -106,6 +113,14 @@ module _ (state memory trace : List ℕ) where
             ap (λ (before : Ran). call (calledBy recorded) (before .state) (before .memory) .reply) before-ran ∙
             ap (λ (c : Called). c .reply) (call-stored state (size .image) (calledBy recorded) (d .registers) (d .memory) (before-held .registers) (omega (arith, before-held .size, size .display)))
 
+        -- and legal too is the image that they leave
+        before-accepted : Accepted (ranBefore state memory trace at offset .state) (ranBefore state memory trace at offset .memory)
+        unfolding ranOf
+        before-accepted =
+            let size = fits state memory (here .registers) (here .found) in
+            let legal = found-legal _ _ (asked-stored state (size .image) (d .memory) (d .registers) (omega (arith, before-held .size, size .display)) (before-held .registers)) in
+            rw before-ran (record { longEnough = legal .0; inRanges = legal .1 })
+
     -- and where that run is taken, they are done
     before-done : ranBefore state memory trace at offset .stop .number ≡ taken → AreDone at offset here
     unfolding ranOf
@@ -115,20 +130,16 @@ module _ (state memory trace : List ℕ) where
         by (done d) e = record { chip = d; bytes = same-bytes ∙ rw e }
         by (stopped number o t) e = absurd (subst (Stops theChip the-chip-sound) e (events-stop theChip the-chip-sound (map (recordedBy kind) part) headerSize (here .chip)) (rw (before-is, e) at n))
 
-  -- a number of no event
-  no-event : {number : ℕ} (n : ℕ) → number ≡ n → oneOf eventNumbers n ≡ false → oneOf eventNumbers number ≡ true → ⊥
-  no-event n e p q = false≢true (sym p ∙ rw e at q)
-
-  pub is-event : Bytes trace → {number offset : ℕ} → RunStop state memory trace number offset → oneOf eventNumbers number ≡ true → EventRefused state memory trace number offset
+  pub is-event : Bytes trace → {number offset : ℕ} → RunStop state memory trace number offset → oneOf recordedNumbers number ≡ true → EventRefused state memory trace number offset
   unfolding ranOf
   is-event bytes {number} (notAsked p q) n = absurd (by (eqb number 1) refl)
     where
       by : (b : Bool) → eqb number 1 ≡ b → ⊥
-      by true e = no-event 1 (eqb-true number 1 e) refl n
-      by false e = no-event {number = number} 2 (omega (arith, eqb-false number 1 e)) refl n
-  is-event bytes (nowhere p) n = absurd (no-event taken p refl n)
-  is-event bytes (whereCut h m) n = absurd (no-event headerCut m refl n)
-  is-event bytes (atItsKind h m) n = absurd (no-event kindUnknown m refl n)
+      by true e = not-listed recordedNumbers 1 (eqb-true number 1 e) refl n
+      by false e = not-listed recordedNumbers {n = number} 2 (omega (arith, eqb-false number 1 e)) refl n
+  is-event bytes (nowhere p) n = absurd (not-listed recordedNumbers taken p refl n)
+  is-event bytes (whereCut h m) n = absurd (not-listed recordedNumbers headerCut m refl n)
+  is-event bytes (atItsKind h m) n = absurd (not-listed recordedNumbers kindUnknown m refl n)
   is-event bytes {number} {offset} (atItsByte at here d w p q s) n =
       let recorded = recordedBy (kindOf (drop at trace)) (getD trace offset 0) in
       record {
@@ -143,6 +154,14 @@ module _ (state memory trace : List ℕ) where
         refused = of-event (refused-event recorded d number (s .refused)) .notTaken;
         met = ap (meets recorded) (reply-there at offset here p q d (s .before) bytes recorded) ∙ refused-met recorded d number (s .refused);
       }
+
+  -- where the bytes before an offset of a record are taken, they leave a legal image
+  pub accepted-before : Bytes trace → (at offset : ℕ) → run state memory (take at trace) .stop .number ≡ taken → whole (drop at trace) ≡ true → 1 ≤ kindOf (drop at trace) → kindOf (drop at trace) ≤ 3
+      → ranBefore state memory trace at offset .stop .number ≡ taken → Accepted (ranBefore state memory trace at offset .state) (ranBefore state memory trace at offset .memory)
+  accepted-before bytes at offset header complete from to taken =
+      let here = standing state memory trace at (where-left trace at (whole-left trace at complete)) header in
+      let early = before-done at offset here from to taken in
+      before-accepted at offset here from to (early .chip) (early .bytes) bytes
 
   -- the event has not happened: the run leaves what the bytes before it leave
   pub event-leaves : Bytes trace → (number offset : ℕ) (h : EventRefused state memory trace number offset) → run state memory trace ≡ ran (stopOf number offset (run state memory (take (h .place) trace) .stop .count)) (ranBefore state memory trace (h .place) offset .state) (ranBefore state memory trace (h .place) offset .memory)
@@ -166,17 +185,8 @@ module _ (state memory trace : List ℕ) where
       ran-on state memory trace at here (plays-stop trace at theChip (here .count) (here .chip) _ front number offset d stop) ∙ rw (ran-there state memory trace at here, before-ran at offset here (h .kindFrom) (h .kindTo) d (early .bytes))
 
 -- no call replies 10
-call-most : (e : Event) (state memory : List ℕ) → call e state memory .reply .number ≤ columnAbove
-unfolding call callOn concluded refused replyOf numberOf
-call-most e state memory = on (askedBefore e state memory) (before-refusal e state memory)
-  where
-    after : (met : ℕ) (answer : Answer) → StandsFor met answer → numberOf answer ≤ columnAbove
-    after met (Answer.Taken t) s = omega arith
-    after met (Answer.Refused number) s = s .2
-
-    on : (asking : Asked) → OneOrTwo asking → callOn asking e state memory .reply .number ≤ columnAbove
-    on (Asked.Found r) h = after _ (step e r memory .answer) (step-answers e r memory)
-    on (Asked.Refused number) h = omega (arith, h .1)
+never-ten : {number : ℕ} → Callable number → number ≡ readDiffers → ⊥
+never-ten m e = not-listed callNumbers readDiffers e refl m
 
 -- an event that meets 10 is a read that is taken, no dummy, and answers another byte
 record Differing (kind byte : ℕ) (reply : Reply) : Type 0 where
@@ -185,19 +195,19 @@ record Differing (kind byte : ℕ) (reply : Reply) : Type 0 where
   compared : reply .dummy ≡ false
   differs : reply .byte ≢ byte
 
-differing-read : (byte : ℕ) (reply : Reply) (t d b : Bool) → eqb (reply .number) taken ≡ t → reply .dummy ≡ d → eqb (reply .byte) byte ≡ b → reply .number ≤ columnAbove → cond (t && not (d || b)) readDiffers (reply .number) ≡ readDiffers
+differing-read : (byte : ℕ) (reply : Reply) (t d b : Bool) → eqb (reply .number) taken ≡ t → reply .dummy ≡ d → eqb (reply .byte) byte ≡ b → Callable (reply .number) → cond (t && not (d || b)) readDiffers (reply .number) ≡ readDiffers
     → (reply .number ≡ taken) × (reply .dummy ≡ false) × (reply .byte ≢ byte)
 differing-read byte reply true false false t d b m e = (eqb-true (reply .number) taken t, d, eqb-false (reply .byte) byte b)
-differing-read byte reply true false true t d b m e = absurd (omega arith)
-differing-read byte reply true true b t d u m e = absurd (omega arith)
-differing-read byte reply false d b t u v m e = absurd (omega arith)
+differing-read byte reply true false true t d b m e = absurd (never-ten m e)
+differing-read byte reply true true b t d u m e = absurd (never-ten m e)
+differing-read byte reply false d b t u v m e = absurd (never-ten m e)
 
-meets-ten : (kind byte : ℕ) (reply : Reply) → 1 ≤ kind → kind ≤ 3 → reply .number ≤ columnAbove → meets (recordedBy kind byte) reply ≡ readDiffers → Differing kind byte reply
+meets-ten : (kind byte : ℕ) (reply : Reply) → 1 ≤ kind → kind ≤ 3 → Callable (reply .number) → meets (recordedBy kind byte) reply ≡ readDiffers → Differing kind byte reply
 meets-ten kind byte reply p q m e = by (eqb kind 1) (eqb kind 2) refl refl e
   where
     by : (a b : Bool) → eqb kind 1 ≡ a → eqb kind 2 ≡ b → meets (cond a (recordedCommand byte) (cond b (recordedWrite byte) (readAs byte))) reply ≡ readDiffers → Differing kind byte reply
-    by true b k l e = absurd (omega arith)
-    by false true k l e = absurd (omega arith)
+    by true b k l e = absurd (never-ten m e)
+    by false true k l e = absurd (never-ten m e)
     by false false k l e =
         let third : kind ≡ 3 = omega (arith, eqb-false kind 1 k, eqb-false kind 2 l) in
         let read = differing-read byte reply _ _ _ refl refl refl m e in
@@ -205,7 +215,7 @@ meets-ten kind byte reply p q m e = by (eqb kind 1) (eqb kind 2) refl refl e
 
 pub is-differing : (state memory trace : List ℕ) (offset : ℕ) (h : EventRefused state memory trace readDiffers offset) → ReadDiffers state memory trace (h .place) offset
 is-differing state memory trace offset h =
-    let d = meets-ten (kindOf (drop (h .place) trace)) (getD trace offset 0) (replyThere state memory trace (h .place) offset) (h .kindFrom) (h .kindTo) (call-most _ _ _) (h .met) in
+    let d = meets-ten (kindOf (drop (h .place) trace)) (getD trace offset 0) (replyThere state memory trace (h .place) offset) (h .kindFrom) (h .kindTo) (given _ _ _ .noOther) (h .met) in
     record { reads = d .reads; happens = d .happens; compared = d .compared; differs = d .differs }
 
 -- and such a read meets 10

@@ -50,8 +50,10 @@ pub mod RunStops
 pub mod GivenAsked
 -- 0 exactly when
 pub mod GivenZero
--- 3 to 7 and 10 exactly when
+-- 3 to 7, 10 and 15: an event is refused
 pub mod GivenEvent
+-- 3 and 15 exactly when
+pub mod GivenFirst
 -- 8 and 9 exactly when; proves specs/Given
 pub mod Given
 -- samples, by computing: proves specs/Samples

@@ -1,4 +1,4 @@
--- Document 01, "Numbers given": when a run gives each number, at which offset, with which count, and what it leaves. proofs/Given.antt proves `NumbersGiven`.
+-- Document 01, "Numbers given", with document 02's Order 6: when a run gives each number, at which offset, with which count, and what it leaves. proofs/Given.antt proves `NumbersGiven`.
 use Prim.Native.Nat.{ℕ, _+_, _≤_, _<_}
 use mathlib.Core.Path.{_≡_}
 use mathlib.Core.Logic.{_≢_, _↔_}
@@ -7,11 +7,14 @@ use mathlib.Core.List.{List, [], _∷_, _++_}
 use lib.Dec.{eqb}
 use lib.ListN.{length, getD, take, drop}
 use lib.Seq.{slice}
-use Rattle.constants.specs.Numbers.{taken, tooShort, outOfRange, outsideTable, noPage, notAllowed, codeAwaited, columnAbove, headerCut, kindUnknown, readDiffers}
+use Rattle.constants.specs.Numbers.{taken, tooShort, outOfRange, outsideTable, headerCut, kindUnknown, readDiffers, testMode}
 use Rattle.constants.specs.Sizes.{headerSize}
 use Rattle.codes.specs.OneOf.{oneOf}
+use Rattle.codes.specs.Others.{TestModeByte, RemainingByte}
 use Rattle.bus.specs.Image.{short, legal, Accepted}
 use Rattle.bus.specs.Calls.{call}
+use Rattle.bus.specs.Given.{eventNumbers}
+use Rattle.bus.specs.Registers.{registersOf}
 use Rattle.bus.specs.declared.calls.Reply.{Reply}
 use Rattle.bus.specs.Bytes.{Bytes}
 use Rattle.trace.specs.Records.{Trace, ended, cut, _then_, lengthOf, kindOf, whole, CutShort, recordBytes, split, recordsIn}
@@ -70,7 +73,7 @@ replyThere state memory trace place offset =
 abbrev pub metThere : List ℕ → List ℕ → List ℕ → ℕ → ℕ → ℕ
 metThere state memory trace place offset = meets (recordedThere trace place offset) (replyThere state memory trace place offset)
 
--- 3 to 7 and 10, at the refused byte: a whole record of kind 1 to 3 stands at a place, the bytes of its payload before this one are taken, and the event that this one stands
+-- 3 to 7, 10 and 15, at the refused byte: a whole record of kind 1 to 3 stands at a place, the bytes of its payload before this one are taken, and the event that this one stands
 -- for meets the number.
 pub record EventRefused (state memory trace : List ℕ) (number offset : ℕ) : Type 0 where
   pub place : ℕ
@@ -91,9 +94,25 @@ pub record ReadDiffers (state memory trace : List ℕ) (place offset : ℕ) : Ty
   pub compared : replyThere state memory trace place offset .dummy ≡ false
   pub differs : replyThere state memory trace place offset .byte ≢ getD trace offset 0
 
--- The numbers that events are refused with in a run.
-abbrev pub eventNumbers : List ℕ
-eventNumbers = outsideTable ∷ noPage ∷ notAllowed ∷ codeAwaited ∷ columnAbove ∷ readDiffers ∷ []
+-- What makes 3 or 15 of it: the byte is a command byte, no code is awaited where it stands, and this holds of it.
+pub record FirstByteAt (P : ℕ → Type 0) (state memory trace : List ℕ) (offset : ℕ) : Type 0 where
+  pub place : ℕ
+  pub header : HeaderAt state memory trace place
+  pub complete : whole (drop place trace) ≡ true
+  pub commands : kindOf (drop place trace) ≡ 1
+  pub after : place + headerSize ≤ offset
+  pub inside : offset < place + headerSize + lengthOf (drop place trace)
+  pub before : ranBefore state memory trace place offset .stop .number ≡ taken
+  pub noCode : registersOf (ranBefore state memory trace place offset .state) .awaited ≡ 0
+  pub byte : P (getD trace offset 0)
+
+-- The numbers that events are refused with in a run: their own, and 10.
+abbrev pub recordedNumbers : List ℕ
+recordedNumbers = readDiffers ∷ eventNumbers
+
+-- All that a run can give.
+abbrev pub runNumbers : List ℕ
+runNumbers = taken ∷ tooShort ∷ outOfRange ∷ headerCut ∷ kindUnknown ∷ recordedNumbers
 
 -- Every record is whole and of a kind that is known.
 abbrev pub KnownRecords : Trace → Type 0
@@ -129,10 +148,14 @@ pub record NumbersGiven (state memory trace : List ℕ) : Type 0 where
   -- 2: the state image is out of its ranges, where 1 does not go first. Offset and count are 0, and nothing changes.
   pub number2 : run state memory trace .stop .number ≡ outOfRange ↔ (short state memory ≡ false) × (legal state ≡ false)
   pub number2Leaves : short state memory ≡ false → legal state ≡ false → run state memory trace ≡ ran (stopOf outOfRange 0 0) state memory
-  -- 3 to 7 and 10: an event is refused, at its byte. It has not happened: the count is of the records before its own, and what is left is what the run of the bytes before it leaves.
-  pub event : Bytes trace → (number offset : ℕ) → oneOf eventNumbers number ≡ true → GivesAt (run state memory trace) number offset ↔ EventRefused state memory trace number offset
+  -- 3 to 7, 10 and 15: an event is refused, at its byte. It has not happened: the count is of the records before its own, and what is left is what the run of the bytes before it leaves.
+  pub event : Bytes trace → (number offset : ℕ) → oneOf recordedNumbers number ≡ true → GivesAt (run state memory trace) number offset ↔ EventRefused state memory trace number offset
   pub eventLeaves : Bytes trace → (number offset : ℕ) (h : EventRefused state memory trace number offset) → run state memory trace ≡
       ran (stopOf number offset (run state memory (take (h .place) trace) .stop .count)) (ranBefore state memory trace (h .place) offset .state) (ranBefore state memory trace (h .place) offset .memory)
+  -- 3: a command byte outside the table, B9-BF and F0-FF apart, with no code awaited.
+  pub number3 : Bytes trace → (offset : ℕ) → GivesAt (run state memory trace) outsideTable offset ↔ FirstByteAt RemainingByte state memory trace offset
+  -- 15: F0-FF with no code awaited, in the place of 3.
+  pub number15 : Bytes trace → (offset : ℕ) → GivesAt (run state memory trace) testMode offset ↔ FirstByteAt TestModeByte state memory trace offset
   -- 10: a compared read differs; and wherever one does, it is what the event meets.
   pub ten : (offset : ℕ) (h : EventRefused state memory trace readDiffers offset) → ReadDiffers state memory trace (h .place) offset
   pub tenMet : (place offset : ℕ) → ReadDiffers state memory trace place offset → metThere state memory trace place offset ≡ readDiffers
@@ -143,4 +166,4 @@ pub record NumbersGiven (state memory trace : List ℕ) : Type 0 where
   pub number9 : (offset : ℕ) → GivesAt (run state memory trace) kindUnknown offset ↔ KindUnknown state memory trace offset
   pub number9Leaves : (offset : ℕ) → KindUnknown state memory trace offset → run state memory trace ≡ stoppedAfter kindUnknown offset (run state memory (take offset trace))
   -- No other number is given.
-  pub noOther : run state memory trace .stop .number ≤ readDiffers
+  pub noOther : oneOf runNumbers (run state memory trace .stop .number) ≡ true

@@ -2,24 +2,28 @@
 -- Assumes nothing.
 use mathlib.Core.Path.{_≡_, refl, sym, _∙_, ap}
 use mathlib.Core.Logic.{_⊎_, inl, inr, ⊎-elim, _≢_}
-use mathlib.Core.Bool.{false, true≢false}
-use Prim.Native.Nat.{ℕ, _≤_}
+use mathlib.Core.Bool.{true, false, true≢false}
+use mathlib.Core.List.{_∷_}
+use Prim.Native.Nat.{ℕ}
 use native.Mathlib.Omega.{arith}
-use Rattle.constants.specs.Numbers.{taken, tooShort, outOfRange, columnAbove, noSelection, bothSelected}
+use Rattle.constants.specs.Numbers.{taken, tooShort, outOfRange, noSelection, bothSelected}
+use Rattle.codes.specs.OneOf.{oneOf}
+use Rattle.codes.proofs.Tests.{not-listed, listed-later}
+use Rattle.bus.specs.Given.{eventNumbers, callNumbers}
 use Rattle.bus.specs.Chip.{Event, dataRead, resetPulse}
 use Rattle.bus.specs.declared.calls.Reply.{Reply}
 use Rattle.bus.proofs.Given.{given}
 use Rattle.widebus.specs.Pair.{Pair, at, Lent}
 use Rattle.widebus.specs.OneAndTwo.{EitherShort, BothLong, EitherOutside}
 use Rattle.widebus.specs.WideCalls.{WideCalled, refusedWide, wideCall}
-use Rattle.widebus.specs.WideGiven.{wideReplyTo, wideNumber, replyOn, TakenUp, EachTakes, WideGiven}
+use Rattle.widebus.specs.WideGiven.{wideReplyTo, wideNumber, replyOn, TakenUp, EachTakes, ChipRefuses, wideCallNumbers, WideGiven}
 use Rattle.widebus.specs.declared.selection.Side.{Side}
 use Rattle.widebus.proofs.OneAndTwo.{one-short, long-both}
 use Rattle.widebus.proofs.Endings.{of-side, replies-so, refusal-replies, refusal-says, Ending, tooShortFirst, rangesFirst, noneSelected, leftAlone, rightAlone, bothRead, leftRefuses, rightRefuses, bothTake, ending, short-ends, ranges-end, none-ends, left-ends, right-ends, read-ends, left-refuses, right-refuses, both-take}
 
 -- a number that a chip's own call gives where all is taken up
 abbrev OfChip : ℕ → Type 0
-OfChip n = (n ≢ tooShort) × (n ≢ outOfRange) × (n ≤ columnAbove)
+OfChip n = (n ≢ tooShort) × (n ≢ outOfRange) × (oneOf callNumbers n ≡ true)
 
 of-chip : (event : Event) (all : Pair Lent) → TakenUp event all → (side : Side) → OfChip (replyOn event (at side all) .number)
 of-chip event all t side =
@@ -74,21 +78,21 @@ module _ (number : ℕ) (event : Event) (all : Pair Lent) where
     is-thirteen (two e s p o) z = absurd (omega arith)
     is-thirteen (thirteen e t a b c) z = (t, a, b, c)
     is-thirteen (fourteen e t a r) z = absurd (omega arith)
-    is-thirteen (chips c) z = absurd (omega (arith, c .2))
+    is-thirteen (chips c) z = absurd (not-listed callNumbers noSelection z refl (c .2))
 
     is-fourteen : Reason number event all n → n ≡ bothSelected → TakenUp event all × (number ≡ 3) × (event ≡ dataRead)
     is-fourteen (one e s) z = absurd (omega arith)
     is-fourteen (two e s p o) z = absurd (omega arith)
     is-fourteen (thirteen e t a b c) z = absurd (omega arith)
     is-fourteen (fourteen e t a r) z = (t, a, r)
-    is-fourteen (chips c) z = absurd (omega (arith, c .2))
+    is-fourteen (chips c) z = absurd (not-listed callNumbers bothSelected z refl (c .2))
 
-    no-other : Reason number event all n → (n ≤ columnAbove) ⊎ (n ≡ noSelection) ⊎ (n ≡ bothSelected)
-    no-other (one e s) = inl (omega arith)
-    no-other (two e s p o) = inl (omega arith)
-    no-other (thirteen e t a b c) = inr (inl e)
-    no-other (fourteen e t a r) = inr (inr e)
-    no-other (chips c) = inl (c .2)
+    no-other : Reason number event all n → oneOf wideCallNumbers n ≡ true
+    no-other (one e s) = rw e
+    no-other (two e s p o) = rw e
+    no-other (thirteen e t a b c) = rw e
+    no-other (fourteen e t a r) = rw e
+    no-other (chips c) = listed-later noSelection (bothSelected ∷ callNumbers) n (listed-later bothSelected callNumbers n (c .2))
 
   is-zero : Ending number event all → wideNumber number event all ≡ taken → TakenUp event all × EachTakes number event all
   is-zero (tooShortFirst s) z = absurd (omega (arith, refusal-says number event all _ (short-ends number event all s), z))
@@ -117,6 +121,27 @@ module _ (number : ℕ) (event : Event) (all : Pair Lent) where
   right-counts u c mine z (leftRefuses t a other l) = absurd (l z)
   right-counts u c mine z (rightRefuses t a other l r) = refusal-says number event all _ (right-refuses number event all t a other l r)
   right-counts u c mine z (bothTake t a other l r) = gives-number (both-take number event all t a other l r) ∙ l ∙ sym r
+
+  -- a number that an event is refused with by itself is a selected chip's, and a selected chip's is given
+  is-of-chip : (n : ℕ) → oneOf eventNumbers n ≡ true → Ending number event all → wideNumber number event all ≡ n → TakenUp event all × ChipRefuses n number event all
+  is-of-chip n o (tooShortFirst s) z = absurd (not-listed eventNumbers tooShort (sym z ∙ refusal-says number event all _ (short-ends number event all s)) refl o)
+  is-of-chip n o (rangesFirst s p r) z = absurd (not-listed eventNumbers outOfRange (sym z ∙ refusal-says number event all _ (ranges-end number event all s p r)) refl o)
+  is-of-chip n o (noneSelected t a b c) z = absurd (not-listed eventNumbers noSelection (sym z ∙ refusal-says number event all _ (none-ends number event all t a b c)) refl o)
+  is-of-chip n o (leftAlone t a) z = (t, inl (a, sym (gives-number (left-ends number event all t a)) ∙ z))
+  is-of-chip n o (rightAlone t a) z = (t, inr (inl (a, sym (gives-number (right-ends number event all t a)) ∙ z)))
+  is-of-chip n o (bothRead t a r) z = absurd (not-listed eventNumbers bothSelected (sym z ∙ refusal-says number event all _ (read-ends number event all t a r)) refl o)
+  is-of-chip n o (leftRefuses t a other l) z = (t, inr (inr (a, other, inl (sym (refusal-says number event all _ (left-refuses number event all t a other l)) ∙ z))))
+  is-of-chip n o (rightRefuses t a other l r) z = (t, inr (inr (a, other, inr (l, sym (refusal-says number event all _ (right-refuses number event all t a other l r)) ∙ z))))
+  is-of-chip n o (bothTake t a other l r) z = absurd (not-listed eventNumbers taken (sym z ∙ gives-number (both-take number event all t a other l r) ∙ l) refl o)
+
+  of-chip-given : (n : ℕ) → oneOf eventNumbers n ≡ true → TakenUp event all → ChipRefuses n number event all → wideNumber number event all ≡ n
+  of-chip-given n o t refuses =
+      let some : n ≢ taken = λ e. not-listed eventNumbers taken e refl o in
+      ⊎-elim (λ l. gives-number (left-ends number event all t (l .0)) ∙ l .1)
+      (λ rest. ⊎-elim (λ r. gives-number (right-ends number event all t (r .0)) ∙ r .1)
+      (λ b. ⊎-elim (λ l. refusal-says number event all _ (left-refuses number event all t (b .0) (b .1) (λ z. some (sym l ∙ z))) ∙ l) (λ r. right-counts t (b .0) (b .1) (r .0) (ending number event all) ∙ r .1) (b .2))
+      rest)
+      refuses
 
   -- a refusal is silent, and so is a chip's own reply where it refuses or no read was asked
   of-refusal : (n : ℕ) → wideCall number event all ≡ refusedWide n all → Silent (wideReplyTo number event all)
@@ -151,6 +176,7 @@ module _ (number : ℕ) (event : Event) (all : Pair Lent) where
         rightReplies = λ t a. replies-so number event all (right-ends number event all t a);
         leftRefuses = λ t a other l. refusal-says number event all _ (left-refuses number event all t a other l);
         rightReplyCounts = λ t a other l. right-counts t a other l (ending number event all);
+        chips = λ n o. (is-of-chip n o (ending number event all), λ f. of-chip-given n o (f .0) (f .1));
         noOther = no-other why;
         silent = silent (ending number event all);
       }

@@ -1,9 +1,12 @@
 -- Documents 01 and 02, the numbers given, for the call of a single event over two chips: each number exactly when its line says so. What a chip's own call gives, and when, is bus/specs/Given.
-use Prim.Native.Nat.{ℕ, _≤_}
+use Prim.Native.Nat.{ℕ}
 use mathlib.Core.Path.{_≡_}
-use mathlib.Core.Bool.{false}
+use mathlib.Core.Bool.{true, false}
+use mathlib.Core.List.{List, _∷_}
 use mathlib.Core.Logic.{_↔_, _⊎_, _≢_}
-use Rattle.constants.specs.Numbers.{taken, tooShort, outOfRange, columnAbove, noSelection, bothSelected}
+use Rattle.constants.specs.Numbers.{taken, tooShort, outOfRange, noSelection, bothSelected}
+use Rattle.codes.specs.OneOf.{oneOf}
+use Rattle.bus.specs.Given.{eventNumbers, callNumbers}
 use Rattle.bus.specs.Chip.{Event, dataRead, resetPulse}
 use Rattle.bus.specs.declared.calls.Reply.{Reply}
 use Rattle.widebus.specs.Pair.{Pair, Lent}
@@ -33,6 +36,17 @@ EachTakes number event all =
     ((number ≡ 2) × (replyOn event (all .right) .number ≡ taken)) ⊎
     ((number ≡ 3) × (event ≢ dataRead) × (replyOn event (all .left) .number ≡ taken) × (replyOn event (all .right) .number ≡ taken))
 
+-- A selected chip refuses the event with this number: the one that is selected alone; or of both, if it is no read, the left, or the right where the left takes it.
+abbrev pub ChipRefuses : ℕ → ℕ → Event → Pair Lent → Type 0
+ChipRefuses refusal number event all =
+    ((number ≡ 1) × (replyOn event (all .left) .number ≡ refusal)) ⊎
+    ((number ≡ 2) × (replyOn event (all .right) .number ≡ refusal)) ⊎
+    ((number ≡ 3) × (event ≢ dataRead) × ((replyOn event (all .left) .number ≡ refusal) ⊎ ((replyOn event (all .left) .number ≡ taken) × (replyOn event (all .right) .number ≡ refusal))))
+
+-- All that a call can give.
+abbrev pub wideCallNumbers : List ℕ
+wideCallNumbers = noSelection ∷ bothSelected ∷ callNumbers
+
 pub record WideGiven (number : ℕ) (event : Event) (all : Pair Lent) : Type 0 where
   -- 0: each selected chip takes the event.
   pub number0 : wideNumber number event all ≡ taken ↔ TakenUp event all × EachTakes number event all
@@ -52,7 +66,9 @@ pub record WideGiven (number : ℕ) (event : Event) (all : Pair Lent) : Type 0 w
   pub leftRefuses : TakenUp event all → number ≡ 3 → event ≢ dataRead → replyOn event (all .left) .number ≢ taken → wideNumber number event all ≡ replyOn event (all .left) .number
   -- else the right's.
   pub rightReplyCounts : TakenUp event all → number ≡ 3 → event ≢ dataRead → replyOn event (all .left) .number ≡ taken → wideNumber number event all ≡ replyOn event (all .right) .number
+  -- 3 to 7 and 15: a selected chip's own number, and it passes unchanged.
+  pub chips : (refusal : ℕ) → oneOf eventNumbers refusal ≡ true → wideNumber number event all ≡ refusal ↔ TakenUp event all × ChipRefuses refusal number event all
   -- No other number is given.
-  pub noOther : (wideNumber number event all ≤ columnAbove) ⊎ (wideNumber number event all ≡ noSelection) ⊎ (wideNumber number event all ≡ bothSelected)
+  pub noOther : oneOf wideCallNumbers (wideNumber number event all) ≡ true
   -- A refusal, and each taken event but a read, replies byte 0 and not "dummy".
   pub silent : (wideNumber number event all ≢ taken) ⊎ (event ≢ dataRead) → (wideReplyTo number event all .byte ≡ 0) × (wideReplyTo number event all .dummy ≡ false)

@@ -4,13 +4,14 @@ use mathlib.Core.Path.{_≡_, refl, sym, _∙_, ap, subst}
 use mathlib.Core.Logic.{_≢_, _⊎_, inl, inr}
 use mathlib.Core.Bool.{Bool, true, false, _&&_, false≢true}
 use mathlib.Core.List.{List, [], _∷_, _++_, map}
-use Prim.Native.Nat.{ℕ, _+_, _≤_, _<_}
+use Prim.Native.Nat.{ℕ, _+_, _<_}
 use native.Mathlib.Omega.{arith}
 use lib.ListN.{length}
 use Rattle.codes.proofs.Tests.{chosen}
-use Rattle.constants.specs.Numbers.{taken, columnAbove, readDiffers, bothSelected}
+use Rattle.constants.specs.Numbers.{taken, readDiffers, bothSelected}
 use Rattle.bus.specs.Bytes.{All}
 use Rattle.bus.specs.Chip.{Chip}
+use Rattle.bus.proofs.Answers.{Callable}
 use Rattle.trace.specs.Play.{Result, refuses, gives, onResult, stopped, done, playEvents}
 use Rattle.trace.specs.Kinds.{Recorded, readAs, replay}
 use Rattle.trace.proofs.ChipRefusals.{Refusing, Refusal, own, differing, refused-event}
@@ -24,7 +25,7 @@ use Rattle.widetrace.proofs.OneChipAlone.{keeps}
 
 -- a number that a chip refuses an event with
 abbrev pub OfChip : ℕ → Type 0
-OfChip number = ((taken < number) × (number ≤ columnAbove)) ⊎ (number ≡ readDiffers)
+OfChip number = ((taken < number) × Callable number) ⊎ (number ≡ readDiffers)
 
 chip-refuses : (recorded : Recorded) (c : Chip) → Refusing OfChip (replay recorded c)
 chip-refuses recorded c = by (replay recorded c) refl

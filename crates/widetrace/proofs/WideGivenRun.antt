@@ -2,16 +2,19 @@
 -- Assumes nothing.
 use mathlib.Core.Path.{_≡_, refl, sym, _∙_, ap, subst}
 use mathlib.Core.Logic.{_≢_, _⊎_, inl, inr}
-use mathlib.Core.Bool.{Bool, true, _&&_, false≢true}
+use mathlib.Core.Bool.{Bool, true, false, _&&_, false≢true}
 use mathlib.Core.List.{List, [], _∷_, _++_, map}
-use Prim.Native.Nat.{ℕ, _+_, _≤_, _<_}
+use Prim.Native.Nat.{ℕ, _+_, _<_}
 use native.Mathlib.Nat.{add-zero}
 use native.Mathlib.Omega.{arith}
 use lib.ListN.{length, take, drop}
 use lib.Seq.{length-take-le}
 use Rattle.constants.specs.Numbers.{taken, tooShort, outOfRange, headerCut, readDiffers, kindUnknown, noSelection, bothSelected}
 use Rattle.constants.specs.Sizes.{headerSize}
+use Rattle.codes.specs.OneOf.{oneOf}
+use Rattle.codes.proofs.Tests.{not-listed, one-of-each}
 use Rattle.bus.specs.Bytes.{All}
+use Rattle.bus.specs.Given.{callNumbers}
 use Rattle.bus.specs.Image.{legal}
 use Rattle.bus.specs.Stretch.{stretch}
 use Rattle.bus.proofs.Replies.{Neither, not-one, not-two}
@@ -32,9 +35,9 @@ use Rattle.widetrace.specs.Terminal.{Terminal, WideEvent, happens, wideE
 use Rattle.widetrace.specs.EachChip.{unplaced}
 use Rattle.widetrace.specs.WideRun.{WideRan, wideRan, wideRanOf, wideRun}
 use Rattle.widetrace.specs.WideRunLaws.{BothAccepted, terminalIn}
-use Rattle.widetrace.specs.WideGivenRun.{WideUnknown, UnknownRecord, NoSelection, WideHeaderAt, WideGivesAt, wideStoppedAfter, WholeRecord, BothRead, EveryTaken, WideGivenRun, WideHeaders}
+use Rattle.widetrace.specs.WideGivenRun.{WideUnknown, UnknownRecord, NoSelection, WideHeaderAt, WideGivesAt, wideStoppedAfter, WholeRecord, BothRead, EveryTaken, wideRunNumbers, WideGivenRun, WideHeaders}
 use Rattle.widetrace.proofs.TerminalHeaders.{NoRead, refused-header, selects-nothing, stands-for-nothing, what-reads}
-use Rattle.widetrace.proofs.TerminalRefusals.{OfTerminal, readsWide, refused-step, both-refuse, middle, none-before}
+use Rattle.widetrace.proofs.TerminalRefusals.{OfChip, OfTerminal, readsWide, refused-step, both-refuse, middle, none-before}
 use Rattle.widetrace.proofs.WideRunOnLent.{Refused, tooFew, ranges, plays, run-found, run-refused, why-refused, by-asking, accepted}
 use Rattle.widetrace.proofs.WideNotOneOrTwo.{neither}
 use Rattle.widetrace.proofs.AppliedStretches.{none-refused, all-applied}
@@ -45,31 +48,31 @@ use Rattle.widetrace.proofs.WideRunLaws.{terminal-as-machine, wide-run-
 abbrev laws : AnyMachine theTerminal
 laws = any-machine theTerminal
 
--- the numbers of headers are no events'
+-- the numbers of headers are no events', nor is 14 a chip's
+of-chip : {number : ℕ} → OfChip number → (m : ℕ) → oneOf callNumbers m ≡ false → readDiffers ≢ m → number ≡ m → ⊥
+of-chip (inl h) m none other e = not-listed callNumbers m e none (h .1)
+of-chip (inr h) m none other e = other (sym h ∙ e)
+
 of-header : {reads : Bool} {selection : Selection} {number : ℕ} → OfTerminal reads selection number → (number ≡ noSelection) ⊎ (number ≡ kindUnknown) → ⊥
-of-header (inl (inl h)) (inl e) = omega (arith, h .1, e)
-of-header (inl (inl h)) (inr e) = omega (arith, h .1, e)
-of-header (inl (inr h)) (inl e) = omega (arith, h, e)
-of-header (inl (inr h)) (inr e) = omega (arith, h, e)
+of-header (inl h) (inl e) = of-chip h noSelection refl (λ z. omega (arith, z)) e
+of-header (inl h) (inr e) = of-chip h kindUnknown refl (λ z. omega (arith, z)) e
 of-header (inr h) (inl e) = omega (arith, h .0, e)
 of-header (inr h) (inr e) = omega (arith, h .0, e)
 
 of-cut : {reads : Bool} {selection : Selection} {number : ℕ} → OfTerminal reads selection number → number ≡ headerCut → ⊥
-of-cut (inl (inl h)) e = omega (arith, h .1, e)
-of-cut (inl (inr h)) e = omega (arith, h, e)
+of-cut (inl h) e = of-chip h headerCut refl (λ z. omega (arith, z)) e
 of-cut (inr h) e = omega (arith, h .0, e)
 
 abbrev Known : ℕ → Type 0
-Known number = (number ≤ readDiffers) ⊎ (number ≡ noSelection) ⊎ (number ≡ bothSelected)
+Known number = oneOf wideRunNumbers number ≡ true
 
 of-known : {reads : Bool} {selection : Selection} {number : ℕ} → OfTerminal reads selection number → Known number
-of-known (inl (inl h)) = inl (omega (arith, h .1))
-of-known (inl (inr h)) = inl (omega (arith, h))
-of-known (inr h) = inr (inr (h .0))
+of-known {number = number} (inl (inl h)) = one-of-each Known callNumbers number (refl, (refl, (refl, (refl, (refl, (refl, (refl, (refl, (refl, tt))))))))) (h .1)
+of-known (inl (inr h)) = rw h
+of-known (inr h) = rw (h .0)
 
 of-both : {reads : Bool} {selection : Selection} {number : ℕ} → OfTerminal reads selection number → number ≡ bothSelected → (selection ≡ Selection.Both) × (reads ≡ true)
-of-both (inl (inl h)) e = absurd (omega (arith, h .1, e))
-of-both (inl (inr h)) e = absurd (omega (arith, h, e))
+of-both (inl h) e = absurd (of-chip h bothSelected refl (λ z. omega (arith, z)) e)
 of-both (inr h) e = (h .1, h .2)
 
 no-header : {A B : Type 0} {number : ℕ} → ((number ≡ noSelection) × A) ⊎ ((number ≡ kindUnknown) × B) → number ≡ headerCut → ⊥
@@ -77,8 +80,8 @@ no-header (inl h) e = omega (arith, h .0, e)
 no-header (inr h) e = omega (arith, h .0, e)
 
 header-known : {A B : Type 0} {number : ℕ} → ((number ≡ noSelection) × A) ⊎ ((number ≡ kindUnknown) × B) → Known number
-header-known (inl h) = inr (inl (h .0))
-header-known (inr h) = inl (omega (arith, h .0))
+header-known (inl h) = rw (h .0)
+header-known (inr h) = rw (h .0)
 
 module _ (all : Pair Lent) (trace : List ℕ) where
   abbrev start : Terminal
@@ -189,8 +192,8 @@ module _ (all : Pair Lent) (trace : List ℕ) where
     is-eight (eventRefused at count number t u before event rest r w f d s) e = absurd (of-cut (refused-step event u number s) e)
 
     is-known : {p : Played Terminal} → EndsAs theTerminal trace start p → Known (p .number)
-    is-known (allTaken count t r) = inl (omega arith)
-    is-known (headerIsCut at count t r c) = inl (omega arith)
+    is-known (allTaken count t r) = refl
+    is-known (headerIsCut at count t r c) = refl
     is-known (headerRefused at count number t r w f) = header-known (refused-header _ _ number f)
     is-known (eventRefused at count number t u before event rest r w f d s) = of-known (refused-step event u number s)
 
@@ -265,7 +268,11 @@ module _ (all : Pair Lent) (trace : List ℕ) where
 
   no-other : Known (wideRun all trace .stop .number)
   unfolding wideRanOf
-  no-other = by-asking all _ (λ a. rw (run-found all a trace) (is-known a (ends a))) (λ refusal e n. rw (run-refused all trace e) (inl (omega (arith, n .1))))
+  no-other = by-asking all _ (λ a. rw (run-found all a trace) (is-known a (ends a))) (λ refusal e n. rw (run-refused all trace e) (by (why-refused all e)))
+    where
+      by : {number : ℕ} → Refused all number → Known number
+      by (tooFew s) = refl
+      by (ranges s r) = refl
 
 pub wide-given-run : (all : Pair Lent) (trace : List ℕ) → WideGivenRun all trace
 wide-given-run all trace =

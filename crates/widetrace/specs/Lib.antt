@@ -16,6 +16,8 @@ pub mod OneChipAlone
 pub mod AsNarrow
 -- the events of a run by the calls of the wide bus; one event and its call
 pub mod WideByCalls
+-- when a run gives the number of an event, and what it leaves then
+pub mod WideEventGiven
 -- runs from power-on, computed
 pub mod Samples
 -- one result for each public call

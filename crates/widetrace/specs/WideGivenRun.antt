@@ -1,17 +1,19 @@
--- Document 02, Order 4, "Refusals": when a run of the wide terminal gives 13, 14 and, in its new reading, 9, and what goes before them. proofs/WideGivenRun.antt proves `WideGivenRun` and `WideHeaders`.
+-- Document 02, Order 4, "Refusals": when a run of the wide terminal gives 13, 14 and, in its new reading, 9, and what goes before them; the numbers of events are in WideEventGiven. proofs/WideGivenRun.antt proves `WideGivenRun` and `WideHeaders`.
 use Prim.Native.Nat.{ℕ, _+_, _≤_}
 use mathlib.Core.Path.{_≡_}
 use mathlib.Core.Logic.{_≢_, _⊎_, _↔_}
 use mathlib.Core.Bool.{true}
 use mathlib.Core.List.{List, [], _∷_}
 use lib.ListN.{length, take, drop}
-use Rattle.constants.specs.Numbers.{taken, tooShort, outOfRange, headerCut, kindUnknown, readDiffers, noSelection, bothSelected}
+use Rattle.constants.specs.Numbers.{taken, tooShort, outOfRange, headerCut, kindUnknown, noSelection, bothSelected}
+use Rattle.codes.specs.OneOf.{oneOf}
 use Rattle.constants.specs.Sizes.{headerSize}
 use Rattle.bus.specs.Stretch.{stretch}
 use Rattle.trace.specs.Records.{kindOf, payloadOf, whole, CutShort, split}
 use Rattle.trace.specs.OneByOne.{scriptFrom}
 use Rattle.trace.specs.Play.{refuses, gives}
 use Rattle.trace.specs.Run.{stopOf}
+use Rattle.trace.specs.Given.{runNumbers}
 use Rattle.widebus.specs.Pair.{Pair, Lent}
 use Rattle.widebus.specs.OneAndTwo.{EitherShort, BothLong, EitherOutside}
 use Rattle.widebus.specs.declared.selection.Selection.{Selection}
@@ -71,6 +73,10 @@ pub record EveryTaken (all : Pair Lent) (trace : List ℕ) : Type 0 where
   pub headers : scriptFrom theTerminal (split trace) 0 .number ≡ taken
   pub events : stretch wideStep (unplaced (scriptFrom theTerminal (split trace) 0 .events)) (terminalIn all Selection.Both) .number ≡ taken
 
+-- All that a run can give: what a run of one chip can, 13 and 14.
+abbrev pub wideRunNumbers : List ℕ
+wideRunNumbers = noSelection ∷ bothSelected ∷ runNumbers
+
 pub record WideGivenRun (all : Pair Lent) (trace : List ℕ) : Type 0 where
   -- 0: all is taken.
   pub number0 : wideRun all trace .stop .number ≡ taken ↔ EveryTaken all trace
@@ -92,8 +98,8 @@ pub record WideGivenRun (all : Pair Lent) (trace : List ℕ) : Type 0 where
   -- 14: a read with both selected, before the chips are asked: it can only be a record's first. What the records before it left stands.
   pub number14 : (offset : ℕ) → WideGivesAt (wideRun all trace) bothSelected offset ↔ BothRead all trace offset
   pub number14Leaves : (offset : ℕ) (h : BothRead all trace offset) → wideRun all trace ≡ wideStoppedAfter bothSelected offset (wideRun all (take (h .place) trace))
-  -- Every other number is one that document 01 has: up to 10.
-  pub noOther : (wideRun all trace .stop .number ≤ readDiffers) ⊎ (wideRun all trace .stop .number ≡ noSelection) ⊎ (wideRun all trace .stop .number ≡ bothSelected)
+  -- No other number is given.
+  pub noOther : oneOf wideRunNumbers (wideRun all trace .stop .number) ≡ true
 
 -- The same of a record's kind and payload, whatever stands before it.
 pub record WideHeaders (kind : ℕ) (payload : List ℕ) : Type 0 where

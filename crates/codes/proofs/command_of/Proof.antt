@@ -1,12 +1,18 @@
 -- `codes::command_of` meets its contract: a single code by computing, a range by its row, the rest by being in no row.
 -- Assumes nothing.
 use native.Mathlib.Omega.{arith}
-use mathlib.Core.Path.{refl}
+use Prim.Native.Nat.{ℕ}
+use mathlib.Core.Path.{_≡_, refl}
+use mathlib.Core.Logic.{_⊎_, inr, ⊎-elim}
 use mathlib.Core.List.{[], _∷_}
 use Rattle.codes.specs.Table.{table, commandOf, commandBy}
 use Rattle.codes.proofs.Rows.{in-row, in-gap, other, past-codes}
 use Rattle.codes.proofs.command_of.Statement.{statement}
 use Rattle.codes.proofs.command_of.Tie as tie
+
+-- what is none of two keys is not the second
+second-key : {b x y : ℕ} → ((b ≡ x) ⊎ (b ≡ y) → ⊥) → b ≡ y → ⊥
+second-key h e = h (inr e)
 
 returns : tie.Need-returns
 unfolding table commandOf commandBy
@@ -141,24 +147,28 @@ unfolding table
 returns-33 c = in-gap 20 2 0xD0 0xDF _ refl refl (omega arith) (omega arith) search
 
 returns-34 : tie.Need-returns-34
-unfolding table commandOf commandBy
-returns-34 c = rw (c .match .keys25)
+unfolding table
+returns-34 c = in-row 26 _ refl refl (past-codes (0xEE ∷ 0xEF ∷ []) 0xEE _ refl (omega arith) (search, (second-key {x = 0xE1} search, tt))) (omega arith)
 
 returns-35 : tie.Need-returns-35
-unfolding table
-returns-35 c = in-gap 22 4 0xE0 0xFF _ refl refl (omega arith) (omega arith) (search other)
+unfolding table commandOf commandBy
+returns-35 c = ⊎-elim (λ e. rw e) (λ e. rw e) (c .match .keys25)
 
 returns-36 : tie.Need-returns-36
-unfolding table commandOf commandBy
-returns-36 c = rw (c .match .keys24)
+unfolding table
+returns-36 c = in-gap 22 4 0xE0 0xEF _ refl refl (omega arith) (omega arith) (search other)
 
 returns-37 : tie.Need-returns-37
-unfolding table
-returns-37 c = in-gap 4 0 0x30 0x3F _ refl refl (omega arith) (omega arith) tt
+unfolding table commandOf commandBy
+returns-37 c = rw (c .match .keys24)
 
 returns-38 : tie.Need-returns-38
 unfolding table
-returns-38 c = in-gap 5 1 0x80 0x9F _ refl refl (omega arith) (omega arith) search
+returns-38 c = in-gap 4 0 0x30 0x3F _ refl refl (omega arith) (omega arith) tt
+
+returns-39 : tie.Need-returns-39
+unfolding table
+returns-39 c = in-gap 5 1 0x80 0x9F _ refl refl (omega arith) (omega arith) search
 
 pub command-of-spec : {M : Type 1} → statement M
-command-of-spec = tie.close (tie.spec returns returns-2 returns-3 returns-4 returns-5 returns-6 returns-7 returns-8 returns-9 returns-10 returns-11 returns-12 returns-13 returns-14 returns-15 returns-16 returns-17 returns-18 returns-19 returns-20 returns-21 returns-22 returns-23 returns-24 returns-25 returns-26 returns-27 returns-28 returns-29 returns-30 returns-31 returns-32 returns-33 returns-34 returns-35 returns-36 returns-37 returns-38)
+command-of-spec = tie.close (tie.spec returns returns-2 returns-3 returns-4 returns-5 returns-6 returns-7 returns-8 returns-9 returns-10 returns-11 returns-12 returns-13 returns-14 returns-15 returns-16 returns-17 returns-18 returns-19 returns-20 returns-21 returns-22 returns-23 returns-24 returns-25 returns-26 returns-27 returns-28 returns-29 returns-30 returns-31 returns-32 returns-33 returns-34 returns-35 returns-36 returns-37 returns-38 returns-39)

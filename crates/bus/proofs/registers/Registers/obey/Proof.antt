@@ -136,105 +136,112 @@ returns-4 : tie.Need-returns-4
 unfolding obeyed
 returns-4 c = rw (c .enum-told9 .given .1)
 
+enum-told-10 : tie.Need-enum-told-10
+enum-told-10 c = search needs
+
 returns-5 : tie.Need-returns-5
 unfolding obeyed
-returns-5 c = rw (c .before .before .named .given .1)
+returns-5 c = rw (c .enum-told10 .given .1)
 
 returns-6 : tie.Need-returns-6
 unfolding obeyed
-returns-6 c = rw (c .before .before .named2 .given .1)
+returns-6 c = rw (c .before .before .named .given .1)
 
 returns-7 : tie.Need-returns-7
 unfolding obeyed
-returns-7 c = rw (c .before .named3 .given .1)
+returns-7 c = rw (c .before .before .named2 .given .1)
 
 returns-8 : tie.Need-returns-8
 unfolding obeyed
-returns-8 c = rw (c .before .named4 .given .1)
+returns-8 c = rw (c .before .named3 .given .1)
 
 returns-9 : tie.Need-returns-9
 unfolding obeyed
-returns-9 c = rw (c .before .named5 .given .1)
+returns-9 c = rw (c .before .named4 .given .1)
 
 returns-10 : tie.Need-returns-10
 unfolding obeyed
-returns-10 c = rw (c .before .named6 .given .1)
+returns-10 c = rw (c .before .named5 .given .1)
 
 returns-11 : tie.Need-returns-11
 unfolding obeyed
-returns-11 c = rw (c .before .named7 .given .1)
+returns-11 c = rw (c .before .named6 .given .1)
 
 returns-12 : tie.Need-returns-12
 unfolding obeyed
-returns-12 c = rw (c .before .named8 .given .1)
+returns-12 c = rw (c .before .named7 .given .1)
 
 returns-13 : tie.Need-returns-13
 unfolding obeyed
-returns-13 c = rw (c .before .named9 .given .1)
+returns-13 c = rw (c .before .named8 .given .1)
 
 returns-14 : tie.Need-returns-14
 unfolding obeyed
-returns-14 c = rw (c .before .named10 .given .1)
+returns-14 c = rw (c .before .named9 .given .1)
 
 returns-15 : tie.Need-returns-15
 unfolding obeyed
-returns-15 c = rw (c .before .named11 .given .1)
+returns-15 c = rw (c .before .named10 .given .1)
 
 returns-16 : tie.Need-returns-16
 unfolding obeyed
-returns-16 c = rw (c .before .named12 .given .1)
+returns-16 c = rw (c .before .named11 .given .1)
 
 returns-17 : tie.Need-returns-17
 unfolding obeyed
-returns-17 c = rw (c .before .named13 .given .1)
+returns-17 c = rw (c .before .named12 .given .1)
 
 returns-18 : tie.Need-returns-18
 unfolding obeyed
-returns-18 c = rw (c .before .enum-told .given .1, c .indicated .ensures)
+returns-18 c = rw (c .before .named13 .given .1)
 
 returns-19 : tie.Need-returns-19
 unfolding obeyed
-returns-19 c = rw (c .before .before .named14 .given .1, c .indicated2 .ensures)
+returns-19 c = rw (c .before .enum-told .given .1, c .indicated .ensures)
 
 returns-20 : tie.Need-returns-20
 unfolding obeyed
-returns-20 c = rw (c .before .named15 .given .1)
+returns-20 c = rw (c .before .before .named14 .given .1, c .indicated2 .ensures)
 
 returns-21 : tie.Need-returns-21
 unfolding obeyed
-returns-21 c = rw (c .before .named16 .given .1)
+returns-21 c = rw (c .before .named15 .given .1)
 
 returns-22 : tie.Need-returns-22
 unfolding obeyed
-returns-22 c = rw (c .before .named17 .given .1)
+returns-22 c = rw (c .before .named16 .given .1)
 
 returns-23 : tie.Need-returns-23
 unfolding obeyed
-returns-23 c = rw (c .before .named18 .given .1)
+returns-23 c = rw (c .before .named17 .given .1)
 
 returns-24 : tie.Need-returns-24
 unfolding obeyed
-returns-24 c = rw (c .before .named19 .given .1)
+returns-24 c = rw (c .before .named18 .given .1)
 
 returns-25 : tie.Need-returns-25
 unfolding obeyed
-returns-25 c = rw (c .before .enum-told3 .given .1, c .enter .ensures)
+returns-25 c = rw (c .before .named19 .given .1)
 
 returns-26 : tie.Need-returns-26
 unfolding obeyed
-returns-26 c = rw (c .before .enum-told4 .given .1, c .software-reset .ensures)
+returns-26 c = rw (c .before .enum-told3 .given .1, c .enter .ensures)
 
 returns-27 : tie.Need-returns-27
 unfolding obeyed
-returns-27 c = rw (c .enum-told5 .given .1)
+returns-27 c = rw (c .before .enum-told4 .given .1, c .software-reset .ensures)
 
 returns-28 : tie.Need-returns-28
 unfolding obeyed
-returns-28 c = rw (c .before .enum-told6 .given .1, c .leave .ensures)
+returns-28 c = rw (c .enum-told5 .given .1)
 
 returns-29 : tie.Need-returns-29
 unfolding obeyed
-returns-29 c = rw (c .before .named20 .given .1)
+returns-29 c = rw (c .before .enum-told6 .given .1, c .leave .ensures)
+
+returns-30 : tie.Need-returns-30
+unfolding obeyed
+returns-30 c = rw (c .before .named20 .given .1)
 
 pub obey-spec : {M : Type 1} → statement M
 obey-spec =
@@ -282,6 +289,7 @@ obey-spec =
     returns-3
     enum-told-9
     returns-4
+    enum-told-10
     returns-5
     returns-6
     returns-7
@@ -306,4 +314,5 @@ obey-spec =
     returns-26
     returns-27
     returns-28
-    returns-29)
+    returns-29
+    returns-30)
