@@ -1,14 +1,22 @@
 //! What a command byte does to the registers.
 
+use std::ops::RangeInclusive;
+
 use crate::refusal::Refusal;
 use crate::registers::{Awaited, Registers};
+
+/// The bytes that would put a real chip in test mode, where no code is awaited.
+pub const TEST_MODE: RangeInclusive<u8> = 0xF0..=0xFF;
+
+const FIRST_TEST_MODE: u8 = *TEST_MODE.start();
+const LAST_TEST_MODE: u8 = *TEST_MODE.end();
 
 /// The registers after a command byte. A byte taken sets fresh; a byte
 /// refused leaves the caller with the registers it had.
 ///
 /// # Errors
 /// 5 for an n not allowed while D3 or D4 is awaited; with no code awaited,
-/// 4 for B9-BF and 3 for any other byte outside the table.
+/// 4 for B9-BF, 15 for F0-FF and 3 for any other byte outside the table.
 pub fn take(registers: Registers, byte: u8) -> Result<Registers, Refusal> {
     let later = match registers.awaited {
         Some(code) => take_n(registers, code, byte)?,
@@ -94,8 +102,8 @@ fn take_first(registers: Registers, byte: u8) -> Result<Registers, Refusal> {
         | 0xD5..=0xDF
         | 0xE1
         | 0xE4..=0xED
-        | 0xEF
-        | 0xF0..=0xFF => return Err(Refusal::OutsideTheTable),
+        | 0xEF => return Err(Refusal::OutsideTheTable),
+        FIRST_TEST_MODE..=LAST_TEST_MODE => return Err(Refusal::TestMode),
     }
     Ok(later)
 }

@@ -73,7 +73,7 @@ pub struct Answer {
 /// What an event does to legal registers and memory.
 ///
 /// # Errors
-/// The refusals 3 to 7, as document 01 gives them.
+/// The refusals 3 to 7 as document 01 gives them, and Order 6's 15.
 pub fn meaning(registers: Registers, memory: &Memory, event: Event) -> Result<Taken, Refusal> {
     match event {
         Event::Command(byte) => command::take(registers, byte).map(Taken::quietly),

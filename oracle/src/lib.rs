@@ -1,4 +1,4 @@
-//! The SSD1815B as document 01 states it, with Orders 1 to 4 of document 02,
+//! The SSD1815B as document 01 states it, with Orders 1 to 6 of document 02,
 //! written from documents 00, 01 and 02 alone, to be compared with a model
 //! written by other people.
 //!

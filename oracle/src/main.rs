@@ -18,7 +18,7 @@ use oracle::text::from_hex;
 use oracle::trace;
 
 const HELP: &str = "\
-oracle: the SSD1815B as document 01 states it, with Orders 1 to 4 of document
+oracle: the SSD1815B as document 01 states it, with Orders 1 to 6 of document
 02, to compare another model with
 
 usage:

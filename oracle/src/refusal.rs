@@ -1,4 +1,4 @@
-//! The numbers given: 0 for taken, 1 to 14 for the refusals.
+//! The numbers given: 0 for taken, 1 to 15 for the refusals.
 
 /// The number of an event, run, drawing or comparison that was taken.
 pub const TAKEN: u8 = 0;
@@ -10,7 +10,7 @@ pub enum Refusal {
     LentTooShort,
     /// 2: the state image is out of its ranges.
     ImageOutOfRange,
-    /// 3: a command byte outside the table, B9-BF apart.
+    /// 3: a command byte outside the table, B9-BF and F0-FF apart.
     OutsideTheTable,
     /// 4: B9-BF name no page, and no page above 8 can be asked for.
     NoSuchPage,
@@ -34,7 +34,12 @@ pub enum Refusal {
     WrongSelection,
     /// 14: a read with both chips selected.
     ReadOfBoth,
+    /// 15: a command byte that would put a real chip in test mode.
+    TestMode,
 }
+
+/// The highest of the numbers.
+pub const LAST_NUMBER: u8 = Refusal::TestMode.number();
 
 impl Refusal {
     /// The number documents 01 and 02 give this refusal.
@@ -55,6 +60,7 @@ impl Refusal {
             Refusal::FrameByteAbove1 => 12,
             Refusal::WrongSelection => 13,
             Refusal::ReadOfBoth => 14,
+            Refusal::TestMode => 15,
         }
     }
 }

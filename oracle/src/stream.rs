@@ -3,6 +3,7 @@
 //! of the bands of Order 2, whose random cases are the base's; then Order 3's
 //! sweep of listings, whose random cases are the base's too, and the start
 //! calls, swept and random; last of all Order 4's wide terminal, swept and random.
+//! The cases of Order 6 stand among all these, by their kinds.
 
 use std::io;
 

@@ -4,6 +4,7 @@ mod bands;
 mod compared;
 mod start_calls;
 mod starts;
+mod test_mode;
 mod wide;
 
 use std::fmt;
@@ -13,12 +14,13 @@ use crate::event::{Answer, Event};
 use crate::generate::{FRAME_LENGTHS, MEMORY_LENGTHS, STATE_LENGTHS};
 use crate::listing::LONGEST_TRACE;
 use crate::memory::{COLUMNS, ICON_PAGE, LAST_COLUMN, MEMORY_LENGTH, place};
-use crate::refusal::TAKEN;
+use crate::refusal::{LAST_NUMBER, TAKEN};
 use crate::registers::{Awaited, FIELDS, IMAGE_LENGTH, Image, Registers};
 use crate::trace::{HEADER_LENGTH, Payload, Record, first_parts, record_of};
 use bands::BandCoverage;
 use compared::ComparedCoverage;
 use starts::StartCoverage;
+use test_mode::TestModeCoverage;
 use wide::WideCoverage;
 
 /// Counts of things of one sort.
@@ -42,11 +44,12 @@ impl Group {
         }
     }
 
-    /// The numbers 0 to 14, of which only these can be answered.
+    /// All the numbers there are, of which only these can be answered.
     fn numbers(name: &'static str, possible: &[u8]) -> Group {
+        let numbers = TAKEN..=LAST_NUMBER;
         Group {
-            possible: (0..=14).map(|number| possible.contains(&number)).collect(),
-            ..Group::new(name, 0..=14)
+            possible: numbers.clone().map(|n| possible.contains(&n)).collect(),
+            ..Group::new(name, numbers)
         }
     }
 
@@ -282,6 +285,7 @@ pub struct Coverage {
     bands: BandCoverage,
     starts: StartCoverage,
     wide: WideCoverage,
+    test_mode: TestModeCoverage,
 }
 
 impl Default for Coverage {
@@ -302,13 +306,16 @@ impl Coverage {
         });
         Coverage {
             cases: Group::new("cases", KINDS),
-            command_numbers: Group::numbers("numbers of commands", &[0, 1, 2, 3, 4, 5]),
+            command_numbers: Group::numbers("numbers of commands", &[0, 1, 2, 3, 4, 5, 15]),
             write_numbers: Group::numbers("numbers of writes", &[0, 1, 2, 6, 7]),
             read_numbers: Group::numbers("numbers of reads", &[0, 1, 2, 6, 7]),
             reset_numbers: Group::numbers("numbers of resets", &[0, 1]),
-            run_numbers: Group::numbers("numbers of runs", &[0, 1, 2, 3, 4, 5, 6, 7, 8, 9, 10]),
+            run_numbers: Group::numbers("numbers of runs", &[0, 1, 2, 3, 4, 5, 6, 7, 8, 9, 10, 15]),
             draw_numbers: Group::numbers("numbers of draws", &[0, 1, 2]),
-            listing_numbers: Group::numbers("numbers of listings", &[0, 3, 4, 5, 6, 7, 8, 9, 10]),
+            listing_numbers: Group::numbers(
+                "numbers of listings",
+                &[0, 3, 4, 5, 6, 7, 8, 9, 10, 15],
+            ),
             command_bytes: Group::hex_bytes("command bytes with no code awaited"),
             n_taken: Group::codes("n taken", &Awaited::ALL),
             n_refused: Group::codes("n refused", &[Awaited::Offset, Awaited::FramePhases]),
@@ -354,6 +361,7 @@ impl Coverage {
             bands: BandCoverage::new(),
             starts: StartCoverage::new(),
             wide: WideCoverage::new(),
+            test_mode: TestModeCoverage::new(),
         }
     }
 
@@ -393,10 +401,17 @@ impl Coverage {
             &self.run_situations,
             &self.listing_situations,
         ];
-        groups.extend(self.compared.groups());
+        groups.extend(self.groups_of_orders());
+        groups
+    }
+
+    /// Every group that the orders of document 02 brought.
+    fn groups_of_orders(&self) -> Vec<&Group> {
+        let mut groups = self.compared.groups().to_vec();
         groups.extend(self.bands.groups());
         groups.extend(self.starts.groups());
         groups.extend(self.wide.groups());
+        groups.extend(self.test_mode.groups());
         groups
     }
 
@@ -409,6 +424,7 @@ impl Coverage {
     /// Counts what a case reaches.
     pub fn see(&mut self, case: &Case) {
         self.cases.hit_label(kind_of(case));
+        self.test_mode.see(case);
         match case {
             Case::Single(single) => self.see_single(single),
             Case::Sequence(sequence) => self.see_sequence(sequence),

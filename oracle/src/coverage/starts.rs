@@ -15,7 +15,7 @@ use crate::trace::{HEADER_LENGTH, RunAnswer, run_from, run_watched};
 pub const STARTS: [&str; 2] = [Start::ALL[0].name(), Start::ALL[1].name()];
 
 /// How a run from a start can end.
-const ENDS: [&str; 9] = ["0", "3", "4", "5", "6", "7", "8", "9", "10"];
+const ENDS: [&str; 10] = ["0", "3", "4", "5", "6", "7", "8", "9", "10", "15"];
 
 const RESET_RECORD: &str = "reset record";
 const SOFTWARE_RESET: &str = "E2";

@@ -1,5 +1,6 @@
 //! Random events, chosen with an eye on the registers they meet.
 
+use crate::command::TEST_MODE;
 use crate::event::Event;
 use crate::memory::LAST_COLUMN;
 use crate::random::Random;
@@ -60,6 +61,9 @@ fn first_byte(random: &mut Random, registers: Registers) -> u8 {
         // Brings the column back to where data can go.
         return 0x10 | random.up_to(7);
     }
+    if random.one_in(24) {
+        return test_mode_byte(random);
+    }
     match random.below(16) {
         0 | 1 => random.byte(),
         2 => random.up_to(0x0F),
@@ -74,6 +78,11 @@ fn first_byte(random: &mut Random, registers: Registers) -> u8 {
         14 => random.pick(&[0xE2, 0xE3, 0xE3, 0xE3]),
         _ => to_the_last_column(random, registers),
     }
+}
+
+/// A byte that would put a real chip in test mode.
+pub fn test_mode_byte(random: &mut Random) -> u8 {
+    TEST_MODE.start() + random.up_to(TEST_MODE.end() - TEST_MODE.start())
 }
 
 /// A step towards column 131, so that the column wraps soon.

@@ -24,6 +24,7 @@ pub fn trace(random: &mut Random, registers: Registers, memory: &Memory) -> Vec<
     for _ in 0..random.below(16) {
         maker.push_record(random);
     }
+    maker.push_now_and_then_test_mode(random);
     if random.one_in(3) {
         maker.damage(random);
     }
@@ -49,6 +50,7 @@ pub fn drawing_trace(random: &mut Random) -> Vec<u8> {
         maker.push_commands(&[0xAF]);
     }
     maker.push_now_and_then_a_reset(random);
+    maker.push_now_and_then_test_mode(random);
     if random.one_in(4) {
         maker.damage(random);
     }
@@ -205,6 +207,21 @@ impl<M: Machine> Maker<M> {
             0 => self.push_reset(),
             1 => self.push_commands(&[0xE2]),
             _ => {}
+        }
+    }
+
+    /// Adds, one time in sixteen, a record of commands with a byte of test mode
+    /// among them or two, of which one is not obeyed if no code is awaited.
+    pub fn push_now_and_then_test_mode(&mut self, random: &mut Random) {
+        if random.one_in(16) {
+            // The first of two is n.
+            let mut commands = vec![0xA7, 0xA9, events::test_mode_byte(random)];
+            commands.truncate(random.pick(&[0, 1, 3]));
+            commands.push(events::test_mode_byte(random));
+            if random.flag() {
+                commands.extend([0xAE, 0xA5]);
+            }
+            self.push_commands(&commands);
         }
     }
 

@@ -132,12 +132,15 @@ pub fn wide_trace(
         return garbage(random);
     }
     let mut maker = Maker::of_two(registers, memories);
+    // Both chips are selected, each with what it awaits.
+    maker.push_now_and_then_test_mode(random);
     for _ in 0..random.below(16) {
         maker.push_wide_record(random);
     }
     if random.one_in(4) {
         maker.push_selection(random.pick(&Selection::ALL));
     }
+    maker.push_now_and_then_test_mode(random);
     if random.one_in(3) {
         maker.damage(random);
     }
@@ -159,6 +162,7 @@ pub fn wide_drawing_trace(random: &mut Random) -> Vec<u8> {
         maker.push_selection(random.pick(&Selection::ALL));
         maker.push_commands(&[0xAF]);
     }
+    maker.push_now_and_then_test_mode(random);
     if random.one_in(4) {
         maker.damage(random);
     }

@@ -3,6 +3,7 @@
 use std::io;
 
 use crate::cases::{Case, Listing};
+use crate::command::TEST_MODE;
 use crate::generate::traces::lengthen;
 use crate::listing::LONGEST_TRACE;
 use crate::memory::ICON_PAGE;
@@ -24,6 +25,7 @@ pub fn listings(sink: &mut Sink) -> io::Result<()> {
     bands(&mut from_both)?;
     icons(&mut from_both)?;
     refusals(&mut from_both)?;
+    test_mode(&mut from_both)?;
     longest_traces(&mut from_both)
 }
 
@@ -155,8 +157,9 @@ fn icons(give: &mut Give) -> io::Result<()> {
 
 /// Records that are refused, with each number of a run and in each way, after
 /// the picture and before it.
-pub const REFUSED: [&[u8]; 13] = [
+pub const REFUSED: [&[u8]; 14] = [
     &[0x01, 0x00, 0x01, 0x00, 0x80],
+    &[0x04, 0x00, 0x01, 0x00, 0xA9, 0xF0, 0xFF, 0xE2],
     &[0x01, 0x00, 0x01, 0x00, 0xB9],
     &[0x02, 0x00, 0x01, 0x00, 0xD3, 0x40],
     &[0x02, 0x00, 0x01, 0x00, 0xD4, 0xE2],
@@ -192,6 +195,17 @@ fn refusals(give: &mut Give) -> io::Result<()> {
     }
     for left in 1..RESET_RECORD.len() {
         give(&[&picture[..], &SHOW, &RESET_RECORD[..left]].concat())?;
+    }
+    Ok(())
+}
+
+/// Each byte of test mode amid commands that turn the picture.
+fn test_mode(give: &mut Give) -> io::Result<()> {
+    let picture = picture();
+    for byte in TEST_MODE {
+        let mut trace = [&SHOW[..], &picture].concat();
+        push_record(&mut trace, 1, &[0xA7, byte, 0xA6, 0xE2]);
+        give(&trace)?;
     }
     Ok(())
 }

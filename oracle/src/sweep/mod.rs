@@ -7,6 +7,7 @@ mod compared_memories;
 mod listings;
 mod records;
 mod start_calls;
+mod test_mode;
 mod wide;
 
 use std::io;
@@ -23,7 +24,8 @@ use crate::start::Start;
 /// Takes the cases one by one.
 pub type Sink<'a> = dyn FnMut(Case) -> io::Result<()> + 'a;
 
-/// Gives every case of the sweep of the base to the sink.
+/// Gives every case of the sweep of the base to the sink, and after them those
+/// of Order 6's test mode.
 ///
 /// # Errors
 /// Those of the sink.
@@ -34,7 +36,8 @@ pub fn sweep(sink: &mut Sink) -> io::Result<()> {
     image_fields(sink)?;
     lengths(sink)?;
     pictures(sink)?;
-    traces(sink)
+    traces(sink)?;
+    test_mode::test_mode(sink)
 }
 
 /// Gives every pair of frames and of memories of the sweep to the sink.

@@ -99,7 +99,9 @@ fn the_commands_without_effect_make_the_next_read_a_dummy_too() {
 fn a_refused_event_leaves_fresh_alone() {
     let mut rig = Rig::power_on();
     assert!(rig.read().2);
-    assert_eq!(rig.command(0xF0), 3);
+    assert_eq!(rig.command(0x80), 3);
+    // F0 was 3 before Order 6.
+    assert_eq!(rig.command(0xF0), 15);
     assert_eq!(rig.command(0xBF), 4);
     assert_eq!(rig.state[FRESH], 0);
     rig.state[COLUMN] = 200;

@@ -14,6 +14,8 @@ mod refusals;
 mod rig;
 mod samples;
 mod start;
+mod test_mode;
+mod test_mode_wide;
 mod trace;
 mod wide_events;
 mod wide_picture;

@@ -4,7 +4,12 @@ use std::io::Write;
 use std::path::PathBuf;
 use std::process::{Command, Output, Stdio};
 
-use crate::rig::DOCUMENT_TRACE;
+use oracle::cases::wide::{Buffers, WideSingle};
+use oracle::cases::{Case, Run};
+use oracle::event::Event;
+use oracle::format::Writer;
+
+use crate::rig::{DOCUMENT_TRACE, POWER_ON};
 
 fn oracle(arguments: &[&str], input: &[u8]) -> Output {
     let mut child = Command::new(env!("CARGO_BIN_EXE_oracle"))
@@ -160,6 +165,55 @@ fn run_answers_number_offset_and_count() {
     assert!(text.starts_with("0 15 3\nstate 000200003F20040000000000000000000100"));
     assert_eq!(text_of(&["run", "--upright"], &trace), text);
     assert!(text_of(&["run", "--state", ""], &DOCUMENT_TRACE).starts_with("1 0 0\n"));
+}
+
+/// F0 and FF with no code awaited, FF as n of 81, EF, and FF as data.
+#[test]
+fn play_run_and_list_print_the_number_of_test_mode() {
+    let script = b"command F0 81 FF FF EF\nwrite FF\n";
+    assert!(
+        text_of(&["play"], script)
+            .starts_with("15 00 0\n0 00 0\n0 00 0\n15 00 0\n3 00 0\n0 00 0\nstate ")
+    );
+    let trace = [&DOCUMENT_TRACE[..], &[2, 0, 1, 0, 0xE3, 0xF7]].concat();
+    assert!(text_of(&["run"], &trace).starts_with("15 16 2\nstate 0002"));
+    for (arguments, frame) in [
+        (&["list"][..], "132 65\n62 131-131\n63 130-131\n"),
+        (&["list", "--upright"], "132 65\n0 0-1\n1 0-0\n"),
+        (
+            &["list", "--wide"],
+            "264 65\n62 131-131 263-263\n63 130-131 262-263\n",
+        ),
+        (
+            &["list", "--wide", "--upright"],
+            "264 65\n0 0-1 132-133\n1 0-0 132-132\n",
+        ),
+    ] {
+        let expected = format!("refused 15 at 16\nframe {frame}end\n");
+        assert_eq!(text_of(arguments, &trace), expected);
+    }
+}
+
+/// A stream of one run and one wide event that are refused 15 tells it so.
+#[test]
+fn show_prints_the_number_of_test_mode() {
+    let buffers = || Buffers {
+        state: POWER_ON.to_vec(),
+        memory: vec![0; 1188],
+    };
+    let Buffers { state, memory } = buffers();
+    let mut stream = Vec::new();
+    let mut writer = Writer::begin(&mut stream, 0).unwrap();
+    let run = Run::new(state, memory, vec![2, 0, 1, 0, 0x45, 0xFB]);
+    writer.write(&Case::Run(run)).unwrap();
+    let single = WideSingle::new(2, Event::Command(0xF0), [buffers(), buffers()]);
+    writer.write(&Case::WideSingle(single)).unwrap();
+    writer.end().unwrap();
+    // The version's four bytes come after the first eight.
+    assert_eq!(stream[8..12], [4, 0, 0, 0]);
+    let text = text_of(&["show"], &stream);
+    assert!(text.contains("\nanswer 15 5 0\nstate after 000005"));
+    assert!(text.contains("\nselection 2, command F0 -> 15 00 0\nleft state after "));
 }
 
 #[test]

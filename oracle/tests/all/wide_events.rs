@@ -112,7 +112,7 @@ type Row = (&'static [u8], &'static [u8], Event, [u8; 3]);
 fn neither_changes_where_any_selected_chip_refuses() {
     // Column 143; 81, D3 and D4 await their n.
     const ABOVE: &[u8] = &[0x0F, 0x18];
-    let table: [Row; 14] = [
+    let table: [Row; 16] = [
         (&[0x81], &[], Write(0x01), [6, 0, 6]),
         (&[], &[0x81], Write(0x01), [0, 6, 6]),
         (ABOVE, &[], Write(0x01), [7, 0, 7]),
@@ -125,8 +125,11 @@ fn neither_changes_where_any_selected_chip_refuses() {
         // B9 is n for D3 and not allowed; without a code it names no page.
         (&[0xD3], &[], Command(0xB9), [5, 4, 5]),
         (&[], &[0xD3], Command(0xB9), [4, 5, 4]),
-        (&[0xD4], &[], Command(0xF0), [5, 3, 5]),
-        (&[], &[0xD4], Command(0xF0), [3, 5, 3]),
+        (&[0xD4], &[], Command(0xEF), [5, 3, 5]),
+        (&[], &[0xD4], Command(0xEF), [3, 5, 3]),
+        // Next to EF begins Order 6's range; F0 was 3 before it.
+        (&[0xD4], &[], Command(0xF0), [5, 15, 5]),
+        (&[], &[0xD4], Command(0xF0), [15, 5, 15]),
         // 45 is a start line to the one and no offset to the other.
         (&[], &[0xD3], Command(0x45), [0, 5, 5]),
         // 3F is an offset to the one and outside the table to the other.

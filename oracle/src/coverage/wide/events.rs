@@ -4,9 +4,10 @@ use super::super::{Group, mixture, mixtures};
 use super::pairs::{IMAGES, PairCoverage, images_of, is_short};
 use super::{
     REFUSING, SELECTIONS, SIDES, event_name, in_the_way, reads_of_both, refusing, see_read_of_both,
-    selection_name,
+    see_test_mode_to_both, selection_name, test_mode_to_both,
 };
 use crate::cases::wide::WideSingle;
+use crate::command::TEST_MODE;
 use crate::event::{Event, meaning};
 use crate::refusal::{Refusal, TAKEN};
 use crate::registers::Registers;
@@ -27,9 +28,21 @@ const NOT_SELECTED: [&str; 4] = [
 ];
 
 /// The numbers of two chips that both refuse, left and right.
-const NUMBERS_OF_BOTH: [&str; 11] = [
-    "3 and 3", "3 and 5", "4 and 4", "4 and 5", "5 and 3", "5 and 4", "5 and 5", "6 and 6",
-    "6 and 7", "7 and 6", "7 and 7",
+const NUMBERS_OF_BOTH: [&str; 14] = [
+    "3 and 3",
+    "3 and 5",
+    "4 and 4",
+    "4 and 5",
+    "5 and 3",
+    "5 and 4",
+    "5 and 5",
+    "5 and 15",
+    "6 and 6",
+    "6 and 7",
+    "7 and 6",
+    "7 and 7",
+    "15 and 5",
+    "15 and 15",
 ];
 
 /// To whom a command taken by both is n.
@@ -49,6 +62,7 @@ pub struct WideEventCoverage {
     not_selected: Group,
     reads_of_both: Group,
     n_to: Group,
+    test_mode_to_both: Group,
 }
 
 impl WideEventCoverage {
@@ -65,7 +79,7 @@ impl WideEventCoverage {
         ];
         WideEventCoverage {
             numbers: [
-                Group::numbers("numbers of wide commands", &[0, 1, 2, 3, 4, 5, 13]),
+                Group::numbers("numbers of wide commands", &[0, 1, 2, 3, 4, 5, 13, 15]),
                 Group::numbers("numbers of wide writes", &[0, 1, 2, 6, 7, 13]),
                 Group::numbers("numbers of wide reads", &[0, 1, 2, 6, 7, 13, 14]),
                 Group::numbers("numbers of wide resets", &[0, 1, 13]),
@@ -89,6 +103,7 @@ impl WideEventCoverage {
             ),
             reads_of_both: reads_of_both("wide events, reads of both"),
             n_to: Group::new("wide commands taken by both, n to", N_TO),
+            test_mode_to_both: test_mode_to_both("wide events, test mode to both"),
         }
     }
 
@@ -105,6 +120,7 @@ impl WideEventCoverage {
             &self.not_selected,
             &self.reads_of_both,
             &self.n_to,
+            &self.test_mode_to_both,
         ]);
         groups
     }
@@ -181,6 +197,12 @@ impl WideEventCoverage {
         if selection == Selection::Both && left != TAKEN && right != TAKEN {
             self.numbers_of_both
                 .hit_label(&format!("{left} and {right}"));
+        }
+        if let Event::Command(byte) = single.event
+            && TEST_MODE.contains(&byte)
+            && selection == Selection::Both
+        {
+            see_test_mode_to_both(&mut self.test_mode_to_both, numbers);
         }
         if selection == Selection::Both && numbers == [TAKEN; 2] && name == "command" {
             let [left, right] = registers.map(|registers| usize::from(registers.awaited.is_some()));

@@ -69,6 +69,25 @@ fn refusing(selection: Selection, numbers: [u8; 2]) -> Option<&'static str> {
     }
 }
 
+/// What a byte of test mode can be to a chip.
+const TEST_MODE_IS: [&str; 3] = ["taken", "5", "15"];
+
+/// What bytes of test mode can be to both selected chips, left and right.
+fn test_mode_to_both(name: &'static str) -> Group {
+    Group::new(name, mixtures(&[&TEST_MODE_IS, &TEST_MODE_IS]))
+}
+
+/// Counts what a byte of test mode is to both chips, by the number that each
+/// would give.
+fn see_test_mode_to_both(group: &mut Group, numbers: [u8; 2]) {
+    let [taken, ..] = TEST_MODE_IS;
+    let [left, right] = numbers.map(|number| match number {
+        TAKEN => taken.to_string(),
+        _ => number.to_string(),
+    });
+    group.hit_label(&mixture(&[&left, &right]));
+}
+
 /// What can be in the way of data.
 const IN_THE_WAY: [&str; 3] = ["nothing", "code awaited", "column above 131"];
 
@@ -113,7 +132,9 @@ const LISTINGS: [&str; 8] = [
 ];
 
 /// The numbers of runs that are printed.
-const LISTED_NUMBERS: [&str; 11] = ["0", "3", "4", "5", "6", "7", "8", "9", "10", "13", "14"];
+const LISTED_NUMBERS: [&str; 12] = [
+    "0", "3", "4", "5", "6", "7", "8", "9", "10", "13", "14", "15",
+];
 
 /// The counts of the wide terminal.
 #[derive(Clone, PartialEq, Eq, Debug)]

@@ -3,9 +3,11 @@
 use super::super::{Group, mixture, mixtures, records_done};
 use super::pairs::PairCoverage;
 use super::{
-    REFUSING, SELECTIONS, SIDES, reads_of_both, refusing, see_read_of_both, selection_name,
+    REFUSING, SELECTIONS, SIDES, reads_of_both, refusing, see_read_of_both, see_test_mode_to_both,
+    selection_name, test_mode_to_both,
 };
 use crate::cases::wide::WideRun;
+use crate::command::TEST_MODE;
 use crate::refusal::{Refusal, TAKEN};
 use crate::registers::Registers;
 use crate::trace::{HEADER_LENGTH, Payload, Record, first_parts, obey};
@@ -59,7 +61,7 @@ const ENDS: [&str; 5] = [
 const PLACES: [&str; 2] = ["first byte", "later byte"];
 
 /// How far past 65,535 a run can go.
-const PAST: [&str; 3] = ["refused 13", "refused 14", "all taken"];
+const PAST: [&str; 4] = ["refused 13", "refused 14", "refused 15", "all taken"];
 
 /// The counts of runs.
 #[derive(Clone, PartialEq, Eq, Debug)]
@@ -76,18 +78,12 @@ pub struct WideRunCoverage {
     reads_of_both: Group,
     ends: Group,
     past: Group,
+    test_mode_to_both: Group,
 }
 
 impl WideRunCoverage {
     /// Nothing reached yet.
     pub fn new() -> WideRunCoverage {
-        let [left_alone, right_alone, ..] = REFUSING;
-        // Nothing in a record of data can come in the way of its later bytes.
-        let refused = [
-            mixtures(&[&["commands"], &REFUSING, &PLACES]),
-            mixtures(&[&["written"], &REFUSING, &PLACES[..1]]),
-            mixtures(&[&["read"], &[left_alone, right_alone], &PLACES]),
-        ];
         let done = [
             mixtures(&[&SELECTIONS, &RECORDS[..6]]),
             mixtures(&[&SELECTIONS[..2], &RECORDS[6..]]),
@@ -95,7 +91,7 @@ impl WideRunCoverage {
         WideRunCoverage {
             numbers: Group::numbers(
                 "numbers of wide runs",
-                &[0, 1, 2, 3, 4, 5, 6, 7, 8, 9, 10, 13, 14],
+                &[0, 1, 2, 3, 4, 5, 6, 7, 8, 9, 10, 13, 14, 15],
             ),
             pairs: PairCoverage::new([
                 "wide runs, lengths",
@@ -110,7 +106,7 @@ impl WideRunCoverage {
             not_selecting: Group::new("wide runs, refused 13", NOT_SELECTING),
             cut: Group::new("wide runs, cut short", CUT),
             wrong_kinds: Group::new("wide runs, wrong kinds", WRONG_KINDS),
-            refused: Group::new("wide runs, refused bytes", refused.concat()),
+            refused: Group::new("wide runs, refused bytes", refused_bytes()),
             reads_refused: Group::new(
                 "wide runs, reads refused",
                 mixtures(&[&SIDES, &["6", "7", "10"]]),
@@ -118,6 +114,9 @@ impl WideRunCoverage {
             reads_of_both: reads_of_both("wide runs, reads of both"),
             ends: Group::new("wide runs taken that end with", ENDS),
             past: Group::new("wide runs past offset 65,535", PAST),
+            // Only a byte that stops the run is counted.
+            test_mode_to_both: test_mode_to_both("wide runs, test mode to both")
+                .without("taken, taken"),
         }
     }
 
@@ -136,6 +135,7 @@ impl WideRunCoverage {
             &self.reads_of_both,
             &self.ends,
             &self.past,
+            &self.test_mode_to_both,
         ]);
         groups
     }
@@ -178,13 +178,14 @@ impl WideRunCoverage {
 
     /// Counts how far a long run goes.
     fn see_past(&mut self, run: &WideRun) {
-        let [wrong_selection, read_of_both, all] = PAST;
+        let [wrong_selection, read_of_both, test_mode, all] = PAST;
         if u16::try_from(run.answer.offset).is_ok() {
             return;
         }
         match run.answer.number {
             13 => self.past.hit_label(wrong_selection),
             14 => self.past.hit_label(read_of_both),
+            15 => self.past.hit_label(test_mode),
             TAKEN => self.past.hit_label(all),
             _ => {}
         }
@@ -217,21 +218,11 @@ impl WideRunCoverage {
         place: usize,
         byte: u8,
     ) {
-        let registers = run.pair_after.each_ref().map(|buffers| {
-            let image = buffers.state.first_chunk();
-            let registers = image.and_then(Registers::from_image);
-            registers.expect("a run leaves legal images")
-        });
         if run.answer.number == Refusal::ReadOfBoth.number() {
-            see_read_of_both(&mut self.reads_of_both, registers);
+            see_read_of_both(&mut self.reads_of_both, registers_left(run));
             return;
         }
-        let numbers = Side::ALL.map(|side| {
-            let memory = run.pair_after[side.index()].memory.first_chunk();
-            let memory = memory.expect("memories that are long enough");
-            let obeyed = obey(registers[side.index()], memory, payload, byte);
-            obeyed.map_or_else(Refusal::number, |_| TAKEN)
-        });
+        let numbers = numbers_of_chips(run, payload, byte);
         let who = refusing(selection, numbers).expect("a byte that was refused");
         let name = match payload {
             Payload::Commands => "commands",
@@ -240,12 +231,48 @@ impl WideRunCoverage {
         };
         let label = mixture(&[name, who, PLACES[usize::from(place > 0)]]);
         self.refused.hit_label(&label);
+        let is_command = payload == Payload::Commands;
+        if is_command && TEST_MODE.contains(&byte) && selection == Selection::Both {
+            see_test_mode_to_both(&mut self.test_mode_to_both, numbers);
+        }
         if let (Payload::Read, &[side]) = (payload, selection.sides()) {
             let number = run.answer.number.to_string();
             let label = mixture(&[SIDES[side.index()], &number]);
             self.reads_refused.hit_label(&label);
         }
     }
+}
+
+/// Who can refuse a payload byte, and where in its record.
+fn refused_bytes() -> Vec<String> {
+    let [left_alone, right_alone, ..] = REFUSING;
+    // Nothing in a record of data can come in the way of its later bytes.
+    let refused = [
+        mixtures(&[&["commands"], &REFUSING, &PLACES]),
+        mixtures(&[&["written"], &REFUSING, &PLACES[..1]]),
+        mixtures(&[&["read"], &[left_alone, right_alone], &PLACES]),
+    ];
+    refused.concat()
+}
+
+/// The registers of both chips after a run.
+fn registers_left(run: &WideRun) -> [Registers; 2] {
+    run.pair_after.each_ref().map(|buffers| {
+        let image = buffers.state.first_chunk();
+        let registers = image.and_then(Registers::from_image);
+        registers.expect("a run leaves legal images")
+    })
+}
+
+/// The number that each chip would give a payload byte after a run.
+fn numbers_of_chips(run: &WideRun, payload: Payload, byte: u8) -> [u8; 2] {
+    let registers = registers_left(run);
+    Side::ALL.map(|side| {
+        let memory = run.pair_after[side.index()].memory.first_chunk();
+        let memory = memory.expect("memories that are long enough");
+        let obeyed = obey(registers[side.index()], memory, payload, byte);
+        obeyed.map_or_else(Refusal::number, |_| TAKEN)
+    })
 }
 
 /// The record in words.

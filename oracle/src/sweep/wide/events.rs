@@ -3,11 +3,15 @@
 
 use std::io;
 
-use super::{LEFT, RIGHT, cut_pair, legal_or_not, lengths, obstacles, pair_of, pair_with, spoilt};
+use super::{
+    LEFT, RIGHT, awaiting, cut_pair, legal_or_not, lengths, obstacles, pair_of, pair_with, spoilt,
+};
 use crate::cases::Case;
 use crate::cases::wide::{Pair, WideSingle};
+use crate::command::TEST_MODE;
 use crate::event::Event;
 use crate::generate::states::illegal_values;
+use crate::memory::MEMORY_LENGTH;
 use crate::registers::{Awaited, IMAGE_LENGTH, Registers};
 use crate::sweep::{FLAGS, Sink};
 
@@ -25,7 +29,8 @@ pub fn events(sink: &mut Sink) -> io::Result<()> {
     codes_and_bytes(&mut give)?;
     data(&mut give)?;
     image_fields(&mut give)?;
-    buffer_lengths(&mut give)
+    buffer_lengths(&mut give)?;
+    test_mode(&mut give)
 }
 
 /// Takes selection, event and buffers of the cases one by one.
@@ -166,6 +171,34 @@ fn buffer_lengths(give: &mut GiveEvent) -> io::Result<()> {
             for (kind, event) in EVENTS.into_iter().enumerate() {
                 let selection = [0, 1, 2, 3][(turn + legality + kind) % 4];
                 give(selection, event, &pair)?;
+            }
+        }
+    }
+    Ok(())
+}
+
+/// Bytes of test mode, the next of them at each case: with every mixture of
+/// codes awaited, and with illegal images and short buffers under every
+/// selection and none.
+fn test_mode(give: &mut GiveEvent) -> io::Result<()> {
+    let mut bytes = TEST_MODE.cycle().map(Event::Command);
+    let mut give_next = |selection: u8, pair: &Pair| {
+        let event = bytes.next().expect("a cycle has no end");
+        give(selection, event, pair)
+    };
+    for registers in awaiting() {
+        for selection in SELECTIONS {
+            give_next(selection, &pair_with(registers))?;
+        }
+    }
+    let exact = [IMAGE_LENGTH, MEMORY_LENGTH, IMAGE_LENGTH, MEMORY_LENGTH];
+    for images in legal_or_not() {
+        for selection in [0, 1, 2, 3, 4] {
+            give_next(selection, &pair_of(images))?;
+            for short in 0..exact.len() {
+                let mut lengths = exact;
+                lengths[short] -= 1;
+                give_next(selection, &cut_pair(pair_of(images), lengths))?;
             }
         }
     }

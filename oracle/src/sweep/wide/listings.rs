@@ -3,6 +3,7 @@
 use std::io;
 
 use crate::cases::{Case, Listing};
+use crate::command::TEST_MODE;
 use crate::generate::traces::lengthen;
 use crate::listing::LONGEST_TRACE;
 use crate::memory::ICON_PAGE;
@@ -25,6 +26,7 @@ pub fn listings(sink: &mut Sink) -> io::Result<()> {
     lit_and_turned(&mut from_both)?;
     over_the_middle(&mut from_both)?;
     refusals(&mut from_both)?;
+    test_mode(&mut from_both)?;
     let mut longest = DOCUMENT_TRACE.to_vec();
     lengthen(&mut longest, LONGEST_TRACE);
     from_both(&longest)?;
@@ -119,6 +121,21 @@ fn refusals(give: &mut Give) -> io::Result<()> {
         for selection in [1, 2, 3] {
             give(&[&picture()[..], &selecting(selection), refused, &all_lit].concat())?;
         }
+    }
+    Ok(())
+}
+
+/// Each byte of test mode under a selection, amid commands that turn the
+/// picture; then with a code awaited by one of two selected chips.
+fn test_mode(give: &mut Give) -> io::Result<()> {
+    for byte in TEST_MODE {
+        let selection = 1 + byte % 3;
+        let amid = commands(&[0xA7, byte, 0xA6]);
+        give(&[picture(), selecting(selection), amid].concat())?;
+    }
+    for selection in [1, 2] {
+        let code = [selecting(selection), commands(&[0xD4]), selecting(3)].concat();
+        give(&[picture(), code, commands(&[0xF0, 0xA5])].concat())?;
     }
     Ok(())
 }

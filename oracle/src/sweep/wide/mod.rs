@@ -12,7 +12,7 @@ use crate::cases::wide::{Buffers, Pair};
 use crate::generate::{MEMORY_LENGTHS, STATE_LENGTHS};
 use crate::memory::{MEMORY_LENGTH, Memory};
 use crate::registers::{Awaited, IMAGE_LENGTH, Image, Registers};
-use crate::sweep::{Sink, UNLIKE_POWER_ON, cut_or_lengthened, uneven_memory};
+use crate::sweep::{Sink, UNLIKE_POWER_ON, awaited_or_none, cut_or_lengthened, uneven_memory};
 
 /// Gives every case of the wide terminal to the sink.
 pub fn wide(sink: &mut Sink) -> io::Result<()> {
@@ -127,6 +127,17 @@ fn cut_pair([left, right]: Pair, lengths: [usize; 4]) -> Pair {
         cut(left, lengths[0], lengths[1]),
         cut(right, lengths[2], lengths[3]),
     ]
+}
+
+/// Every mixture of what the two chips can await.
+fn awaiting() -> Vec<[Registers; 2]> {
+    let with = |registers: Registers, awaited: Option<Awaited>| Registers {
+        awaited,
+        ..registers
+    };
+    awaited_or_none()
+        .flat_map(|left| awaited_or_none().map(move |right| [with(LEFT, left), with(RIGHT, right)]))
+        .collect()
 }
 
 /// Registers with nothing in the way of data, fresh or not, and with each thing

@@ -4,10 +4,12 @@
 use std::io;
 
 use super::{
-    LEFT, RIGHT, cut_pair, legal_or_not, lengths, obstacles, pair_of, pair_with, right_memory,
+    LEFT, RIGHT, awaiting, cut_pair, legal_or_not, lengths, obstacles, pair_of, pair_with,
+    right_memory,
 };
 use crate::cases::Case;
 use crate::cases::wide::{Pair, WideRun};
+use crate::command::TEST_MODE;
 use crate::sweep::records::push_record;
 use crate::sweep::{DOCUMENT_TRACE, Give, Sink, uneven_memory};
 
@@ -24,7 +26,8 @@ pub fn runs(sink: &mut Sink) -> io::Result<()> {
     cut_and_damaged(&mut give_free)?;
     past_two_bytes(&mut give_free)?;
     chips_in_the_way(&mut give)?;
-    buffer_lengths(&mut give)
+    buffer_lengths(&mut give)?;
+    test_mode(&mut give)
 }
 
 /// Takes buffers and traces one by one.
@@ -117,7 +120,7 @@ fn records_after_selections(give: &mut Give) -> io::Result<()> {
 fn staggered_codes(give: &mut Give) -> io::Result<()> {
     for selection in [1, 2] {
         for codes in [[0x81, 0xD3], [0x81, 0xD4], [0xA8, 0x81]] {
-            for last in [0x05, 0x30, 0x3F, 0x45, 0x80, 0xB9, 0xD3, 0xE2] {
+            for last in [0x05, 0x30, 0x3F, 0x45, 0x80, 0xB9, 0xD3, 0xE2, 0xF0, 0xFF] {
                 let [first, second] = codes;
                 give(&trace_of(&[
                     (5, &[selection]),
@@ -197,7 +200,7 @@ fn cut_and_damaged(give: &mut Give) -> io::Result<()> {
 /// Stops past offset 65,535, and all of so long a trace taken.
 fn past_two_bytes(give: &mut Give) -> io::Result<()> {
     let resets = trace_of(&[(4, &[])]).repeat(16_384);
-    for (kind, payload) in [(5, &[4]), (5, &[2]), (3, &[0x00])] {
+    for (kind, payload) in [(5, &[4]), (5, &[2]), (3, &[0x00]), (1, &[0xF0])] {
         give(&[resets.clone(), trace_of(&[(kind, payload)])].concat())?;
     }
     Ok(())
@@ -238,6 +241,31 @@ fn buffer_lengths(give: &mut GiveRun) -> io::Result<()> {
         for (legality, images) in legal_or_not().into_iter().enumerate() {
             let trace = &traces[(turn + legality) % traces.len()];
             give(&cut_pair(pair_of(images), lengths), trace)?;
+        }
+    }
+    Ok(())
+}
+
+/// Bytes of test mode: each amid the commands of a record under a selection,
+/// and as n and right after it; and the next of them at each case with every mixture of codes awaited, to
+/// both chips and to one of them.
+fn test_mode(give: &mut GiveRun) -> io::Result<()> {
+    let free = pair_with([LEFT, RIGHT]);
+    for byte in TEST_MODE {
+        let selection = 1 + byte % 3;
+        for record in [&[0x45, byte, 0x46][..], &[0xA9, byte, byte]] {
+            give(&free, &trace_of(&[(5, &[selection]), (1, record)]))?;
+        }
+    }
+    let mut bytes = TEST_MODE.cycle();
+    for (turn, registers) in awaiting().into_iter().enumerate() {
+        for selection in [3, [1, 2][turn % 2]] {
+            let byte = bytes.next().expect("a cycle has no end");
+            let record = (1, &[byte, 0x10][..]);
+            give(
+                &pair_with(registers),
+                &trace_of(&[(5, &[selection]), record]),
+            )?;
         }
     }
     Ok(())
