@@ -172,6 +172,8 @@ static uint8_t command(uint8_t *state, uint8_t byte)
   case 0xC:
     state[ROW_DIRECTION] = byte >= 0xC8;
     break;
+  case 0xF:
+    return SSD1815B_TEST_MODE;
   default:
     switch (byte) {
     case 0xA0: case 0xA1:

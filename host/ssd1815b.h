@@ -78,8 +78,8 @@ extern "C" {
 ** As text, and as the number 1000000 * major + 1000 * minor + patch, so that
 ** a program can ask `#if SSD1815B_VERSION_NUMBER >= 4000000`.
 */
-#define SSD1815B_VERSION         "4.4.0"
-#define SSD1815B_VERSION_NUMBER  4004000
+#define SSD1815B_VERSION         "4.5.0"
+#define SSD1815B_VERSION_NUMBER  4005000
 
 /*
 ** Sizes
@@ -114,10 +114,10 @@ extern "C" {
 /*
 ** Numbers given
 **
-** SSD1815B_TAKEN, or why not.  The event calls answer 0 to 7 (a command byte
-** 0 to 5, a data byte 0 to 2, 6 and 7, the reset pin 0 and 1), the run any
-** of these up to 10, drawing and the power state 0 to 2, starting and listing
-** 0 and 1, the record at an offset 0 and 8, comparing frames 0, 1, 11 and 12,
+** SSD1815B_TAKEN, or why not.  The event calls answer 0 to 7 and 15 (a command
+** byte 0 to 5 and 15, a data byte 0 to 2, 6 and 7, the reset pin 0 and 1), the
+** run any of these and 8 to 10, drawing and the power state 0 to 2, starting
+** and listing 0 and 1, the record at an offset 0 and 8, comparing frames 0, 1, 11 and 12,
 ** comparing memories 0, 1 and 11.  A wide call answers what its narrow one
 ** does, and of 13 and 14 those that it says; the page call, which has no narrow
 ** one, 0, 1, 4 and 13.
@@ -130,8 +130,8 @@ extern "C" {
 #define SSD1815B_TOO_SHORT      1  /* state, memory, frame or text is shorter
                                    ** than needed */
 #define SSD1815B_OUT_OF_RANGE   2  /* the state image is out of its ranges */
-#define SSD1815B_OUTSIDE_TABLE  3  /* a byte that is no command, B9 to BF
-                                   ** apart, with no code awaited */
+#define SSD1815B_OUTSIDE_TABLE  3  /* a byte that is no command, B9 to BF and
+                                   ** F0 to FF apart, with no code awaited */
 #define SSD1815B_NO_PAGE        4  /* B9 to BF, with no code awaited; a page
                                    ** above 8 in the page call */
 #define SSD1815B_NOT_ALLOWED    5  /* n of D3 or D4; the code stays awaited */
@@ -148,6 +148,10 @@ extern "C" {
                                        ** record's payload, or what a wide call
                                        ** is given */
 #define SSD1815B_BOTH_SELECTED     14  /* a read with both chips selected */
+#define SSD1815B_TEST_MODE         15  /* F0 to FF, which would put a real chip
+                                       ** in test mode, with no code awaited;
+                                       ** 3 before version 4.5 */
+#define SSD1815B_LAST_NUMBER  SSD1815B_TEST_MODE  /* for tables of them */
 
 /*
 ** The state image

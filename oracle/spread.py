@@ -719,9 +719,9 @@ def parts(oracle, lent):
 
 def numbers_missed(made):
     """The numbers that the parts of a kind have to reach and do not."""
-    for statement, numbers in (("Calls", 8), ("Runs", 11), ("Drawings", 3)):
+    for statement, numbers in (("Calls", {*range(8), 15}), ("Runs", {*range(11), 15}), ("Drawings", {*range(3)})):
         reached = set().union(*(part.numbers for part in made if part.statement == statement))
-        yield from (f"{statement} {number}" for number in range(numbers) if number not in reached)
+        yield from (f"{statement} {number}" for number in sorted(numbers - reached))
 
 
 def table(oracle):

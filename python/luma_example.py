@@ -113,7 +113,7 @@ def hidden() -> tuple[bytes, Image.Image, bytes]:
 
 
 def stopped() -> tuple[bytes, Image.Image, bytes]:
-    """luma's UC1701X driver, whose F8 is outside document 01's table; the display is off there."""
+    """luma's UC1701X driver, whose F8 would put an SSD1815B in test mode; the display is off there."""
     recorder = Recorder()
     device = uc1701x(recorder, gpio=noop())
     image = picture("LUMA UC1701X")
@@ -126,7 +126,7 @@ EXAMPLES = {
     "st7567-second-picture": (second_picture, Number.TAKEN),
     "st7567-upside-down": (upside_down, Number.TAKEN),
     "st7567-hidden": (hidden, Number.TAKEN),
-    "3-uc1701x": (stopped, Number.OUTSIDE_TABLE),
+    "15-uc1701x": (stopped, Number.TEST_MODE),
 }
 
 
@@ -153,7 +153,7 @@ def main(arguments: list[str]) -> int:
         good &= upright.run(trace) == run and upright.draw().frame == frame
         wrong += not good
         stop = "all taken" if run.number == Number.TAKEN else f"refused {run.number} at {run.offset}"
-        if run.number == Number.OUTSIDE_TABLE:
+        if run.number == Number.TEST_MODE:
             stop += f", byte {trace[run.offset]:02X}"
         print(f"{name}: {len(trace)} bytes, {stop}; the frame is {'as' if good else 'NOT AS'} it should be")
         if arguments:

@@ -82,6 +82,7 @@ class Number(enum.IntEnum):
     FRAME_BYTE_ABOVE = 12
     NO_SELECTION = 13
     BOTH_SELECTED = 14
+    TEST_MODE = 15
 
 
 class Register(enum.IntEnum):

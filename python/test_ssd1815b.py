@@ -331,8 +331,9 @@ class Wide(unittest.TestCase):
             self.assertEqual(wide.read(selection), (13, 0, False))
         wide = WideTerminal()
         wide.command(Selection.LEFT, 0xD3)
-        self.assert_refused(wide, 5, "command", Selection.BOTH, 0xF0)   # the right's would be 3
-        self.assert_refused(wide, 3, "command", Selection.RIGHT, 0xF0)
+        self.assert_refused(wide, 5, "command", Selection.BOTH, 0xF0)   # the right's would be 15
+        self.assert_refused(wide, Number.TEST_MODE, "command", Selection.RIGHT, 0xF0)
+        self.assert_refused(wide, 3, "command", Selection.RIGHT, 0xEF)
         self.assert_refused(wide, 6, "write", Selection.BOTH, 0x55)     # the right could take it
         self.assertEqual(wide.write(Selection.RIGHT, 0x55), 0)
         wide.right.state = b"\x09" + POWER_ON[1:]
@@ -509,13 +510,13 @@ class Drivers(unittest.TestCase):
         self.assertEqual(self.frame("st7567-hidden"), bytes(8580))
 
     def test_another_controller(self) -> None:
-        trace = (DRIVERS / "3-uc1701x.trace").read_bytes()
+        trace = (DRIVERS / "15-uc1701x.trace").read_bytes()
         for chip in Chip(), Chip(upright=True):
             run = chip.run(trace)
-            self.assertEqual((run.number, trace[run.offset]), (3, 0xF8))
+            self.assertEqual((run.number, trace[run.offset]), (Number.TEST_MODE, 0xF8))
 
     def test_each_trace_is_tested(self) -> None:
-        tested = {"st7567-picture", "st7567-second-picture", "st7567-upside-down", "st7567-hidden", "3-uc1701x"}
+        tested = {"st7567-picture", "st7567-second-picture", "st7567-upside-down", "st7567-hidden", "15-uc1701x"}
         self.assertEqual({path.stem for path in DRIVERS.glob("*.trace")}, tested)
 
     def test_example(self) -> None:

@@ -2,33 +2,35 @@
 
 #include <stdio.h>
 
-enum { NUMBERS = 15 };
+#include "ssd1815b.h"
+
+enum { NUMBERS = SSD1815B_LAST_NUMBER + 1 };
 
 static const struct {
   const char *name;
-  const char *can_give; /* '+' for each number that the call can give */
+  char can_give[NUMBERS + 1]; /* '+' for each number that the call can give */
 } calls[CALLS] = {
-  [CALL_COMMAND]           = { "command",          "++++++         " },
-  [CALL_WRITE]             = { "write",            "+++   ++       " },
-  [CALL_READ]              = { "read",             "+++   ++       " },
-  [CALL_RESET]             = { "reset",            "++             " },
-  [CALL_RUN]               = { "run",              "+++++++++++    " },
-  [CALL_DRAW]              = { "draw",             "+++            " },
-  [CALL_LIST]              = { "list",             "+              " },
-  [CALL_LIST_UPRIGHT]      = { "list upright",     "+              " },
-  [CALL_FRAMES]            = { "frames",           "++         ++  " },
-  [CALL_MEMORIES]          = { "memories",         "++         +   " },
-  [CALL_START]             = { "start",            "++             " },
-  [CALL_START_UPRIGHT]     = { "start upright",    "++             " },
-  [CALL_WIDE_COMMAND]      = { "wide command",     "++++++       + " },
-  [CALL_WIDE_WRITE]        = { "wide write",       "+++   ++     + " },
-  [CALL_WIDE_READ]         = { "wide read",        "+++   ++     ++" },
-  [CALL_WIDE_RESET]        = { "wide reset",       "++           + " },
-  [CALL_WIDE_RUN]          = { "wide run",         "+++++++++++  ++" },
-  [CALL_WIDE_DRAW]         = { "wide draw",        "+++            " },
-  [CALL_WIDE_PAGE]         = { "wide page",        "++  +          " },
-  [CALL_WIDE_LIST]         = { "wide list",        "+              " },
-  [CALL_WIDE_LIST_UPRIGHT] = { "wide list upright","+              " },
+  [CALL_COMMAND]           = { "command",          "++++++         +" },
+  [CALL_WRITE]             = { "write",            "+++   ++        " },
+  [CALL_READ]              = { "read",             "+++   ++        " },
+  [CALL_RESET]             = { "reset",            "++              " },
+  [CALL_RUN]               = { "run",              "+++++++++++    +" },
+  [CALL_DRAW]              = { "draw",             "+++             " },
+  [CALL_LIST]              = { "list",             "+               " },
+  [CALL_LIST_UPRIGHT]      = { "list upright",     "+               " },
+  [CALL_FRAMES]            = { "frames",           "++         ++   " },
+  [CALL_MEMORIES]          = { "memories",         "++         +    " },
+  [CALL_START]             = { "start",            "++              " },
+  [CALL_START_UPRIGHT]     = { "start upright",    "++              " },
+  [CALL_WIDE_COMMAND]      = { "wide command",     "++++++       + +" },
+  [CALL_WIDE_WRITE]        = { "wide write",       "+++   ++     +  " },
+  [CALL_WIDE_READ]         = { "wide read",        "+++   ++     ++ " },
+  [CALL_WIDE_RESET]        = { "wide reset",       "++           +  " },
+  [CALL_WIDE_RUN]          = { "wide run",         "+++++++++++  +++" },
+  [CALL_WIDE_DRAW]         = { "wide draw",        "+++             " },
+  [CALL_WIDE_PAGE]         = { "wide page",        "++  +           " },
+  [CALL_WIDE_LIST]         = { "wide list",        "+               " },
+  [CALL_WIDE_LIST_UPRIGHT] = { "wide list upright","+               " },
 };
 
 static unsigned long given[CALLS][NUMBERS];

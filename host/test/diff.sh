@@ -381,11 +381,14 @@ fault 1 'expected the end of the line; found CR LF, and LF alone ends a line her
 fault 1 'expected a frame, which list prints of no trace above 65,536 bytes (diff takes the trace itself); found "input too long"' \
   'input too long\n'
 
-fault 1 'expected a number from 3 to 10; found "11 at 6"' 'refused 11 at 6\nframe 132 65\nend\n'
-fault 1 'expected a number from 3 to 10; found "2 at 6"' 'refused 2 at 6\nframe 132 65\nend\n'
-fault 1 'expected a number from 3 to 10; found "0 at 6"' 'refused 0 at 6\nframe 132 65\nend\n'
-fault 1 'expected a number from 3 to 10 with no 0 before it; found "04 at 6"' 'refused 04 at 6\nframe 132 65\nend\n'
-fault 1 'expected a number from 3 to 10; found the end of the line' 'refused \nframe 132 65\nend\n'
+for number in 11 12 13 14; do
+  fault 1 "expected a number that a run answers, 3 to 10 or 15; found \"$number at 6\"" "refused $number at 6\nframe 132 65\nend\n"
+done
+fault 1 'expected a number from 3 to 15; found "16 at 6"' 'refused 16 at 6\nframe 132 65\nend\n'
+fault 1 'expected a number from 3 to 15; found "2 at 6"' 'refused 2 at 6\nframe 132 65\nend\n'
+fault 1 'expected a number from 3 to 15; found "0 at 6"' 'refused 0 at 6\nframe 132 65\nend\n'
+fault 1 'expected a number from 3 to 15 with no 0 before it; found "04 at 6"' 'refused 04 at 6\nframe 132 65\nend\n'
+fault 1 'expected a number from 3 to 15; found the end of the line' 'refused \nframe 132 65\nend\n'
 fault 1 'expected at and an offset; found "  at 6"' 'refused 4  at 6\nframe 132 65\nend\n'
 fault 1 'expected an offset from 0 to 65535; found "65536"' 'refused 4 at 65536\nframe 132 65\nend\n'
 fault 1 'expected an offset from 0 to 65535; found "999999999999999999999999" and more' \

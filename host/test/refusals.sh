@@ -27,6 +27,7 @@ shows() {
 # ---- the number and its meaning ----
 
 says 'refused 3 at 4 (0x4): a command byte outside the table' 01 00 01 00 30
+says 'refused 15 at 5 (0x5): a command byte of test mode, with no code awaited' 02 00 01 00 AF F4
 says 'refused 4 at 5 (0x5): B9 to BF name no page' 02 00 01 00 AF B9
 says 'refused 5 at 5 (0x5): n of D3 or D4 not allowed' 02 00 01 00 D3 40
 says 'refused 6 at 9 (0x9): a data write or read while a code is awaited' 01 00 01 00 81 01 00 02 00 00
@@ -45,18 +46,33 @@ shows 'D0 is no command: CF (rows reversed) and D3 (offset) are the neighbours' 
 shows 'DF is no command: D4 (frame phases) and E0 (enter read-modify-write) are the neighbours' 01 00 01 00 DF
 shows 'E1 is no command: E0 (enter read-modify-write) and E2 (software reset) are the neighbours' 01 00 01 00 E1
 shows 'E4 is no command: E3 (nothing) and EE (leave read-modify-write) are the neighbours' 01 00 01 00 E4
-shows 'F8 is no command: EE (leave read-modify-write) is the neighbour below, and none is above' 01 00 01 00 F8
+shows 'EF is no command: EE (leave read-modify-write) is the neighbour below, and none is above' 01 00 01 00 EF
 
-# Every byte that document 01 leaves out is refused by 3, and the two that are
-# named beside it are taken; so the words and the model have the same table.
-for number in {48..63} 128 {130..159} {208..210} {213..223} 225 {228..237} {239..255}; do
+# Every byte that document 01 leaves out, test mode's apart, is refused by 3, and
+# the two that are named beside it are taken; so the words and the model have the
+# same table.
+for number in {48..63} 128 {130..159} {208..210} {213..223} 225 {228..237} 239; do
   byte=$(printf '%02X' "$number")
+  says 'refused 3 at 4 (0x4): ' 01 00 01 00 "$byte"
   says "$byte is no command" 01 00 01 00 "$byte"
   for neighbour in $(grep 'is no command' "$here/err" | grep -oE '[0-9A-F]{2} \(' | tr -d ' ('); do
     ran "${tool[@]}" list < <(bytes 01 00 01 00 "$neighbour")
     check "refused: $neighbour, a neighbour of $byte, is taken" status_is 0
   done
 done
+
+# ---- 15: what the byte would do ----
+
+shows 'F0 would put a real chip into test mode, or out of it: its sheet says Test Mode Reset' 01 00 01 00 F0
+for number in {241..255}; do
+  byte=$(printf '%02X' "$number")
+  says 'refused 15 at 4 (0x4): ' 01 00 01 00 "$byte"
+  shows "$byte would put a real chip into test mode" 01 00 01 00 "$byte"
+done
+# As n it is n.
+ran "${tool[@]}" list < <(bytes 08 00 01 00 81 F4 A8 FF A9 F0 AD F3)
+check 'refused: a byte of test mode as n is none' status_is 0
+shows 'D3 (offset) takes 00 to 3F, got F4' 02 00 01 00 D3 F4
 
 # ---- 4 and 5: what is allowed ----
 

@@ -330,8 +330,8 @@ static const struct trouble after_D3 = { SSD1815B_AWAITED_CODE, 0xD3 };
 static const struct trouble column_200 = { SSD1815B_COLUMN, 200 };
 
 /* Both selected: if either refuses, neither changes, and the number is the
-** left's where both do.  To D3 the byte F0 is 5; else F0 is 3 and B9 is 4; to
-** 81 both are contrasts. */
+** left's where both do.  To D3 each byte is 5; else F0 and FF are 15, EF is 3
+** and B9 is 4; to 81 all are contrasts. */
 static void neither_changes(void)
 {
   static const struct {
@@ -341,13 +341,17 @@ static void neither_changes(void)
     const struct trouble *right;
     uint8_t number;
   } rows[] = {
-    { COMMAND, 0xF0, &after_81, &none, 3 },
-    { COMMAND, 0xF0, &none, &after_81, 3 },
+    { COMMAND, 0xF0, &after_81, &none, 15 },
+    { COMMAND, 0xF0, &none, &after_81, 15 },
+    { COMMAND, 0xFF, &none, &none, 15 },
+    { COMMAND, 0xEF, &after_81, &none, 3 },
+    { COMMAND, 0xEF, &none, &after_81, 3 },
     { COMMAND, 0xB9, &after_81, &none, 4 },
     { COMMAND, 0xB9, &none, &after_81, 4 },
     { COMMAND, 0x40, &none, &after_D3, 5 },
     { COMMAND, 0x40, &after_D3, &none, 5 },
-    { COMMAND, 0xF0, &none, &after_D3, 3 },
+    { COMMAND, 0xF0, &none, &after_D3, 15 },
+    { COMMAND, 0xEF, &none, &after_D3, 3 },
     { COMMAND, 0xF0, &after_D3, &none, 5 },
     { COMMAND, 0xB9, &none, &after_D3, 4 },
     { COMMAND, 0xB9, &after_D3, &none, 5 },

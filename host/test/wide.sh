@@ -475,12 +475,12 @@ bad 1 'expected "frame 264 65" or "refused NUMBER at OFFSET"; found "frame 265 6
 bad 2 "expected the run's last place from 263 to 263; found \"264\"" 'frame 264 65\n0 263-264\nend\n'
 bad 2 'expected a row from 0 to 64, or end; found "65 0-0"' 'frame 264 65\n65 0-0\nend\n'
 bad 2 "expected a run's first place from 133 to 263, apart from the run before; found \"132-132\"" 'frame 264 65\n0 131-131 132-132\nend\n'
-bad 1 'expected a number that a run answers, 3 to 10, 13 or 14; found "11 at 0"' 'refused 11 at 0\nframe 264 65\nend\n'
-bad 1 'expected a number that a run answers, 3 to 10, 13 or 14; found "12 at 0"' 'refused 12 at 0\nframe 264 65\nend\n'
-bad 1 'expected a number from 3 to 14; found "15 at 0"' 'refused 15 at 0\nframe 264 65\nend\n'
-bad 1 'expected a number from 3 to 10; found "13 at 0"' 'refused 13 at 0\nframe 132 65\nend\n'
+bad 1 'expected a number that a run answers, 3 to 10 or 13 to 15; found "11 at 0"' 'refused 11 at 0\nframe 264 65\nend\n'
+bad 1 'expected a number that a run answers, 3 to 10 or 13 to 15; found "12 at 0"' 'refused 12 at 0\nframe 264 65\nend\n'
+bad 1 'expected a number from 3 to 15; found "16 at 0"' 'refused 16 at 0\nframe 264 65\nend\n'
+bad 1 'expected a number that a run answers, 3 to 10 or 15; found "13 at 0"' 'refused 13 at 0\nframe 132 65\nend\n'
 bad 2 'expected "frame 264 65"; found "end"' 'refused 13 at 0\nend\n'
-for number in 3 10 13 14; do
+for number in 3 10 13 14 15; do
   printf 'refused %s at 7\nframe 264 65\nend\n' "$number" > good.list
   run diff --wide --refused good.list good.list
   check "listing: refused $number" status_is 0

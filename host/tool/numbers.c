@@ -21,10 +21,11 @@ static const char *const meanings[] = {
   [SSD1815B_NO_SELECTION] =
     "a select record's payload is not one byte of 1 to 3",
   [SSD1815B_BOTH_SELECTED] = "a data read with both chips selected",
+  [SSD1815B_TEST_MODE] = "a command byte of test mode, with no code awaited",
 };
 
-_Static_assert(sizeof meanings / sizeof *meanings
-                 == SSD1815B_BOTH_SELECTED + 1, "the last number is here");
+_Static_assert(sizeof meanings / sizeof *meanings == SSD1815B_LAST_NUMBER + 1,
+               "the last number is here");
 
 const char *number_meaning(const struct played *played)
 {

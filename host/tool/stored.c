@@ -183,20 +183,31 @@ static bool take_row(struct reader *reader, uint8_t *frame, size_t *least)
                                 : "the end of the line");
 }
 
-/* The number of a refusal that a run answers, a wide one those of Order 4 too;
-** 11 and 12 are no run's. */
+/* Whether a number is no refusal of a run: 11 and 12 are none, and 13 and 14 a
+** wide one's alone. */
+static bool is_no_run(size_t number, bool wide)
+{
+  return number == SSD1815B_LIST_TOO_SMALL
+         || number == SSD1815B_FRAME_BYTE_ABOVE
+         || (!wide && (number == SSD1815B_NO_SELECTION
+                       || number == SSD1815B_BOTH_SELECTED));
+}
+
+/* The number of a refusal that a run answers. */
 static bool take_refused_number(struct reader *reader, size_t *number)
 {
   size_t at = reader->at;
   struct range numbers = { "a number", SSD1815B_OUTSIDE_TABLE,
-                           reader->wide ? SSD1815B_BOTH_SELECTED
-                                        : SSD1815B_READ_DIFFERS, "" };
+                           SSD1815B_LAST_NUMBER, "" };
   if (!take_number(reader, numbers, number)) {
     return false;
   }
-  if (*number > SSD1815B_READ_DIFFERS && *number < SSD1815B_NO_SELECTION) {
+  if (is_no_run(*number, reader->wide)) {
     reader->at = at;
-    return fault_at(reader, "a number that a run answers, 3 to 10, 13 or 14");
+    return fault_at(reader, reader->wide
+                              ? "a number that a run answers, 3 to 10 or 13 to"
+                                " 15"
+                              : "a number that a run answers, 3 to 10 or 15");
   }
   return true;
 }

@@ -1,9 +1,12 @@
 -- `codes::meaning_of` meets its contract: 0 is told from the codes that await n, and no other below 81 is one of them.
 -- Assumes nothing.
+use Prim.Native.Nat.{ℕ}
+use mathlib.Core.Path.{_≡_}
 use borrow.Author.Needs.{needs}
 use borrow.Author.Tests.{eq-eqb, ne-eqb}
 use native.Mathlib.Omega.{arith}
-use Rattle.codes.specs.Table.{table, meaningOf}
+use Rattle.codes.specs.Table.{table, commandOf, meaningOf}
+use Rattle.codes.specs.declared.Command.{Command}
 use Rattle.codes.proofs.Rows.{unawaited}
 use Rattle.codes.proofs.meaning_of.Statement.{statement}
 use Rattle.codes.proofs.meaning_of.Tie as tie
@@ -11,9 +14,13 @@ use Rattle.codes.proofs.meaning_of.Tie as tie
 command-of-requires : tie.Need-command-of-requires
 command-of-requires c κs = search needs
 
-returns : tie.Need-returns
+-- with no code awaited the byte is a command
+with-none : (awaited byte : ℕ) {named : Command} → named ≡ commandOf byte → awaited ≡ 0 → named ≡ meaningOf awaited byte
 unfolding meaningOf
-returns c = rw (eq-eqb _ _ (c .before .if2 .taken)) (c .command-of .ensures)
+with-none awaited byte e none = rw (eq-eqb awaited 0 none) e
+
+returns : tie.Need-returns
+returns c = with-none _ _ (c .command-of .ensures) search
 
 returns-2 : tie.Need-returns-2
 unfolding meaningOf table
