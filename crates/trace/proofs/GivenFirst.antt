@@ -31,7 +31,7 @@ byte-at (byte ∷ bytes) (suc place) h = byte-at bytes place (h .1)
 
 -- a number that calls give for a command byte alone, and exactly where no code is awaited and this holds of the byte
 module _ (number : ℕ) (P : ℕ → Type 0) (refused : number ≢ taken) (own : number ≢ readDiffers)
-  (exactly : (event : Event) (state memory : List ℕ) → IsByte event → numberFrom event state memory ≡ number ↔ Accepted state memory × FirstByte P (registersOf state) event) where
+    (exactly : (event : Event) (state memory : List ℕ) → IsByte event → numberFrom event state memory ≡ number ↔ Accepted state memory × FirstByte P (registersOf state) event) where
   -- a read is not refused with it
   read-meets : (reply : Reply) (t : Bool) → cond t readDiffers (reply .number) ≡ number → reply .number ≡ number
   read-meets reply true e = absurd (own (sym e))

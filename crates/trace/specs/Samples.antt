@@ -69,6 +69,13 @@ samples =
     sample middle 4 5 0 ∷
     -- D3 40, the n refused
     sample (2 ∷ 0 ∷ 1 ∷ 0 ∷ 0xD3 ∷ 0x40 ∷ []) 5 5 0 ∷
+    -- EF is outside the table; F0 and, after a record and a byte of its own, FF are test mode
+    sample (1 ∷ 0 ∷ 1 ∷ 0 ∷ 0xEF ∷ []) 3 4 0 ∷
+    sample (1 ∷ 0 ∷ 1 ∷ 0 ∷ 0xF0 ∷ []) 15 4 0 ∷
+    sample (0 ∷ 0 ∷ 4 ∷ 0 ∷ 3 ∷ 0 ∷ 1 ∷ 0 ∷ 0xAF ∷ 0xFF ∷ 0xAE ∷ []) 15 9 1 ∷
+    -- where a code is awaited they are n: 81 takes F4, D3 does not
+    sample (2 ∷ 0 ∷ 1 ∷ 0 ∷ 0x81 ∷ 0xF4 ∷ []) 0 6 1 ∷
+    sample (2 ∷ 0 ∷ 1 ∷ 0 ∷ 0xD3 ∷ 0xF4 ∷ []) 5 5 0 ∷
     -- a dummy read is not compared, the read after it is
     sample (2 ∷ 0 ∷ 3 ∷ 0 ∷ 0xFF ∷ 0x00 ∷ []) 0 6 1 ∷
     sample differs 10 5 0 ∷

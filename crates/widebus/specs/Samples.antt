@@ -30,6 +30,10 @@ oneShort = lent (imageOf powerOn) (replicate 1187 0)
 abbrev pub awaiting : Lent
 awaiting = lent (imageOf (powerOn with awaited ≔ 0x81)) zeros
 
+-- One that awaits the n of D3.
+abbrev pub awaitingOffset : Lent
+awaitingOffset = lent (imageOf (powerOn with awaited ≔ 0xD3)) zeros
+
 -- A call, and the number that it must answer.
 pub record CallSample : Type 0 where
   pub selection : ℕ
@@ -60,6 +64,17 @@ callSamples =
     callSample 3 dataRead (awaiting beside awaiting) 14 ∷
     callSample 2 dataRead (atPowerOn beside awaiting) 6 ∷
     callSample 1 dataRead (atPowerOn beside awaiting) 0 ∷
+    -- 15 of the chip that awaits no code, where the other takes F4 as its n; where both refuse the left's; EF is 3
+    callSample 3 (commandByte 0xF4) (atPowerOn beside atPowerOn) 15 ∷
+    callSample 3 (commandByte 0xF4) (awaiting beside atPowerOn) 15 ∷
+    callSample 3 (commandByte 0xF4) (atPowerOn beside awaiting) 15 ∷
+    callSample 3 (commandByte 0xF4) (awaiting beside awaiting) 0 ∷
+    callSample 3 (commandByte 0xF4) (atPowerOn beside awaitingOffset) 15 ∷
+    callSample 3 (commandByte 0xF4) (awaitingOffset beside atPowerOn) 5 ∷
+    callSample 1 (commandByte 0xF4) (awaiting beside atPowerOn) 0 ∷
+    callSample 2 (commandByte 0xF4) (awaiting beside atPowerOn) 15 ∷
+    callSample 3 (commandByte 0xEF) (awaiting beside atPowerOn) 3 ∷
+    callSample 0 (commandByte 0xF4) (atPowerOn beside atPowerOn) 13 ∷
     []
 
 pub record CallSamples : Type 0 where

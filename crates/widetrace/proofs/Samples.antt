@@ -19,4 +19,4 @@ use Rattle.widetrace.specs.Samples.{WideRunSamples}
 
 pub wide-run-samples : WideRunSamples
 unfolding powerOn largestValues wideRun wideRunOn wideRanOf askedBoth bothFound askedState short legal within awaitedCodes split splitFrom playFrom playRecord playEvents eventsOf wideEventsOf selectedBy selectionOf wideStep replayOn toSelected replay happened compared step command obeyed write written read resetPin access kept onward commandOf commandBy meaningOf operandOf operandBy table Rattle.codes.specs.Table.offsetOf stored
-wide-run-samples = record { answers = refl; writes = refl; pin = refl; pinKeeps = refl; neither = refl; neitherStores = refl }
+wide-run-samples = record { answers = refl; writes = refl; pin = refl; pinKeeps = refl; neither = refl; neitherTests = refl; neitherStores = refl }

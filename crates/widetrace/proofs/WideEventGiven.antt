@@ -116,6 +116,7 @@ one-more p rest stop number later selection all e = by (p .event) refl
         on false t =
             let same = refused-here p selection recorded all is rest stop t in
             rw same (record { before = []; refused = p; rest = rest; inOrder = refl; earlier = none-left selection all; recorded = recorded; event = is; met = none-replied p selection recorded all is ∙ (rw same at e); there = refl })
+
 refused-among : (events : List (Placed WideEvent)) (stop : Stop) (number : ℕ) → (stop .number ≡ number → ⊥) → StopsAmong events stop number
 unfolding wideByCalls
 refused-among [] stop number other selection all e = absurd (other e)

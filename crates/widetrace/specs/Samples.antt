@@ -77,6 +77,11 @@ wideSamples =
     -- the number is the left's where both refuse: 7 and 6, then 6 and 7
     sample (selectLeft ++ farColumn ++ selectRight ++ commandOne 0x81 ++ selectBoth ++ writeOne 0xFF) 7 30 5 ∷
     sample (selectLeft ++ commandOne 0x81 ++ selectRight ++ farColumn ++ selectBoth ++ writeOne 0xFF) 6 30 5 ∷
+    -- 15 at its byte, and EF 3; where a code is awaited F4 is an n
+    sample (commandOne 0xAF ++ commandOne 0xF4) 15 9 1 ∷
+    sample (commandOne 0xAF ++ commandOne 0xEF) 3 9 1 ∷
+    sample (selectLeft ++ commandOne 0x81 ++ commandOne 0xF4) 0 15 3 ∷
+    sample (selectLeft ++ commandOne 0x81 ++ selectRight ++ commandOne 0xF4) 15 19 3 ∷
     []
 
 pub record WideRunSamples : Type 0 where
@@ -92,5 +97,7 @@ pub record WideRunSamples : Type 0 where
   pub pinKeeps : wideFromPowerOn (selectLeft ++ pulse ++ commandOne 0xAF) ≡ wideRan (stopOf 0 14 3) (lent (imageOf (powerOn with on ≔ 1)) zeros beside atPowerOn)
   -- a byte that the right refuses with 5 and the left would take: neither changes;
   pub neither : wideFromPowerOn (selectRight ++ commandOne 0xD3 ++ selectBoth ++ commandOne 0x41) ≡ wideRan (stopOf 5 19 3) (atPowerOn beside lent (imageOf (powerOn with awaited ≔ 0xD3)) zeros)
+  -- a byte that the right refuses as test mode's and the left would take as its n;
+  pub neitherTests : wideFromPowerOn (selectLeft ++ commandOne 0x81 ++ selectBoth ++ commandOne 0xF4) ≡ wideRan (stopOf 15 19 3) (lent (imageOf (powerOn with awaited ≔ 0x81)) zeros beside atPowerOn)
   -- data that the left refuses with 6 and the right would store.
   pub neitherStores : wideFromPowerOn (selectLeft ++ commandOne 0x81 ++ selectBoth ++ writeOne 0xFF) ≡ wideRan (stopOf 6 19 3) (lent (imageOf (powerOn with awaited ≔ 0x81)) zeros beside atPowerOn)
