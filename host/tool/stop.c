@@ -189,8 +189,10 @@ static void print_chip(FILE *out, const struct played *played, enum side side)
   case SSD1815B_COLUMN_ABOVE:
     origin_print_column(out, played, side);
     break;
-  default:
+  case SSD1815B_READ_DIFFERS:
     print_read(out, played, image);
+    break;
+  default:
     break;
   }
 }

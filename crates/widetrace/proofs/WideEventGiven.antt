@@ -193,7 +193,7 @@ module _ (all : Pair Lent) (trace : List ℕ) (bytes : Bytes trace) where
       let stop = stopOf (it .number) (it .offset) (it .count) in
       wide-by-calls all .byCalls (h .accepted) trace bytes ∙
       ap (λ (events : List (Placed WideEvent)). wideByCalls events stop Selection.Both all) (a .inOrder) ∙
-      stops-there (a .before) (a .refused) (a .rest) stop (a .recorded) (a .event) Selection.Both all (a .earlier) (λ z. h .number0 (sym (a .met) ∙ z)) ∙
+      stops-there (a .before) (a .refused) (a .rest) stop (a .recorded) (a .event) Selection.Both all (a .earlier) (λ z. h .notTaken (sym (a .met) ∙ z)) ∙
       rw (a .met, a .there)
 
   is-event : (number offset : ℕ) → oneOf recordedNumbers number ≡ true → WideGivesAt (wideRun all trace) number offset → WideEventRefused all trace number offset
@@ -208,7 +208,7 @@ module _ (all : Pair Lent) (trace : List ℕ) (bytes : Bytes trace) where
       record {
         accepted = accepted;
         among = subst (RefusedAmong (it .events) Selection.Both all number) there (refused-among (it .events) stop number (not-header (script-number (split trace) 0) n) Selection.Both all (ap (λ (r : WideRan). r .stop .number) (sym calls) ∙ e .0));
-        number0 = λ z. not-listed recordedNumbers taken z refl n;
+        notTaken = λ z. not-listed recordedNumbers taken z refl n;
       })
       (λ refusal f m. absurd (by (why-refused all f) (ap (λ (r : WideRan). r .stop .number) (sym (run-refused all trace f)) ∙ e .0)))
     where

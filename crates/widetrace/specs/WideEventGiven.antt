@@ -49,7 +49,7 @@ pub record RefusedAmong (events : List (Placed WideEvent)) (selection : Selectio
 pub record WideEventRefused (all : Pair Lent) (trace : List ℕ) (number offset : ℕ) : Type 0 where
   pub accepted : BothAccepted all
   pub among : RefusedAmong (scriptFrom theTerminal (split trace) 0 .events) Selection.Both all number offset
-  pub number0 : number ≢ taken
+  pub notTaken : number ≢ taken
 
 pub record WideEventGiven (all : Pair Lent) (trace : List ℕ) : Type 0 where
   -- 3 to 7, 10 and 15, at the refused byte.
