@@ -273,6 +273,18 @@ says '  refused by the left chip alone, and so neither changes'
 says '  the column is 143, above 131 since 10 (0xA) in record 1: 18 (high four bits of the column) made it 143 from 15'
 commands B9 > mine.trace
 says '  refused by both chips'
+# A byte of test mode: to both, and to the one that awaits no code.
+commands F4 > mine.trace
+says 'refused 15 at 4 (0x4): a command byte of test mode, with no code awaited'
+says '  refused by both chips'
+says '  F4 would put a real chip into test mode'
+{ selects 01; commands 81; selects 03; commands F4; } > mine.trace
+says '  refused by the right chip alone, and so neither changes'
+says '  F4 would put a real chip into test mode'
+{ selects 01; commands D3; selects 03; commands F4; } > mine.trace
+says '  refused by both chips, by the left with 5, which is the number, and by the right with 15'
+{ selects 02; commands D3; selects 03; commands F4; } > mine.trace
+says '  refused by both chips, by the left with 15, which is the number, and by the right with 5'
 # Each for a reason of its own, and the left's is told.
 { selects 01; commands 81; selects 02; commands D3; selects 03; writes 55; } > mine.trace
 says 'refused 6 at 29 (0x1D): a data write or read while a code is awaited'

@@ -73,6 +73,15 @@ enum side refusing_side(const struct played *played, size_t kind)
                                                               : SIDE_RIGHT;
 }
 
+/* Whether the reason of a number is in a chip's registers, and so each chip may
+** have its own: the n of which code, which column.  3, 4 and 15 are of the byte
+** alone. */
+static bool is_of_registers(uint8_t number)
+{
+  return number == SSD1815B_NOT_ALLOWED || number == SSD1815B_CODE_AWAITED
+         || number == SSD1815B_COLUMN_ABOVE;
+}
+
 void refusing_print(FILE *out, const struct played *played, size_t kind,
                     bool more)
 {
@@ -82,9 +91,7 @@ void refusing_print(FILE *out, const struct played *played, size_t kind,
   uint8_t left = answer_of(played, SIDE_LEFT, kind);
   uint8_t right = answer_of(played, SIDE_RIGHT, kind);
   if (left == right) {
-    /* Why a chip answers 5, 6 or 7 is in its registers: each may have its own
-    ** code or column.  3 and 4 are of the byte alone. */
-    fputs(more && left >= SSD1815B_NOT_ALLOWED
+    fputs(more && is_of_registers(left)
             ? "  refused by both chips; what follows is of the left\n"
             : "  refused by both chips\n", out);
   } else if (left != SSD1815B_TAKEN && right != SSD1815B_TAKEN) {
