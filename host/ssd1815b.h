@@ -117,10 +117,10 @@ extern "C" {
 ** SSD1815B_TAKEN, or why not.  The event calls answer 0 to 7 and 15 (a command
 ** byte 0 to 5 and 15, a data byte 0 to 2, 6 and 7, the reset pin 0 and 1), the
 ** run any of these and 8 to 10, drawing and the power state 0 to 2, starting
-** and listing 0 and 1, the record at an offset 0 and 8, comparing frames 0, 1, 11 and 12,
-** comparing memories 0, 1 and 11.  A wide call answers what its narrow one
-** does, and of 13 and 14 those that it says; the page call, which has no narrow
-** one, 0, 1, 4 and 13.
+** and listing 0 and 1, the record at an offset 0 and 8, comparing frames 0, 1,
+** 11 and 12, comparing memories 0, 1 and 11.  A wide call answers what its
+** narrow one does, and of 13 and 14 those that it says; the page call, which
+** has no narrow one, 0, 1, 4 and 13.
 **
 ** Where several reasons hold, the lower of 1 and 2 goes first, and after them
 ** 13 for what a wide call is given; of a record 8 before 9 and 13; then 14
@@ -222,8 +222,8 @@ uint8_t ssd1815b_start_upright(
 ** The chip is given one command byte.  If a code is awaited, the byte is its
 ** n, even if it looks like a command.
 **
-** Answers 0 with the new image in the first 23 bytes of state; or 1 to 5,
-** and then nothing is written.  After 5 the code is still awaited.
+** Answers 0 with the new image in the first 23 bytes of state; or 1 to 5 or
+** 15, and then nothing is written.  After 5 the code is still awaited.
 **
 ** memory is not used and not changed, but its length is asked.
 */
@@ -304,7 +304,8 @@ uint8_t ssd1815b_reset(
 **   0         all was taken; *offset is trace_len
 **   1, 2      state and memory, asked before the first header (and also for
 **             an empty trace); nothing is written, *offset and *count are 0
-**   3 to 7    the event's refusal; *offset is that of the refused byte
+**   3 to 7    the event's refusal, 15 too; *offset is that of the refused
+**             byte
 **   8, 9      the header's; *offset is that of the record's first byte
 **   10        a read differs, and has not happened; *offset is that of the
 **             recorded byte
@@ -537,8 +538,8 @@ uint8_t ssd1815b_compare_memories(
 **
 ** Each answers 0 with what the selected chips are then in their states and
 ** memories; or 1 or 2, as above; or 13 if selection is none of 1 to 3; or the
-** number of a selected chip, 3 to 5 for a command byte, 6 or 7 for a data byte;
-** and then nothing is written.
+** number of a selected chip, 3 to 5 or 15 for a command byte, 6 or 7 for a data
+** byte; and then nothing is written.
 */
 uint8_t ssd1815b_wide_command(
   uint8_t *left_state, size_t left_state_len,           /* written if 0 */

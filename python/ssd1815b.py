@@ -399,7 +399,7 @@ class Chip:
         return _call("ssd1815b_start_upright", *self._lent)
 
     def command(self, byte: int) -> Number:
-        """A command byte: 0, or 2 to 5 and nothing is changed."""
+        """A command byte: 0, or 2 to 5 or 15 and nothing is changed."""
         return _call("ssd1815b_command", *self._lent, _byte(byte))
 
     def write(self, byte: int) -> Number:
@@ -471,7 +471,7 @@ class WideTerminal:
         return self._right.start_upright()
 
     def command(self, selection: int, byte: int) -> Number:
-        """A command byte for each selected chip: 0, or 2, 13 or 3 to 5 and nothing is changed."""
+        """A command byte for each selected chip: 0, or 2, 13, 3 to 5 or 15 and nothing is changed."""
         return _call("ssd1815b_wide_command", *self._lent, _byte(selection), _byte(byte))
 
     def write(self, selection: int, byte: int) -> Number:
