@@ -125,6 +125,10 @@ extern "C" {
 ** Where several reasons hold, the lower of 1 and 2 goes first, and after them
 ** 13 for what a wide call is given; of a record 8 before 9 and 13; then 14
 ** before 6 before 7 before 10; and 1 before 12 before 11.
+**
+** F0 to FF were 3 before version 4.5.  A program that is linked with the shared
+** object gets 15 without being compiled again, and of a later version maybe a
+** number above its own SSD1815B_LAST_NUMBER.
 */
 #define SSD1815B_TAKEN          0
 #define SSD1815B_TOO_SHORT      1  /* state, memory, frame or text is shorter
@@ -148,10 +152,9 @@ extern "C" {
                                        ** record's payload, or what a wide call
                                        ** is given */
 #define SSD1815B_BOTH_SELECTED     14  /* a read with both chips selected */
-#define SSD1815B_TEST_MODE         15  /* F0 to FF, which would put a real chip
-                                       ** in test mode, with no code awaited;
-                                       ** 3 before version 4.5 */
-#define SSD1815B_LAST_NUMBER  SSD1815B_TEST_MODE  /* for tables of them */
+#define SSD1815B_TEST_MODE         15  /* F0 to FF, a real chip's test mode,
+                                       ** with no code awaited */
+#define SSD1815B_LAST_NUMBER  SSD1815B_TEST_MODE  /* of this version */
 
 /*
 ** The state image

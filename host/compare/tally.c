@@ -1,6 +1,7 @@
 #include "tally.h"
 
 #include <stdio.h>
+#include <string.h>
 
 #include "ssd1815b.h"
 
@@ -34,11 +35,14 @@ static const struct {
 };
 
 static unsigned long given[CALLS][NUMBERS];
+static unsigned long beyond[CALLS]; /* past the last number */
 
 void tally_add(enum call call, uint8_t number)
 {
   if (number < NUMBERS) {
     given[call][number]++;
+  } else {
+    beyond[call]++;
   }
 }
 
@@ -80,6 +84,16 @@ bool tally_complete(void)
 {
   bool complete = true;
   for (int call = 0; call < CALLS; call++) {
+    if (strlen(calls[call].can_give) != NUMBERS) {
+      fprintf(stderr, "compare: it does not say whether %s can answer %d\n",
+              calls[call].name, NUMBERS - 1);
+      complete = false;
+    }
+    if (beyond[call] != 0) {
+      fprintf(stderr, "compare: %s answers a number above %d\n",
+              calls[call].name, NUMBERS - 1);
+      complete = false;
+    }
     for (int number = 0; number < NUMBERS; number++) {
       if (calls[call].can_give[number] == '+' && given[call][number] == 0) {
         fprintf(stderr, "compare: no case in which %s answers %d\n",

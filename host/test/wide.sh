@@ -283,6 +283,7 @@ says '  refused by the right chip alone, and so neither changes'
 says '  F4 would put a real chip into test mode'
 { selects 01; commands D3; selects 03; commands F4; } > mine.trace
 says '  refused by both chips, by the left with 5, which is the number, and by the right with 15'
+says '  to the right, F4 would put a real chip into test mode'
 { selects 02; commands D3; selects 03; commands F4; } > mine.trace
 says '  refused by both chips, by the left with 15, which is the number, and by the right with 5'
 # Each for a reason of its own, and the left's is told.

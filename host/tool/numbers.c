@@ -1,5 +1,8 @@
 #include "numbers.h"
 
+/* The sheet's Test Mode Reset. */
+enum { TEST_MODE_RESET = 0xF0 };
+
 static const char *const meanings[] = {
   [SSD1815B_TAKEN] = "taken",
   [SSD1815B_TOO_SHORT] = "a lent state, memory or frame is too short",
@@ -33,7 +36,15 @@ const char *number_meaning(const struct played *played)
     return "kind not 1 to 5, or kind 4 with a payload";
   }
   return played->number < sizeof meanings / sizeof *meanings
+           && meanings[played->number] != NULL
            ? meanings[played->number] : "not a number of document 01 or 02";
+}
+
+void test_mode_print(FILE *out, const char *where, uint8_t byte)
+{
+  fprintf(out, "  %s%02X would put a real chip into test mode%s\n", where, byte,
+          byte == TEST_MODE_RESET
+            ? ", or out of it: its sheet says Test Mode Reset" : "");
 }
 
 void number_print(FILE *out, const char *name, const struct played *played)

@@ -11,6 +11,11 @@
 /* What the number says that a run answered. */
 const char *number_meaning(const struct played *played);
 
+/* A line about what a byte of test mode would do to a real chip, behind words
+** that say to which; by its name one of them ends that mode (docs/SHEET.md,
+** C2). */
+void test_mode_print(FILE *out, const char *where, uint8_t byte);
+
 /* A line about a refused run: its name, the number, where, and what it
 ** means. */
 void number_print(FILE *out, const char *name, const struct played *played);

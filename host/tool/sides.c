@@ -1,6 +1,7 @@
 #include "sides.h"
 
 #include "kinds.h"
+#include "numbers.h"
 
 const char *side_name(enum side side)
 {
@@ -97,6 +98,9 @@ void refusing_print(FILE *out, const struct played *played, size_t kind,
   } else if (left != SSD1815B_TAKEN && right != SSD1815B_TAKEN) {
     fprintf(out, "  refused by both chips, by the left with %u, which is the"
             " number, and by the right with %u\n", left, right);
+    if (right == SSD1815B_TEST_MODE) {
+      test_mode_print(out, "to the right, ", played->trace[played->offset]);
+    }
   } else {
     fprintf(out, "  refused by the %s chip alone, and so neither changes\n",
             side_name(left != SSD1815B_TAKEN ? SIDE_LEFT : SIDE_RIGHT));

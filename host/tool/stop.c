@@ -9,9 +9,6 @@
 #include "plural.h"
 #include "sides.h"
 
-/* The sheet's Test Mode Reset. */
-enum { TEST_MODE_RESET = 0xF0 };
-
 /* The record in which a run stopped. */
 struct record {
   size_t first;    /* its first byte */
@@ -63,15 +60,6 @@ static void print_neighbours(FILE *out, uint8_t byte)
     fprintf(out, "%02X (%s) is the neighbour below, and none is above\n",
             below->last, below->name);
   }
-}
-
-/* What a byte of test mode would do to a real chip; by its name one of them ends
-** that mode (docs/SHEET.md, C2). */
-static void print_test_mode(FILE *out, uint8_t byte)
-{
-  fprintf(out, "  %02X would put a real chip into test mode%s\n", byte,
-          byte == TEST_MODE_RESET
-            ? ", or out of it: its sheet says Test Mode Reset" : "");
 }
 
 /* What n the awaited code takes. */
@@ -174,7 +162,7 @@ static void print_chip(FILE *out, const struct played *played, enum side side)
     print_neighbours(out, byte);
     break;
   case SSD1815B_TEST_MODE:
-    print_test_mode(out, byte);
+    test_mode_print(out, "", byte);
     break;
   case SSD1815B_NO_PAGE:
     fputs("  B0 to B8 are the pages\n", out);

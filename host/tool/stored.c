@@ -183,14 +183,12 @@ static bool take_row(struct reader *reader, uint8_t *frame, size_t *least)
                                 : "the end of the line");
 }
 
-/* Whether a number is no refusal of a run: 11 and 12 are none, and 13 and 14 a
-** wide one's alone. */
-static bool is_no_run(size_t number, bool wide)
+/* Whether a run answers a number from 3 on; 13 and 14 a wide one alone. */
+static bool run_answers(size_t number, bool wide)
 {
-  return number == SSD1815B_LIST_TOO_SMALL
-         || number == SSD1815B_FRAME_BYTE_ABOVE
-         || (!wide && (number == SSD1815B_NO_SELECTION
-                       || number == SSD1815B_BOTH_SELECTED));
+  return number <= SSD1815B_READ_DIFFERS || number == SSD1815B_TEST_MODE
+         || (wide && (number == SSD1815B_NO_SELECTION
+                      || number == SSD1815B_BOTH_SELECTED));
 }
 
 /* The number of a refusal that a run answers. */
@@ -202,7 +200,7 @@ static bool take_refused_number(struct reader *reader, size_t *number)
   if (!take_number(reader, numbers, number)) {
     return false;
   }
-  if (is_no_run(*number, reader->wide)) {
+  if (!run_answers(*number, reader->wide)) {
     reader->at = at;
     return fault_at(reader, reader->wide
                               ? "a number that a run answers, 3 to 10 or 13 to"

@@ -17,7 +17,7 @@ abbrev pub among : List (ℕ × ℕ) → ℕ → Bool
 among [] b = false
 among (span ∷ spans) b = (leb (span .0) b && leb b (span .1)) || among spans b
 
--- Order 6: the bytes that would put a real chip in test mode.
+-- Order 6: the bytes of test mode.
 abbrev pub TestModeByte : ℕ → Type 0
 TestModeByte b = (0xF0 ≤ b) × (b ≤ 0xFF)
 

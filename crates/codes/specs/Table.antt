@@ -19,7 +19,7 @@ offsetOf n = cond (leb n 0x3F) (Command.Offset n) Command.NotAllowed
 unfoldable pub framePhasesOf : ℕ → Command
 framePhasesOf n = cond (oneOf (0x00 ∷ 0x10 ∷ 0x20 ∷ 0x30 ∷ []) n) (Command.FramePhases (n / 16)) Command.NotAllowed
 
--- The table of document 01 in its order; b is the command byte, n the byte after it.
+-- The table of document 01 in its order, and the two rows that it has not, B9-BF and F0-FF; b is the command byte, n the byte after it.
 unfoldable pub table : List Row
 table =
     one 0x00 0x0F (λ b. Command.ColumnLow (b % 16)) ∷
@@ -51,7 +51,7 @@ table =
     one 0xF0 0xFF (λ b. Command.TestMode) ∷
     []
 
--- The command that a byte is by the first row that has it; a code that wants n is awaited; a byte in no row is outside.
+-- The command that a byte is by the first row that has it; a code that wants n is awaited; a byte in no row is one of the remaining bytes outside.
 unfoldable pub commandBy : List Row → ℕ → Command
 commandBy [] b = Command.Outside
 commandBy (one first last means ∷ rows) b = cond (leb first b && leb b last) (means b) (commandBy rows b)

@@ -36,7 +36,7 @@ pub enum Command {
     NotAllowed,
     // An n where the code is none that awaits n.
     NotAwaited,
-    // F0 to FF, which would put a real chip in test mode.
+    // F0 to FF, a real chip's test mode.
     TestMode,
     // Any other byte outside the table: reserved or not modelled.
     Outside,

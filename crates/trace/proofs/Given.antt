@@ -22,7 +22,7 @@ use Rattle.trace.specs.Records.{cut}
 use Rattle.trace.specs.Play.{played, playFrom}
 use Rattle.trace.specs.Kinds.{theChip}
 use Rattle.trace.specs.Run.{ranOf, run}
-use Rattle.trace.specs.Given.{GivesAt, stoppedAfter, HeaderCut, KindUnknown, EventRefused, FirstByteAt, recordedNumbers, runNumbers, NumbersGiven}
+use Rattle.trace.specs.Given.{GivesAt, stoppedAfter, HeaderCut, KindUnknown, EventRefused, FirstByteAt, runEventNumbers, runNumbers, NumbersGiven}
 use Rattle.trace.proofs.SplitLaws.{rest}
 use Rattle.trace.proofs.PlayedFurther.{plays-cut, plays-stop}
 use Rattle.trace.proofs.ChipRefusals.{refused-event}
@@ -99,10 +99,10 @@ module _ (state memory trace : List ℕ) (bytes : Bytes trace) (offset : ℕ) wh
 
 -- an event's number is given exactly where it is refused
 module _ (state memory trace : List ℕ) where
-  is-event-as : Bytes trace → (number : ℕ) → oneOf recordedNumbers number ≡ true → run state memory trace .stop .number ≡ number → EventRefused state memory trace number (run state memory trace .stop .offset)
-  is-event-as bytes number n e = subst (λ (m : ℕ). EventRefused state memory trace m (run state memory trace .stop .offset)) e (is-event state memory trace bytes (run-stop state memory trace) (subst (λ (m : ℕ). oneOf recordedNumbers m ≡ true) (sym e) n))
+  is-event-as : Bytes trace → (number : ℕ) → oneOf runEventNumbers number ≡ true → run state memory trace .stop .number ≡ number → EventRefused state memory trace number (run state memory trace .stop .offset)
+  is-event-as bytes number n e = subst (λ (m : ℕ). EventRefused state memory trace m (run state memory trace .stop .offset)) e (is-event state memory trace bytes (run-stop state memory trace) (subst (λ (m : ℕ). oneOf runEventNumbers m ≡ true) (sym e) n))
 
-  given-event : Bytes trace → (number offset : ℕ) → oneOf recordedNumbers number ≡ true → GivesAt (run state memory trace) number offset ↔ EventRefused state memory trace number offset
+  given-event : Bytes trace → (number offset : ℕ) → oneOf runEventNumbers number ≡ true → GivesAt (run state memory trace) number offset ↔ EventRefused state memory trace number offset
   given-event bytes number offset n = (λ e. subst (EventRefused state memory trace number) (e .1) (is-event-as bytes number n (e .0)), λ h. rw (event-leaves state memory trace bytes number offset h) (refl, refl))
 
 -- the table

@@ -24,12 +24,12 @@ use Rattle.bus.proofs.Answers.{Callable}
 use Rattle.bus.proofs.Asking.{found-legal}
 use Rattle.bus.proofs.Given.{given}
 use Rattle.bus.proofs.Stored.{call-stored, asked-stored}
-use Rattle.trace.specs.Records.{lengthOf, kindOf, whole, recordBytes, recordAt, splitFrom, split}
+use Rattle.trace.specs.Records.{lengthOf, kindOf, recordBytes, recordAt, splitFrom, split}
 use Rattle.trace.specs.Play.{refuses, Ending, stopped, done, played, onEnding, playEvents, playRecord, playFrom, play}
 use Rattle.trace.specs.Kinds.{Recorded, readAs, recordedCommand, recordedWrite, replay, chipOf, theChip}
 use Rattle.trace.specs.ByCalls.{calledBy, meets}
 use Rattle.trace.specs.Run.{Ran, ran, stopOf, ranOf, run}
-use Rattle.trace.specs.Given.{recordedBy, ranBefore, replyThere, metThere, EventRefused, ReadDiffers, recordedNumbers, runNumbers}
+use Rattle.trace.specs.Given.{recordedBy, ranBefore, replyThere, metThere, PayloadByte, EventRefused, ReadDiffers, runEventNumbers, runNumbers}
 use Rattle.trace.specs.AnyMachine.{Gives, further}
 use Rattle.trace.proofs.PlayedFurther.{plays-stop, endingFurther, events-further, is-done}
 use Rattle.trace.proofs.PlayedJoined.{Stops, events-stop, joined}
@@ -130,59 +130,61 @@ module _ (state memory trace : List ℕ) where
         by (done d) e = record { chip = d; bytes = same-bytes ∙ rw e }
         by (stopped number o t) e = absurd (subst (Stops theChip the-chip-sound) e (events-stop theChip the-chip-sound (map (recordedBy kind) part) headerSize (here .chip)) (rw (before-is, e) at n))
 
-  pub is-event : Bytes trace → {number offset : ℕ} → RunStop state memory trace number offset → oneOf recordedNumbers number ≡ true → EventRefused state memory trace number offset
+  pub is-event : Bytes trace → {number offset : ℕ} → RunStop state memory trace number offset → oneOf runEventNumbers number ≡ true → EventRefused state memory trace number offset
   unfolding ranOf
   is-event bytes {number} (notAsked p q) n = absurd (by (eqb number 1) refl)
     where
       by : (b : Bool) → eqb number 1 ≡ b → ⊥
-      by true e = not-listed recordedNumbers 1 (eqb-true number 1 e) refl n
-      by false e = not-listed recordedNumbers {n = number} 2 (omega (arith, eqb-false number 1 e)) refl n
-  is-event bytes (nowhere p) n = absurd (not-listed recordedNumbers taken p refl n)
-  is-event bytes (whereCut h m) n = absurd (not-listed recordedNumbers headerCut m refl n)
-  is-event bytes (atItsKind h m) n = absurd (not-listed recordedNumbers kindUnknown m refl n)
+      by true e = not-listed runEventNumbers 1 (eqb-true number 1 e) refl n
+      by false e = not-listed runEventNumbers {n = number} 2 (omega (arith, eqb-false number 1 e)) refl n
+  is-event bytes (nowhere p) n = absurd (not-listed runEventNumbers taken p refl n)
+  is-event bytes (whereCut h m) n = absurd (not-listed runEventNumbers headerCut m refl n)
+  is-event bytes (atItsKind h m) n = absurd (not-listed runEventNumbers kindUnknown m refl n)
   is-event bytes {number} {offset} (atItsByte at here d w p q s) n =
       let recorded = recordedBy (kindOf (drop at trace)) (getD trace offset 0) in
       record {
-        place = at;
-        header = header-at state memory trace at here;
-        complete = w;
-        kindFrom = p;
-        kindTo = q;
-        after = s .after;
-        inside = s .inside;
-        before = ap (λ (r : Ran). r .stop .number) (before-ran at offset here p q d (s .before));
+        stands = record {
+          place = at;
+          header = header-at state memory trace at here;
+          complete = w;
+          kindFrom = p;
+          kindTo = q;
+          after = s .after;
+          inside = s .inside;
+          before = ap (λ (r : Ran). r .stop .number) (before-ran at offset here p q d (s .before));
+        };
         refused = of-event (refused-event recorded d number (s .refused)) .notTaken;
         met = ap (meets recorded) (reply-there at offset here p q d (s .before) bytes recorded) ∙ refused-met recorded d number (s .refused);
       }
 
-  -- where the bytes before an offset of a record are taken, they leave a legal image
-  pub accepted-before : Bytes trace → (at offset : ℕ) → run state memory (take at trace) .stop .number ≡ taken → whole (drop at trace) ≡ true → 1 ≤ kindOf (drop at trace) → kindOf (drop at trace) ≤ 3
-      → ranBefore state memory trace at offset .stop .number ≡ taken → Accepted (ranBefore state memory trace at offset .state) (ranBefore state memory trace at offset .memory)
-  accepted-before bytes at offset header complete from to taken =
-      let here = standing state memory trace at (where-left trace at (whole-left trace at complete)) header in
-      let early = before-done at offset here from to taken in
-      before-accepted at offset here from to (early .chip) (early .bytes) bytes
+  -- where the bytes before one are taken, they leave a legal image
+  pub accepted-before : Bytes trace → (offset : ℕ) (s : PayloadByte state memory trace offset) → let before = ranBefore state memory trace (s .place) offset in Accepted (before .state) (before .memory)
+  accepted-before bytes offset s =
+      let here = standing state memory trace (s .place) (where-left trace (s .place) (whole-left trace (s .place) (s .complete))) (s .header) in
+      let early = before-done (s .place) offset here (s .kindFrom) (s .kindTo) (s .before) in
+      before-accepted (s .place) offset here (s .kindFrom) (s .kindTo) (early .chip) (early .bytes) bytes
 
   -- the event has not happened: the run leaves what the bytes before it leave
-  pub event-leaves : Bytes trace → (number offset : ℕ) (h : EventRefused state memory trace number offset) → run state memory trace ≡ ran (stopOf number offset (run state memory (take (h .place) trace) .stop .count)) (ranBefore state memory trace (h .place) offset .state) (ranBefore state memory trace (h .place) offset .memory)
+  pub event-leaves : Bytes trace → (number offset : ℕ) (h : EventRefused state memory trace number offset) → run state memory trace ≡ ran (stopOf number offset (run state memory (take (h .stands .place) trace) .stop .count)) (ranBefore state memory trace (h .stands .place) offset .state) (ranBefore state memory trace (h .stands .place) offset .memory)
   unfolding ranOf
   event-leaves bytes number offset h =
-      let at = h .place in
-      let here = standing state memory trace at (where-left trace at (whole-left trace at (h .complete))) (h .header) in
-      let early = before-done at offset here (h .kindFrom) (h .kindTo) (h .before) in
+      let s = h .stands in
+      let at = s .place in
+      let here = standing state memory trace at (where-left trace at (whole-left trace at (s .complete))) (s .header) in
+      let early = before-done at offset here (s .kindFrom) (s .kindTo) (s .before) in
       let d = early .chip in
       let means = recordedBy (kindOf (drop at trace)) in
       let recorded = means (getD trace offset 0) in
-      let front = front-whole (drop at trace) (h .complete) in
+      let front = front-whole (drop at trace) (s .complete) in
       let fit = within-trace trace at _ front in
       let end = at + headerSize + lengthOf (drop at trace) in
       let refusal : replay recorded d ≡ refuses number =
-      met-refused recorded d number (sym (ap (meets recorded) (reply-there at offset here (h .kindFrom) (h .kindTo) d (early .bytes) bytes recorded)) ∙ h .met) (h .refused) in
+      met-refused recorded d number (sym (ap (meets recorded) (reply-there at offset here (s .kindFrom) (s .kindTo) d (early .bytes) bytes recorded)) ∙ h .met) (h .refused) in
       let stop : playRecord theChip (recordAt at (drop at trace)) (here .chip) ≡ stopped number offset d =
-      its-bytes trace at (here .chip) (h .complete) (h .kindFrom) (h .kindTo) ∙
-      then-bytes theChip means trace (offset - (at + headerSize)) (at + headerSize) offset end (here .chip) d (omega (arith, h .after)) (omega (arith, h .inside)) fit (early .bytes) ∙
-      turn-refused theChip means trace offset end d number (h .inside) fit refusal in
-      ran-on state memory trace at here (plays-stop trace at theChip (here .count) (here .chip) _ front number offset d stop) ∙ rw (ran-there state memory trace at here, before-ran at offset here (h .kindFrom) (h .kindTo) d (early .bytes))
+      its-bytes trace at (here .chip) (s .complete) (s .kindFrom) (s .kindTo) ∙
+      then-bytes theChip means trace (offset - (at + headerSize)) (at + headerSize) offset end (here .chip) d (omega (arith, s .after)) (omega (arith, s .inside)) fit (early .bytes) ∙
+      turn-refused theChip means trace offset end d number (s .inside) fit refusal in
+      ran-on state memory trace at here (plays-stop trace at theChip (here .count) (here .chip) _ front number offset d stop) ∙ rw (ran-there state memory trace at here, before-ran at offset here (s .kindFrom) (s .kindTo) d (early .bytes))
 
 -- no call replies 10
 never-ten : {number : ℕ} → Callable number → number ≡ readDiffers → ⊥
@@ -213,9 +215,9 @@ meets-ten kind byte reply p q m e = by (eqb kind 1) (eqb kind 2) refl refl e
         let read = differing-read byte reply _ _ _ refl refl refl m e in
         record { reads = third; happens = read .0; compared = read .1; differs = read .2 }
 
-pub is-differing : (state memory trace : List ℕ) (offset : ℕ) (h : EventRefused state memory trace readDiffers offset) → ReadDiffers state memory trace (h .place) offset
+pub is-differing : (state memory trace : List ℕ) (offset : ℕ) (h : EventRefused state memory trace readDiffers offset) → ReadDiffers state memory trace (h .stands .place) offset
 is-differing state memory trace offset h =
-    let d = meets-ten (kindOf (drop (h .place) trace)) (getD trace offset 0) (replyThere state memory trace (h .place) offset) (h .kindFrom) (h .kindTo) (given _ _ _ .noOther) (h .met) in
+    let d = meets-ten (kindOf (drop (h .stands .place) trace)) (getD trace offset 0) (replyThere state memory trace (h .stands .place) offset) (h .stands .kindFrom) (h .stands .kindTo) (given _ _ _ .noOther) (h .met) in
     record { reads = d .reads; happens = d .happens; compared = d .compared; differs = d .differs }
 
 -- and such a read meets 10

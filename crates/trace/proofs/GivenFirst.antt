@@ -5,7 +5,6 @@ use mathlib.Core.Bool.{Bool, true, false, cond, not, _&&_, _||_}
 use mathlib.Core.Logic.{_≢_, _↔_}
 use mathlib.Core.List.{List, [], _∷_}
 use Prim.Native.Nat.{ℕ, zero, suc, _≤_, _<_}
-use native.Mathlib.Omega.{arith}
 use borrow.Author.Tests.{eqb-true}
 use lib.Dec.{eqb, lit<}
 use lib.ListN.{getD, drop}
@@ -57,15 +56,14 @@ module _ (number : ℕ) (P : ℕ → Type 0) (refused : number ≢ taken) (own :
   module _ (state memory trace : List ℕ) (bytes : Bytes trace) (offset : ℕ) where
     pub to-first : EventRefused state memory trace number offset → FirstByteAt P state memory trace offset
     to-first h =
-        let first = is-first (kindOf (drop (h .place) trace)) (getD trace offset 0) (ranBefore state memory trace (h .place) offset .state) (ranBefore state memory trace (h .place) offset .memory) (h .kindFrom) (byte-at trace offset bytes) (h .met) in
-        record { place = h .place; header = h .header; complete = h .complete; commands = first .0; after = h .after; inside = h .inside; before = h .before; noCode = first .1; byte = first .2 }
+        let s = h .stands in
+        let before = ranBefore state memory trace (s .place) offset in
+        let first = is-first (kindOf (drop (s .place) trace)) (getD trace offset 0) (before .state) (before .memory) (s .kindFrom) (byte-at trace offset bytes) (h .met) in
+        record { stands = s; commands = first .0; noCode = first .1; byte = first .2 }
 
     pub from-first : FirstByteAt P state memory trace offset → EventRefused state memory trace number offset
     from-first h =
-        let from : 1 ≤ kindOf (drop (h .place) trace) = omega (arith, h .commands) in
-        let to : kindOf (drop (h .place) trace) ≤ 3 = omega (arith, h .commands) in
-        let accepted = accepted-before state memory trace bytes (h .place) offset (h .header) (h .complete) from to (h .before) in
-        let before = ranBefore state memory trace (h .place) offset in
-        let given = exactly (commandByte (getD trace offset 0)) (before .state) (before .memory) (byte-at trace offset bytes) .1 (accepted, (h .noCode, h .byte)) in
-        let met = first-meets (kindOf (drop (h .place) trace)) (getD trace offset 0) (before .state) (before .memory) (h .commands) given in
-        record { place = h .place; header = h .header; complete = h .complete; kindFrom = from; kindTo = to; after = h .after; inside = h .inside; before = h .before; refused = refused; met = met }
+        let s = h .stands in
+        let before = ranBefore state memory trace (s .place) offset in
+        let given = exactly (commandByte (getD trace offset 0)) (before .state) (before .memory) (byte-at trace offset bytes) .1 (accepted-before state memory trace bytes offset s, (h .noCode, h .byte)) in
+        record { stands = s; refused = refused; met = first-meets (kindOf (drop (s .place) trace)) (getD trace offset 0) (before .state) (before .memory) (h .commands) given }

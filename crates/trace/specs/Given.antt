@@ -73,9 +73,8 @@ replyThere state memory trace place offset =
 abbrev pub metThere : List ℕ → List ℕ → List ℕ → ℕ → ℕ → ℕ
 metThere state memory trace place offset = meets (recordedThere trace place offset) (replyThere state memory trace place offset)
 
--- 3 to 7, 10 and 15, at the refused byte: a whole record of kind 1 to 3 stands at a place, the bytes of its payload before this one are taken, and the event that this one stands
--- for meets the number.
-pub record EventRefused (state memory trace : List ℕ) (number offset : ℕ) : Type 0 where
+-- A byte of a payload stands at an offset, and all before it is taken: a whole record of kind 1 to 3 stands at a place, after records that are taken, and the bytes of its payload before this one are taken.
+pub record PayloadByte (state memory trace : List ℕ) (offset : ℕ) : Type 0 where
   pub place : ℕ
   pub header : HeaderAt state memory trace place
   pub complete : whole (drop place trace) ≡ true
@@ -84,8 +83,12 @@ pub record EventRefused (state memory trace : List ℕ) (number offset : ℕ) : 
   pub after : place + headerSize ≤ offset
   pub inside : offset < place + headerSize + lengthOf (drop place trace)
   pub before : ranBefore state memory trace place offset .stop .number ≡ taken
+
+-- 3 to 7, 10 and 15, at the refused byte: the event that it stands for meets the number.
+pub record EventRefused (state memory trace : List ℕ) (number offset : ℕ) : Type 0 where
+  pub stands : PayloadByte state memory trace offset
   pub refused : number ≢ taken
-  pub met : metThere state memory trace place offset ≡ number
+  pub met : metThere state memory trace (stands .place) offset ≡ number
 
 -- What makes 10 of it: the record is of reads, the read is taken and no dummy, which is not compared, and it answers another byte. 6 and 7 go before it.
 pub record ReadDiffers (state memory trace : List ℕ) (place offset : ℕ) : Type 0 where
@@ -94,25 +97,20 @@ pub record ReadDiffers (state memory trace : List ℕ) (place offset : ℕ) : Ty
   pub compared : replyThere state memory trace place offset .dummy ≡ false
   pub differs : replyThere state memory trace place offset .byte ≢ getD trace offset 0
 
--- What makes 3 or 15 of it: the byte is a command byte, no code is awaited where it stands, and this holds of it.
+-- 3 and 15, at the refused byte: it is a command byte, no code is awaited then, and this holds of it.
 pub record FirstByteAt (P : ℕ → Type 0) (state memory trace : List ℕ) (offset : ℕ) : Type 0 where
-  pub place : ℕ
-  pub header : HeaderAt state memory trace place
-  pub complete : whole (drop place trace) ≡ true
-  pub commands : kindOf (drop place trace) ≡ 1
-  pub after : place + headerSize ≤ offset
-  pub inside : offset < place + headerSize + lengthOf (drop place trace)
-  pub before : ranBefore state memory trace place offset .stop .number ≡ taken
-  pub noCode : registersOf (ranBefore state memory trace place offset .state) .awaited ≡ 0
+  pub stands : PayloadByte state memory trace offset
+  pub commands : kindOf (drop (stands .place) trace) ≡ 1
+  pub noCode : registersOf (ranBefore state memory trace (stands .place) offset .state) .awaited ≡ 0
   pub byte : P (getD trace offset 0)
 
 -- The numbers that events are refused with in a run: their own, and 10.
-abbrev pub recordedNumbers : List ℕ
-recordedNumbers = readDiffers ∷ eventNumbers
+abbrev pub runEventNumbers : List ℕ
+runEventNumbers = readDiffers ∷ eventNumbers
 
 -- All that a run can give.
 abbrev pub runNumbers : List ℕ
-runNumbers = taken ∷ tooShort ∷ outOfRange ∷ headerCut ∷ kindUnknown ∷ recordedNumbers
+runNumbers = taken ∷ tooShort ∷ outOfRange ∷ headerCut ∷ kindUnknown ∷ runEventNumbers
 
 -- Every record is whole and of a kind that is known.
 abbrev pub KnownRecords : Trace → Type 0
@@ -149,15 +147,15 @@ pub record NumbersGiven (state memory trace : List ℕ) : Type 0 where
   pub number2 : run state memory trace .stop .number ≡ outOfRange ↔ (short state memory ≡ false) × (legal state ≡ false)
   pub number2Leaves : short state memory ≡ false → legal state ≡ false → run state memory trace ≡ ran (stopOf outOfRange 0 0) state memory
   -- 3 to 7, 10 and 15: an event is refused, at its byte. It has not happened: the count is of the records before its own, and what is left is what the run of the bytes before it leaves.
-  pub event : Bytes trace → (number offset : ℕ) → oneOf recordedNumbers number ≡ true → GivesAt (run state memory trace) number offset ↔ EventRefused state memory trace number offset
+  pub event : Bytes trace → (number offset : ℕ) → oneOf runEventNumbers number ≡ true → GivesAt (run state memory trace) number offset ↔ EventRefused state memory trace number offset
   pub eventLeaves : Bytes trace → (number offset : ℕ) (h : EventRefused state memory trace number offset) → run state memory trace ≡
-      ran (stopOf number offset (run state memory (take (h .place) trace) .stop .count)) (ranBefore state memory trace (h .place) offset .state) (ranBefore state memory trace (h .place) offset .memory)
+      ran (stopOf number offset (run state memory (take (h .stands .place) trace) .stop .count)) (ranBefore state memory trace (h .stands .place) offset .state) (ranBefore state memory trace (h .stands .place) offset .memory)
   -- 3: a command byte outside the table, B9-BF and F0-FF apart, with no code awaited.
   pub number3 : Bytes trace → (offset : ℕ) → GivesAt (run state memory trace) outsideTable offset ↔ FirstByteAt RemainingByte state memory trace offset
   -- 15: F0-FF with no code awaited, in the place of 3.
   pub number15 : Bytes trace → (offset : ℕ) → GivesAt (run state memory trace) testMode offset ↔ FirstByteAt TestModeByte state memory trace offset
   -- 10: a compared read differs; and wherever one does, it is what the event meets.
-  pub ten : (offset : ℕ) (h : EventRefused state memory trace readDiffers offset) → ReadDiffers state memory trace (h .place) offset
+  pub ten : (offset : ℕ) (h : EventRefused state memory trace readDiffers offset) → ReadDiffers state memory trace (h .stands .place) offset
   pub tenMet : (place offset : ℕ) → ReadDiffers state memory trace place offset → metThere state memory trace place offset ≡ readDiffers
   -- 8: one to three bytes left where a header should stand, or payload past the end, at the record's first byte. What the records before it left stands.
   pub number8 : (offset : ℕ) → GivesAt (run state memory trace) headerCut offset ↔ HeaderCut state memory trace offset

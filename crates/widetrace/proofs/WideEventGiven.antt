@@ -18,7 +18,7 @@ use Rattle.trace.specs.Kinds.{Recorded}
 use Rattle.trace.specs.OneByOne.{Placed, script, placed, scriptFrom}
 use Rattle.trace.specs.ByCalls.{calledBy, meets}
 use Rattle.trace.specs.Run.{stopOf}
-use Rattle.trace.specs.Given.{recordedNumbers}
+use Rattle.trace.specs.Given.{runEventNumbers}
 use Rattle.trace.specs.declared.run.Stop.{Stop}
 use Rattle.widebus.specs.Pair.{Pair, Lent}
 use Rattle.widebus.specs.WideCalls.{WideCalled, wideCall}
@@ -29,7 +29,7 @@ use Rattle.widetrace.specs.EachChip.{unplaced}
 use Rattle.widetrace.specs.WideRunLaws.{lastSelected}
 use Rattle.widetrace.specs.WideGivenRun.{WideGivesAt}
 use Rattle.widetrace.specs.WideByCalls.{selectionNumber, wideByCalls, wideRunByCalls}
-use Rattle.widetrace.specs.WideEventGiven.{leftByCalls, repliedAfter, RefusedAmong, WideEventRefused, WideEventGiven}
+use Rattle.widetrace.specs.WideEventGiven.{afterCalls, repliedAfter, RefusedAmong, WideEventRefused, WideEventGiven}
 use Rattle.widetrace.proofs.TerminalHeaders.{Headed, known, unselected, unknown, by-header}
 use Rattle.widetrace.proofs.WideRunOnLent.{Refused, tooFew, ranges, run-refused, why-refused, by-asking}
 use Rattle.widetrace.proofs.WideByCalls.{wide-by-calls}
@@ -76,19 +76,19 @@ module _ (p : Placed WideEvent) (selection : Selection) (recorded : Recorded) (a
 -- the refused event with one more before it
 after-select : (p : Placed WideEvent) (rest : List (Placed WideEvent)) (selection next : Selection) (all : Pair Lent) (number offset : ℕ) → p .event ≡ selects next → RefusedAmong rest next all number offset → RefusedAmong (p ∷ rest) selection all number offset
 after-select p rest selection next all number offset is h =
-    let left = select-then p selection next all is (h .before) (stopOf taken 0 0) in
-    let replied = select-replied p selection next all is (h .before) (h .recorded) in
-    record { before = p ∷ h .before; refused = h .refused; rest = h .rest; inOrder = ap (λ (list : List (Placed WideEvent)). p ∷ list) (h .inOrder); earlier = rw left (h .earlier); recorded = h .recorded; event = h .event; met = ap (meets (h .recorded)) replied ∙ h .met; there = h .there }
+    let left = select-then p selection next all is (h .earlier) (stopOf taken 0 0) in
+    let replied = select-replied p selection next all is (h .earlier) (h .recorded) in
+    record { earlier = p ∷ h .earlier; refused = h .refused; rest = h .rest; inOrder = ap (λ (list : List (Placed WideEvent)). p ∷ list) (h .inOrder); allTaken = rw left (h .allTaken); recorded = h .recorded; event = h .event; met = ap (meets (h .recorded)) replied ∙ h .met; there = h .there }
 
 after-taken : (p : Placed WideEvent) (rest : List (Placed WideEvent)) (selection : Selection) (recorded : Recorded) (all : Pair Lent) (number offset : ℕ) (is : p .event ≡ happens recorded)
     → eqb (meets recorded (called p selection recorded all is .reply)) taken ≡ true → RefusedAmong rest selection (called p selection recorded all is .lent) number offset → RefusedAmong (p ∷ rest) selection all number offset
 after-taken p rest selection recorded all number offset is t h =
-    let left = taken-then p selection recorded all is (h .before) (stopOf taken 0 0) t in
-    let replied = taken-replied p selection recorded all is (h .before) (h .recorded) t in
-    record { before = p ∷ h .before; refused = h .refused; rest = h .rest; inOrder = ap (λ (list : List (Placed WideEvent)). p ∷ list) (h .inOrder); earlier = rw left (h .earlier); recorded = h .recorded; event = h .event; met = ap (meets (h .recorded)) replied ∙ h .met; there = h .there }
+    let left = taken-then p selection recorded all is (h .earlier) (stopOf taken 0 0) t in
+    let replied = taken-replied p selection recorded all is (h .earlier) (h .recorded) t in
+    record { earlier = p ∷ h .earlier; refused = h .refused; rest = h .rest; inOrder = ap (λ (list : List (Placed WideEvent)). p ∷ list) (h .inOrder); allTaken = rw left (h .allTaken); recorded = h .recorded; event = h .event; met = ap (meets (h .recorded)) replied ∙ h .met; there = h .there }
 
 -- no event leaves all as it was, and selects nothing
-none-left : (selection : Selection) (all : Pair Lent) → leftByCalls selection [] all .stop .number ≡ taken
+none-left : (selection : Selection) (all : Pair Lent) → afterCalls selection [] all .stop .number ≡ taken
 unfolding wideByCalls
 none-left selection all = refl
 
@@ -115,7 +115,7 @@ one-more p rest stop number later selection all e = by (p .event) refl
             rw same (after-taken p rest selection recorded all number _ is t (later selection (called p selection recorded all is .lent) (rw same at e)))
         on false t =
             let same = refused-here p selection recorded all is rest stop t in
-            rw same (record { before = []; refused = p; rest = rest; inOrder = refl; earlier = none-left selection all; recorded = recorded; event = is; met = none-replied p selection recorded all is ∙ (rw same at e); there = refl })
+            rw same (record { earlier = []; refused = p; rest = rest; inOrder = refl; allTaken = none-left selection all; recorded = recorded; event = is; met = none-replied p selection recorded all is ∙ (rw same at e); there = refl })
 
 refused-among : (events : List (Placed WideEvent)) (stop : Stop) (number : ℕ) → (stop .number ≡ number → ⊥) → StopsAmong events stop number
 unfolding wideByCalls
@@ -124,14 +124,14 @@ refused-among (p ∷ rest) stop number other selection all e = one-more p rest s
 
 -- and at such an event they stop
 abbrev StopsThere : List (Placed WideEvent) → Placed WideEvent → List (Placed WideEvent) → Stop → Recorded → Type 0
-StopsThere before p rest stop recorded = (selection : Selection) (all : Pair Lent) → leftByCalls selection before all .stop .number ≡ taken → meets recorded (repliedAfter selection before recorded all) ≢ taken
-    → wideByCalls (before ++ p ∷ rest) stop selection all ≡ wideRan (stopOf (meets recorded (repliedAfter selection before recorded all)) (p .offset) (p .before)) (leftByCalls selection before all .lent)
+StopsThere before p rest stop recorded = (selection : Selection) (all : Pair Lent) → afterCalls selection before all .stop .number ≡ taken → meets recorded (repliedAfter selection before recorded all) ≢ taken
+    → wideByCalls (before ++ p ∷ rest) stop selection all ≡ wideRan (stopOf (meets recorded (repliedAfter selection before recorded all)) (p .offset) (p .before)) (afterCalls selection before all .lent)
 
 one-before : (q : Placed WideEvent) (before : List (Placed WideEvent)) (p : Placed WideEvent) (rest : List (Placed WideEvent)) (stop : Stop) (recorded : Recorded) → StopsThere before p rest stop recorded → StopsThere (q ∷ before) p rest stop recorded
 one-before q before p rest stop recorded later selection all early n = by (q .event) refl
   where
     Stops : Type 0
-    Stops = wideByCalls (q ∷ before ++ p ∷ rest) stop selection all ≡ wideRan (stopOf (meets recorded (repliedAfter selection (q ∷ before) recorded all)) (p .offset) (p .before)) (leftByCalls selection (q ∷ before) all .lent)
+    Stops = wideByCalls (q ∷ before ++ p ∷ rest) stop selection all ≡ wideRan (stopOf (meets recorded (repliedAfter selection (q ∷ before) recorded all)) (p .offset) (p .before)) (afterCalls selection (q ∷ before) all .lent)
 
     by : (event : WideEvent) → q .event ≡ event → Stops
     by (selects next) is =
@@ -171,11 +171,11 @@ script-number (r then rest) count = by (by-header (r .kind) (r .payload)) (scrip
     by (unknown u) later = refl
 
 -- no event's number is a header's, nor 1 or 2
-not-header : {header number : ℕ} → Headers header → oneOf recordedNumbers number ≡ true → header ≡ number → ⊥
+not-header : {header number : ℕ} → Headers header → oneOf runEventNumbers number ≡ true → header ≡ number → ⊥
 not-header {header} {number} h n e = by (eqb header taken) (eqb header headerCut) (eqb header kindUnknown) (eqb header noSelection) refl refl refl refl h
   where
-    none : (m : ℕ) → eqb header m ≡ true → oneOf recordedNumbers m ≡ false → ⊥
-    none m t f = not-listed recordedNumbers m (sym e ∙ eqb-true header m t) f n
+    none : (m : ℕ) → eqb header m ≡ true → oneOf runEventNumbers m ≡ false → ⊥
+    none m t f = not-listed runEventNumbers m (sym e ∙ eqb-true header m t) f n
 
     by : (a b c d : Bool) → eqb header taken ≡ a → eqb header headerCut ≡ b → eqb header kindUnknown ≡ c → eqb header noSelection ≡ d → oneOf (taken ∷ headerCut ∷ kindUnknown ∷ noSelection ∷ []) header ≡ true → ⊥
     by true b c d p q r s h = none taken p refl
@@ -185,7 +185,7 @@ not-header {header} {number} h n e = by (eqb header taken) (eqb header headerCut
     by false false false false p q r s h = not-listed [] {n = header} header refl refl (rw (p, q, r, s) at h)
 
 module _ (all : Pair Lent) (trace : List ℕ) (bytes : Bytes trace) where
-  event-leaves : (number offset : ℕ) (h : WideEventRefused all trace number offset) → wideRun all trace ≡ wideRan (stopOf number offset (h .among .refused .before)) (leftByCalls Selection.Both (h .among .before) all .lent)
+  event-leaves : (number offset : ℕ) (h : WideEventRefused all trace number offset) → wideRun all trace ≡ wideRan (stopOf number offset (h .among .refused .before)) (afterCalls Selection.Both (h .among .earlier) all .lent)
   unfolding wideRunByCalls
   event-leaves number offset h =
       let a = h .among in
@@ -193,10 +193,10 @@ module _ (all : Pair Lent) (trace : List ℕ) (bytes : Bytes trace) where
       let stop = stopOf (it .number) (it .offset) (it .count) in
       wide-by-calls all .byCalls (h .accepted) trace bytes ∙
       ap (λ (events : List (Placed WideEvent)). wideByCalls events stop Selection.Both all) (a .inOrder) ∙
-      stops-there (a .before) (a .refused) (a .rest) stop (a .recorded) (a .event) Selection.Both all (a .earlier) (λ z. h .notTaken (sym (a .met) ∙ z)) ∙
+      stops-there (a .earlier) (a .refused) (a .rest) stop (a .recorded) (a .event) Selection.Both all (a .allTaken) (λ z. h .notTaken (sym (a .met) ∙ z)) ∙
       rw (a .met, a .there)
 
-  is-event : (number offset : ℕ) → oneOf recordedNumbers number ≡ true → WideGivesAt (wideRun all trace) number offset → WideEventRefused all trace number offset
+  is-event : (number offset : ℕ) → oneOf runEventNumbers number ≡ true → WideGivesAt (wideRun all trace) number offset → WideEventRefused all trace number offset
   unfolding wideRunByCalls
   is-event number offset n e =
       by-asking all _
@@ -208,13 +208,13 @@ module _ (all : Pair Lent) (trace : List ℕ) (bytes : Bytes trace) where
       record {
         accepted = accepted;
         among = subst (RefusedAmong (it .events) Selection.Both all number) there (refused-among (it .events) stop number (not-header (script-number (split trace) 0) n) Selection.Both all (ap (λ (r : WideRan). r .stop .number) (sym calls) ∙ e .0));
-        notTaken = λ z. not-listed recordedNumbers taken z refl n;
+        notTaken = λ z. not-listed runEventNumbers taken z refl n;
       })
       (λ refusal f m. absurd (by (why-refused all f) (ap (λ (r : WideRan). r .stop .number) (sym (run-refused all trace f)) ∙ e .0)))
     where
       by : {refusal : ℕ} → Refused all refusal → refusal ≡ number → ⊥
-      by (tooFew s) same = not-listed recordedNumbers tooShort (sym same) refl n
-      by (ranges s r) same = not-listed recordedNumbers outOfRange (sym same) refl n
+      by (tooFew s) same = not-listed runEventNumbers tooShort (sym same) refl n
+      by (ranges s r) same = not-listed runEventNumbers outOfRange (sym same) refl n
 
 pub wide-event-given : (all : Pair Lent) (trace : List ℕ) → WideEventGiven all trace
 wide-event-given all trace =

@@ -1,4 +1,4 @@
--- Documents 01 and 02: when a run of the wide terminal gives 3 to 7, 10 and 15, which are the selected chips' own and pass through the run unchanged. The other numbers are in WideGivenRun. proofs/WideEventGiven.antt proves `WideEventGiven`.
+-- Documents 01 and 02: when a run of the wide terminal gives 3 to 7 and 15, which are the selected chips' own and pass through the run unchanged, and 10. The other numbers are in WideGivenRun. proofs/WideEventGiven.antt proves `WideEventGiven`.
 use Prim.Native.Nat.{ℕ}
 use mathlib.Core.Path.{_≡_}
 use mathlib.Core.Logic.{_≢_, _↔_}
@@ -13,7 +13,7 @@ use Rattle.trace.specs.Kinds.{Recorded}
 use Rattle.trace.specs.OneByOne.{Placed, scriptFrom}
 use Rattle.trace.specs.ByCalls.{calledBy, meets}
 use Rattle.trace.specs.Run.{stopOf}
-use Rattle.trace.specs.Given.{recordedNumbers}
+use Rattle.trace.specs.Given.{runEventNumbers}
 use Rattle.widebus.specs.Pair.{Pair, Lent}
 use Rattle.widebus.specs.WideCalls.{wideCall}
 use Rattle.widebus.specs.declared.selection.Selection.{Selection}
@@ -25,24 +25,24 @@ use Rattle.widetrace.specs.WideGivenRun.{WideGivesAt}
 use Rattle.widetrace.specs.WideByCalls.{selectionNumber, wideByCalls}
 
 -- What the calls of events leave, from a selection on.
-abbrev pub leftByCalls : Selection → List (Placed WideEvent) → Pair Lent → WideRan
-leftByCalls selection events all = wideByCalls events (stopOf taken 0 0) selection all
+abbrev pub afterCalls : Selection → List (Placed WideEvent) → Pair Lent → WideRan
+afterCalls selection events all = wideByCalls events (stopOf taken 0 0) selection all
 
 -- What the call of one more event then replies, with the selection that stands.
 abbrev pub repliedAfter : Selection → List (Placed WideEvent) → Recorded → Pair Lent → Reply
 repliedAfter selection before recorded all =
-    wideCall (selectionNumber (lastSelected selection (unplaced before))) (calledBy recorded) (leftByCalls selection before all .lent) .reply
+    wideCall (selectionNumber (lastSelected selection (unplaced before))) (calledBy recorded) (afterCalls selection before all .lent) .reply
 
 -- Among events, one is refused at its byte: those before it are taken, and its own call (widebus/specs/WideGiven) meets the number.
 pub record RefusedAmong (events : List (Placed WideEvent)) (selection : Selection) (all : Pair Lent) (number offset : ℕ) : Type 0 where
-  pub before : List (Placed WideEvent)
+  pub earlier : List (Placed WideEvent)
   pub refused : Placed WideEvent
   pub rest : List (Placed WideEvent)
-  pub inOrder : events ≡ before ++ refused ∷ rest
-  pub earlier : leftByCalls selection before all .stop .number ≡ taken
+  pub inOrder : events ≡ earlier ++ refused ∷ rest
+  pub allTaken : afterCalls selection earlier all .stop .number ≡ taken
   pub recorded : Recorded
   pub event : refused .event ≡ happens recorded
-  pub met : meets recorded (repliedAfter selection before recorded all) ≡ number
+  pub met : meets recorded (repliedAfter selection earlier recorded all) ≡ number
   pub there : refused .offset ≡ offset
 
 -- Such an event of a trace; a run starts with both selected.
@@ -53,6 +53,6 @@ pub record WideEventRefused (all : Pair Lent) (trace : List ℕ) (number offset 
 
 pub record WideEventGiven (all : Pair Lent) (trace : List ℕ) : Type 0 where
   -- 3 to 7, 10 and 15, at the refused byte.
-  pub event : Bytes trace → (number offset : ℕ) → oneOf recordedNumbers number ≡ true → WideGivesAt (wideRun all trace) number offset ↔ WideEventRefused all trace number offset
+  pub event : Bytes trace → (number offset : ℕ) → oneOf runEventNumbers number ≡ true → WideGivesAt (wideRun all trace) number offset ↔ WideEventRefused all trace number offset
   -- The count is of the records before its own, and what the events before it left stands.
-  pub eventLeaves : Bytes trace → (number offset : ℕ) (h : WideEventRefused all trace number offset) → wideRun all trace ≡ wideRan (stopOf number offset (h .among .refused .before)) (leftByCalls Selection.Both (h .among .before) all .lent)
+  pub eventLeaves : Bytes trace → (number offset : ℕ) (h : WideEventRefused all trace number offset) → wideRun all trace ≡ wideRan (stopOf number offset (h .among .refused .before)) (afterCalls Selection.Both (h .among .earlier) all .lent)

@@ -1,4 +1,4 @@
--- Document 02, Order 4, "Refusals": when a run of the wide terminal gives 13, 14 and, in its new reading, 9, and what goes before them; the numbers of events are in WideEventGiven. proofs/WideGivenRun.antt proves `WideGivenRun` and `WideHeaders`.
+-- Document 02, Order 4, "Refusals": when a run of the wide terminal gives 13, 14 and, in its new reading, 9, and what goes before them; the chips' own numbers are in WideEventGiven. proofs/WideGivenRun.antt proves `WideGivenRun` and `WideHeaders`.
 use Prim.Native.Nat.{ℕ, _+_, _≤_}
 use mathlib.Core.Path.{_≡_}
 use mathlib.Core.Logic.{_≢_, _⊎_, _↔_}
