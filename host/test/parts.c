@@ -13,13 +13,13 @@
 #include "played.h"
 #include "replay.h"
 
-enum { LONGEST = 400, LARGEST_NUMBER = 10 };
+enum { LONGEST = 400 };
 
 static uint8_t trace[LONGEST];
 static size_t trace_len;
 
 /* How often each number was answered. */
-static unsigned answered[LARGEST_NUMBER + 1];
+static unsigned answered[SSD1815B_LAST_NUMBER + 1];
 
 /* A number below a limit; the same ones at each start of the program. */
 static unsigned below(unsigned limit)
@@ -203,9 +203,11 @@ int main(void)
     same_but_directions(try_from(HUNG_UPSIDE_DOWN), upright);
   }
   CHECK(apart > 0 && together > 0);
-  for (int number = 3; number <= LARGEST_NUMBER; number++) {
+  for (int number = SSD1815B_OUTSIDE_TABLE; number <= SSD1815B_READ_DIFFERS;
+       number++) {
     CHECK(answered[number] > 0);
   }
   CHECK(answered[SSD1815B_TAKEN] > 0);
+  CHECK(answered[SSD1815B_TEST_MODE] > 0);
   return checks_end("parts");
 }
