@@ -48,5 +48,10 @@ pub mod Replayed
 pub mod StretchLaws
 -- a command byte by itself is a stretch of one
 pub mod Alone
--- 5. One result for each statement.
+-- 5. Pieces of data.
+-- bytes put and compared side by side
+pub mod SideBySide
+-- what a piece of data comes to
+pub mod PieceLaws
+-- 6. One result for each statement.
 pub mod Settled

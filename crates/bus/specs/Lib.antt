@@ -46,6 +46,10 @@ pub mod CallsOnChip
 pub mod TheStart
 -- the directions are for drawing alone
 pub mod Directions
+-- bytes put and compared side by side
+pub mod Pieces
+-- a stretch of reads, from an offset on
+pub mod Reads
 -- a stretch event by event
 pub mod StretchLaws
 -- one result for each statement

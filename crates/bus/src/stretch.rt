@@ -10,9 +10,13 @@ ghost use Rattle.bus.specs.Recorded.{event, recordedCommand, recordedWri
 ghost use Rattle.bus.specs.Stretch.{stretch, stretchOf, haltedAt};
 use crate::answer::After;
 use crate::answer::Answer;
+use crate::pieces::pass;
+use crate::pieces::write_piece;
+use crate::pieces::write_round;
 use crate::registers::Registers;
 use constants::refusal::READ_DIFFERS;
 use constants::refusal::TAKEN;
+use constants::sizes::WIDTH;
 
 // What a stretch comes to: the registers, the count of events taken, and the number that stopped it, 0 where all were taken.
 pub struct Stretch {
@@ -41,28 +45,38 @@ pub fn commands(mut registers: Registers, bytes: &[u8]) -> Stretch
     }
 }
 
-// Data bytes written.
-pub fn writes(mut registers: Registers, memory: &mut [u8], bytes: &[u8]) -> Stretch
+// Data bytes written: awaited code, column and page are asked once, since a write that is taken leaves the next as allowed as it was.
+pub fn writes(registers: Registers, memory: &mut [u8], bytes: &[u8]) -> Stretch
     ensures { λ r. ⌜ stretchOf r (now (memory .exit)) ≡ stretch replay (map recordedWrite (now (bytes .entry))) (chipOf registers (now (memory .entry))) ⌝ }
 {
-    let mut at = 0;
-    while at < bytes.len() {
-        let answer = registers.write(memory, bytes[at]);
-        let Answer::Taken(after) = answer else {
-            return stopped(answer, at, registers);
-        };
-        registers = after.registers;
-        at += 1;
+    if bytes.len() == 0 {
+        return halted(TAKEN, 0, registers);
     }
-    Stretch {
-        registers,
-        count: at,
-        number: TAKEN,
+    let number = registers.access(memory.len());
+    if number == TAKEN {
+        if bytes.len() <= WIDTH - (registers.column as usize) {
+            let left = write_piece(registers, memory, bytes);
+            return halted(TAKEN, bytes.len(), left);
+        }
+        let left = write_round(registers, memory, bytes);
+        return halted(TAKEN, bytes.len(), left);
     }
+    halted(number, 0, registers)
+}
+
+// Data bytes read, compared with the bytes that the firmware read: pieces that are the same are passed over, and the rest is read one by one.
+pub fn reads(registers: Registers, memory: &[u8], bytes: &[u8]) -> Stretch
+    ensures { λ r. ⌜ stretchOf r (now (memory .entry)) ≡ stretch replay (map readAs (now (bytes .entry))) (chipOf registers (now (memory .entry))) ⌝ }
+{
+    let passed = pass(registers, memory, bytes);
+    let count = passed.count;
+    let rest = reads_singly(passed.registers, memory, &bytes[count..bytes.len()]);
+    let all = count + rest.count;
+    halted(rest.number, all, rest.registers)
 }
 
 // Data bytes read, compared with the bytes that the firmware read.
-pub fn reads(mut registers: Registers, memory: &[u8], bytes: &[u8]) -> Stretch
+fn reads_singly(mut registers: Registers, memory: &[u8], bytes: &[u8]) -> Stretch
     ensures { λ r. ⌜ stretchOf r (now (memory .entry)) ≡ stretch replay (map readAs (now (bytes .entry))) (chipOf registers (now (memory .entry))) ⌝ }
 {
     let mut at = 0;

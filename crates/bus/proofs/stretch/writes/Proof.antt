@@ -1,100 +1,76 @@
--- `bus::stretch::writes` meets its contract: what is left of the stretch decides.
+-- `bus::stretch::writes` meets its contract: one piece, or pieces up to column 131 and on from 0, where a write is allowed.
 -- Assumes nothing.
-use mathlib.Core.Path.{_≡_, refl, sym, _∙_}
-use mathlib.Core.List.{map}
-use Prim.Native.Nat.{_≤_, _-_}
+use mathlib.Core.Path.{_≡_, sym, _∙_}
 use native.Mathlib.Omega.{arith}
-use borrow.Author.Needs.{needs}
 use denote.Ref.{now}
 use lib.ListN.{length}
-use Rattle.bus.specs.Events.{numberOf}
-use Rattle.bus.specs.Chip.{dataWritten, step}
-use Rattle.bus.specs.Recorded.{recordedWrite, chipOf, replay}
-use Rattle.bus.specs.Stretch.{stretch}
-use Rattle.bus.proofs.Untouched.{refused-leaves}
-use Rattle.bus.proofs.Replayed.{event-taken, event-refused}
-use Rattle.bus.proofs.StretchLaws.{stretchFrom, all-left, none-left, turn-refused, turn-given}
+use Rattle.bus.proofs.Access.{opened}
+use Rattle.bus.proofs.PieceLaws.{refused-first, none-written}
+use borrow.Author.Needs.{needs}
 use Rattle.bus.proofs.stretch.writes.Statement.{statement}
 use Rattle.bus.proofs.stretch.writes.Tie as tie
 
-abbrev Inv-loop : tie.InvT-loop
-Inv-loop registers₀ memory₀ bytes at₀ registers memory at = (at ≤ length bytes) × (length memory ≡ length memory₀) × (stretch replay (map recordedWrite bytes) (chipOf registers₀ memory₀) ≡ stretchFrom replay recordedWrite bytes at (chipOf registers memory))
+halted-requires : tie.Need-halted-requires
+halted-requires c κs = search needs
 
-abbrev μ-loop : tie.MeasureT-loop
-μ-loop registers₀ memory₀ bytes at₀ registers memory at = length bytes - at
+returns : tie.Need-returns
+returns c = let a = c .before .before .before .before .args in rw (c .halted .ensures) (sym (none-written (now (a .bytes)) (a .registers) (now (a .memory)) (c .before .if1 .taken)))
 
-loop-holds : tie.Need-loop-holds Inv-loop μ-loop
-loop-holds c = (omega arith, refl, all-left replay recordedWrite (now (c .before .before .args .bytes)) _)
+access-requires : tie.Need-access-requires
+access-requires c κs = search needs
 
-shared-slice-read-write : tie.Need-shared-slice-read-write Inv-loop μ-loop
-shared-slice-read-write c = omega arith
+cast-if3 : tie.Need-cast-if3
+cast-if3 c = search needs
 
-write-requires : tie.Need-write-requires Inv-loop μ-loop
-write-requires c κs = search needs
+sub-if3 : tie.Need-sub-if3
+sub-if3 c = let o = opened _ _ (sym (c .before .before .access .ensures) ∙ c .before .if2 .taken) in omega (arith, o .column)
 
-enum-known-answer : tie.Need-enum-known-answer Inv-loop μ-loop
-enum-known-answer c = search needs
+write-piece-requires : tie.Need-write-piece-requires
+write-piece-requires c κs = search needs
 
-enum-told : tie.Need-enum-told Inv-loop μ-loop
-enum-told c = search needs
+halted-requires-2 : tie.Need-halted-requires-2
+halted-requires-2 c κs = search needs
 
-stopped-requires : tie.Need-stopped-requires Inv-loop μ-loop
-stopped-requires c κs = search needs
+same-length : tie.Need-same-length
+same-length c = search needs
 
-same-length : tie.Need-same-length Inv-loop μ-loop
-same-length c = c .before .before .before .before .before .write .kept .1 .0 ∙ c .before .before .before .before .before .before .before .before .before .loop .inv .1
+returns-2 : tie.Need-returns-2
+returns-2 c = rw (c .halted2 .ensures) (sym (c .before .before .before .write-piece .ensures .1))
 
-returns : tie.Need-returns Inv-loop μ-loop
-unfolding step numberOf
-returns c =
-    let d = c .before .before .before .before .before in
-    let loop = d .before .before .before .before .loop in
-    let bytes = now (d .before .before .before .before .before .before .before .args .bytes) in
-    let told = c .before .enum-told .given .1 in
-    let same : d .write .last .1 .0 ≡ loop .memory = d .write .ensures .1 ∙ refused-leaves (dataWritten _) _ (loop .memory) _ (sym (d .write .ensures .0) ∙ told) in
-    rw (c .stopped .ensures, told, same)
-    (sym (loop .inv .2 ∙ turn-refused replay recordedWrite bytes (loop .at) (omega arith) _ _ (event-refused (dataWritten _) _ _ (d .write .ensures .0) told)))
+write-round-requires : tie.Need-write-round-requires
+write-round-requires c κs = search needs
 
-add-at : tie.Need-add-at Inv-loop μ-loop
-add-at c = omega arith
+halted-requires-3 : tie.Need-halted-requires-3
+halted-requires-3 c κs = search needs
 
-loop-less : tie.Need-loop-less Inv-loop μ-loop
-loop-less c = omega arith
-
-loop-again : tie.Need-loop-again Inv-loop μ-loop
-unfolding step
-loop-again c =
-    let d = c .before .before .before .before .before .before in
-    let loop = d .before .before .before .before .loop in
-    let bytes = now (d .before .before .before .before .before .before .before .args .bytes) in
-    (omega arith, d .write .kept .1 .0 ∙ loop .inv .1, loop .inv .2 ∙ turn-given replay recordedWrite bytes (loop .at) (omega arith) _ _ (event-taken (dataWritten _) _ _ (d .write .ensures .0) (d .write .ensures .1) (c .before .before .answer .given .1)))
-
-same-length-2 : tie.Need-same-length-2 Inv-loop μ-loop
+same-length-2 : tie.Need-same-length-2
 same-length-2 c = search needs
 
-returns-2 : tie.Need-returns-2 Inv-loop μ-loop
-returns-2 c =
-    let loop = c .before .loop in
-    let bytes = now (c .before .before .before .before .args .bytes) in
-    let e : loop .at ≡ length bytes = omega arith in
-    sym (loop .inv .2 ∙ rw e (none-left replay recordedWrite bytes _))
+returns-3 : tie.Need-returns-3
+returns-3 c = rw (c .halted3 .ensures) (sym (c .before .before .before .write-round .ensures))
+
+halted-requires-4 : tie.Need-halted-requires-4
+halted-requires-4 c κs = search needs
+
+returns-4 : tie.Need-returns-4
+returns-4 c = let a = c .before .before .before .before .before .before .args in rw (c .halted4 .ensures, c .before .before .access .ensures) (sym (refused-first (now (a .bytes)) (a .registers) (now (a .memory)) (c .before .before .before .if1 .left) (λ e. c .before .if2 .left (c .before .before .access .ensures ∙ e))))
 
 pub writes-spec : {M : Type 1} → statement M
 writes-spec =
     tie.close
     (tie.spec
-    Inv-loop
-    μ-loop
-    loop-holds
-    shared-slice-read-write
-    write-requires
-    enum-known-answer
-    enum-told
-    stopped-requires
-    same-length
+    halted-requires
     returns
-    add-at
-    loop-less
-    loop-again
+    access-requires
+    cast-if3
+    sub-if3
+    write-piece-requires
+    halted-requires-2
+    same-length
+    returns-2
+    write-round-requires
+    halted-requires-3
     same-length-2
-    returns-2)
+    returns-3
+    halted-requires-4
+    returns-4)
