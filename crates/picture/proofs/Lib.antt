@@ -36,3 +36,5 @@ pub mod Flipped
 pub mod Demand3
 -- Order 3: demand 3 speaks of either start
 pub mod FullAtStart
+-- the whole frame at once
+pub mod Upright

@@ -1,6 +1,6 @@
 -- Laws on a row of places and on rows one after the other: their lengths, one place more, one row more, and what stands at a place.
 -- Assumes nothing.
-use mathlib.Core.Path.{_≡_, refl, sym, _∙_}
+use mathlib.Core.Path.{_≡_, refl, sym, _∙_, ap}
 use mathlib.Core.List.{List, [], _∷_, _++_, append-assoc, append-nil}
 use Prim.Native.Nat.{ℕ, zero, suc, _+_, _*_, _≤_, _<_}
 use native.Mathlib.Omega.{arith}
@@ -8,7 +8,7 @@ use native.Mathlib.Nat.{suc-mul, zero-mul, mul-le-mul-right, not-suc-le-zero, le
 use native.Mathlib.Decide.{decLt}
 use native.Mathlib.Numerals.{add-one}
 use lib.ListN.{length, getD, set, take, drop, length-append, length-drop, drop-of-length-le, replicate, replicate-append-replicate, List·getD-append}
-use lib.Seq.{drop-cons, set-at, take-at, drop-at, drop-drop, take-append-le, drop-append-le, take-all, getD-at}
+use lib.Seq.{drop-cons, set-at, take-at, drop-at, drop-drop, take-append-le, drop-append-le, take-all, getD-at, getD-take, getD-drop}
 use Rattle.picture.specs.Frame.{line, grid}
 
 pub line-length : (w : ℕ) (f : ℕ → ℕ) → length (line w f) ≡ w
@@ -96,3 +96,11 @@ grid-row w (suc h) f y l = either (grid-row w h f y) (decLt y h)
     either before (no n) =
         let e : y ≡ h = omega arith in
         rw (e, drop-at (grid w h f) (line w (f h)) (h * w) (grid-length w h f), take-all w (line w (f h)) (le-of-eq (line-length w (f h))))
+
+-- what stands at a place of a row of a frame
+pub grid-at : (w h : ℕ) (f : ℕ → ℕ → ℕ) (y x : ℕ) → y < h → x < w → getD (grid w h f) (y * w + x) 0 ≡ f y x
+grid-at w h f y x l k =
+    sym (getD-drop (y * w) (grid w h f) x 0) ∙
+    sym (getD-take w (drop (y * w) (grid w h f)) x 0 k) ∙
+    ap (λ row. getD row x 0) (grid-row w h f y l) ∙
+    line-at w (f y) x k

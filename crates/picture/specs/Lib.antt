@@ -4,6 +4,8 @@ pub mod Scan
 pub mod Rows
 -- what each place shows, and the frame
 pub mod Frame
+-- the whole frame at once
+pub mod Upright
 -- the call that draws
 pub mod Draw
 -- the call that draws one row

@@ -9,6 +9,7 @@ ghost use Rattle.picture.specs.Draw.{drawn, draw};
 ghost use Rattle.picture.specs.DrawLine.{drawLine};
 use crate::row::draw_row;
 use crate::rows::PanelRow;
+use crate::whole::draw_whole;
 use bus::image::Asked;
 use bus::image::ask;
 use bus::registers::Registers;
@@ -29,11 +30,27 @@ pub fn draw(state: &[u8], memory: &[u8], frame: &mut [u8]) -> u8
     }
     match ask(state, memory) {
         Asked::Found(registers) => {
-            draw_rows(registers, memory, frame);
+            draw_frame(registers, memory, frame);
             TAKEN
         }
         Asked::Refused(number) => number,
     }
+}
+
+// Draws the frame. Bits are drawn with all rows in view; each row of one shade by itself, which the compiler makes one fill of them.
+fn draw_frame(registers: Registers, memory: &[u8], places: &mut [u8])
+    requires { ⌜ (memorySize ≤ length (now memory)) × (frameSize ≤ length (now places)) ⌝ }
+    ensures { λ _. ⌜ now (places .exit) ≡ frame registers (now (memory .entry)) ++ drop frameSize (now (places .entry)) ⌝ }
+{
+    if registers.on == 0 {
+        draw_rows(registers, memory, places);
+        return;
+    }
+    if registers.entire == 1 {
+        draw_rows(registers, memory, places);
+        return;
+    }
+    draw_whole(registers, memory, places);
 }
 
 // Draws each row into its own part of the frame.

@@ -87,7 +87,7 @@ fn mirrored(page: &[u8], bit: u8, reverse: u8, places: &mut [u8])
 }
 
 // Each place the same.
-fn fill(places: &mut [u8], value: u8)
+pub fn fill(places: &mut [u8], value: u8)
     requires { ⌜ length (now places) ≡ width ⌝ }
     ensures { λ _. ⌜ now (places .exit) ≡ line width (λ x. value) ⌝ }
 {

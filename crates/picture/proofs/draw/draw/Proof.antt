@@ -20,8 +20,8 @@ ask-requires c κs = search needs
 enum-known-registers : tie.Need-enum-known-registers
 enum-known-registers c = search needs
 
-draw-rows-requires : tie.Need-draw-rows-requires
-draw-rows-requires c κs =
+draw-frame-requires : tie.Need-draw-frame-requires
+draw-frame-requires c κs =
     let a = c .before .before .before .before .before .before .before .before .before .args in
     let found = found-legal (now (a .state)) (now (a .memory)) (sym (c .before .before .before .before .ask .ensures) ∙ c .before .before .registers .given .1) in
     (long (now (a .state)) (now (a .memory)) (found .0) .1, c .before .before .before .before .before .if1 .left)
@@ -36,7 +36,7 @@ returns-2 : tie.Need-returns-2
 unfolding draw drawOn
 returns-2 c =
     let d = c .before .before .before .before .before in
-    rw (le-ltb _ _ (d .before .before .before .if1 .left), ← (d .before .before .ask .ensures), d .registers .given .1, c .before .before .draw-rows .ensures)
+    rw (le-ltb _ _ (d .before .before .before .if1 .left), ← (d .before .before .ask .ensures), d .registers .given .1, c .before .before .draw-frame .ensures)
 
 returns-3 : tie.Need-returns-3
 unfolding draw drawOn
@@ -50,7 +50,7 @@ draw-spec =
     returns
     ask-requires
     enum-known-registers
-    draw-rows-requires
+    draw-frame-requires
     enum-known-number
     same-length
     returns-2
