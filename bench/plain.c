@@ -1,10 +1,11 @@
 /*
-** The rules of documents 01 and 02 in plain C, written by hand as firmware
-** would be: straightforward, one function to a rule, nothing proved.  The bench
-** holds the proved library beside it, and the C tests compare it with the
-** oracle like the library, so what is measured is right.
+** The rules of documents 01 and 02 in plain C, as fast as we could write them
+** for gcc -O3: one function to a rule, nothing proved, no instruction by its
+** name.  The bench holds the proved library beside it, and the C tests compare
+** it with the oracle like the library, so what is measured is right.
 **
-** Registers live in the state image itself, by their places.
+** Registers live in the state image itself, by their places.  A byte that was
+** just stored is read as a byte again: a wider load would wait for the store.
 */
 #include "plain.h"
 
@@ -53,31 +54,27 @@ static const uint8_t power_on[STATE_SIZE] = {
   [MULTIPLEX] = 63, [CONTRAST] = 32, [RATIO] = 4, [FRESH] = 1
 };
 
-static const uint8_t largest[STATE_SIZE] = {
-  [PAGE] = 8,         [COLUMN] = 255,       [START_LINE] = 63,
-  [OFFSET] = 63,      [MULTIPLEX] = 63,     [CONTRAST] = 63,
-  [RATIO] = 7,        [POWER] = 7,          [BIAS] = 1,
-  [QUARTER_BIAS] = 1, [BYTE_OF_A9] = 255,   [PHASES] = 3,
-  [COLUMN_DIRECTION] = 1, [ROW_DIRECTION] = 1, [ENTIRE_ON] = 1,
-  [REVERSE] = 1,      [DISPLAY_ON] = 1,     [INDICATOR_ON] = 1,
-  [INDICATOR_MODE] = 3, [AWAITED] = 0xD4,   [MODIFY] = 1,
-  [SAVED] = 255,      [FRESH] = 1
+/* Whether a byte is an awaited code, or 0 for none. */
+static const bool awaitable[256] = {
+  [0x00] = true, [0x81] = true, [0xA8] = true, [0xA9] = true, [0xAD] = true,
+  [0xD3] = true, [0xD4] = true
 };
 
-static bool legal(const uint8_t *state)
+/* Whether each register is in its range, by bits that it must not have: one
+** branch for all. */
+static inline bool legal(const uint8_t *state)
 {
-  for (int i = 0; i < STATE_SIZE; i++) {
-    if (state[i] > largest[i]) {
-      return false;
-    }
-  }
-  switch (state[AWAITED]) {
-  case 0x00: case 0x81: case 0xA8: case 0xA9: case 0xAD: case 0xD3: case 0xD4:
-    break;
-  default:
-    return false;
-  }
-  return state[MODIFY] == 1 || state[SAVED] == 0;
+  unsigned to_63 = state[START_LINE] | state[OFFSET] | state[MULTIPLEX]
+                   | state[CONTRAST];
+  unsigned to_7 = state[RATIO] | state[POWER];
+  unsigned to_3 = state[PHASES] | state[INDICATOR_MODE];
+  unsigned to_1 = state[BIAS] | state[QUARTER_BIAS] | state[COLUMN_DIRECTION]
+                  | state[ROW_DIRECTION] | state[ENTIRE_ON] | state[REVERSE]
+                  | state[DISPLAY_ON] | state[INDICATOR_ON] | state[MODIFY]
+                  | state[FRESH];
+  unsigned saved = state[SAVED] & (state[MODIFY] - 1u);
+  return (to_63 >> 6 | to_7 >> 3 | to_3 >> 2 | to_1 >> 1 | saved
+          | (state[PAGE] > ICON_PAGE) | !awaitable[state[AWAITED]]) == 0;
 }
 
 static bool too_short(size_t state_len, size_t memory_len)
@@ -110,6 +107,13 @@ static void software_reset(uint8_t *state)
   state[SAVED] = 0;
 }
 
+/* Whether a code takes this n. */
+static inline bool allowed(uint8_t code, uint8_t n)
+{
+  return (code != 0xD3 || n <= 0x3F)
+         && (code != 0xD4 || (n <= 0x30 && n % 16 == 0));
+}
+
 /* A command byte while a code is awaited: the code's n. */
 static uint8_t take_n(uint8_t *state, uint8_t n)
 {
@@ -128,13 +132,13 @@ static uint8_t take_n(uint8_t *state, uint8_t n)
     state[INDICATOR_MODE] = n % 4;
     break;
   case 0xD3:
-    if (n > 0x3F) {
+    if (!allowed(0xD3, n)) {
       return SSD1815B_NOT_ALLOWED;
     }
     state[OFFSET] = n;
     break;
   default: /* D4 */
-    if (n > 0x30 || n % 16 != 0) {
+    if (!allowed(0xD4, n)) {
       return SSD1815B_NOT_ALLOWED;
     }
     state[PHASES] = n / 16;
@@ -145,82 +149,98 @@ static uint8_t take_n(uint8_t *state, uint8_t n)
   return SSD1815B_TAKEN;
 }
 
-static uint8_t command(uint8_t *state, uint8_t byte)
+/* What a command byte does with no code awaited; 0 is a byte that is none. */
+enum {
+  NO_COMMAND, SETS, NO_SUCH_PAGE, TEST, INDICATOR_OFF, ENTER, RESET, LEAVE
+};
+
+/* A byte that sets: register `place` keeps these bits and gets that value. */
+struct effect {
+  uint8_t what;
+  uint8_t place;
+  uint8_t kept;
+  uint8_t value;
+};
+
+#define EACH_4(DO, n)  DO(n), DO((n) + 1), DO((n) + 2), DO((n) + 3)
+#define EACH_8(DO, n)  EACH_4(DO, n), EACH_4(DO, (n) + 4)
+#define EACH_16(DO, n) EACH_8(DO, n), EACH_8(DO, (n) + 8)
+#define EACH_64(DO, n) \
+  EACH_16(DO, n), EACH_16(DO, (n) + 16), EACH_16(DO, (n) + 32), \
+  EACH_16(DO, (n) + 48)
+
+#define LOW_COLUMN(n)  [n] = { SETS, COLUMN, 0xF0, (n) % 16 }
+#define HIGH_COLUMN(n) [n] = { SETS, COLUMN, 0x0F, (n) % 16 * 16 }
+#define RATIO_IS(n)    [n] = { SETS, RATIO, 0, (n) % 8 }
+#define POWER_IS(n)    [n] = { SETS, POWER, 0, (n) % 8 }
+#define LINE_IS(n)     [n] = { SETS, START_LINE, 0, (n) % 64 }
+#define PAGE_IS(n)     [n] = { SETS, PAGE, 0, (n) % 16 }
+#define ROWS_ARE(n)    [n] = { SETS, ROW_DIRECTION, 0, (n) >= 0xC8 }
+#define FLAG(n, place) [n] = { SETS, place, 0, 0 }, [(n) + 1] = { SETS, place, 0, 1 }
+#define AWAITS(n)      [n] = { SETS, AWAITED, 0, n }
+#define NO_PAGE(n)     [n] = { .what = NO_SUCH_PAGE }
+#define TESTS(n)       [n] = { .what = TEST }
+
+static const struct effect effects[256] = {
+  EACH_16(LOW_COLUMN, 0x00), EACH_16(HIGH_COLUMN, 0x10), EACH_8(RATIO_IS, 0x20),
+  EACH_8(POWER_IS, 0x28), EACH_64(LINE_IS, 0x40), AWAITS(0x81),
+  FLAG(0xA0, COLUMN_DIRECTION), FLAG(0xA2, BIAS), FLAG(0xA4, ENTIRE_ON),
+  FLAG(0xA6, REVERSE), AWAITS(0xA8), AWAITS(0xA9), FLAG(0xAA, QUARTER_BIAS),
+  [0xAC] = { .what = INDICATOR_OFF }, AWAITS(0xAD), FLAG(0xAE, DISPLAY_ON),
+  EACH_8(PAGE_IS, 0xB0), PAGE_IS(0xB8), NO_PAGE(0xB9), NO_PAGE(0xBA),
+  NO_PAGE(0xBB), EACH_4(NO_PAGE, 0xBC), EACH_16(ROWS_ARE, 0xC0), AWAITS(0xD3),
+  AWAITS(0xD4), [0xE0] = { .what = ENTER }, [0xE2] = { .what = RESET },
+  [0xE3] = { SETS, FRESH, 0, 1 }, [0xEE] = { .what = LEAVE },
+  EACH_16(TESTS, 0xF0)
+};
+
+/* A byte that is refused, or does more than set one register. */
+static uint8_t command_apart(uint8_t *state, uint8_t what)
+{
+  switch (what) {
+  case INDICATOR_OFF:
+    state[INDICATOR_ON] = 0;
+    state[INDICATOR_MODE] = 0;
+    break;
+  case ENTER:
+    if (state[MODIFY] == 0) {
+      state[MODIFY] = 1;
+      state[SAVED] = state[COLUMN];
+    }
+    break;
+  case RESET:
+    software_reset(state);
+    break;
+  case LEAVE:
+    if (state[MODIFY] == 1) {
+      state[MODIFY] = 0;
+      state[COLUMN] = state[SAVED];
+      state[SAVED] = 0;
+    }
+    break;
+  case NO_SUCH_PAGE:
+    return SSD1815B_NO_PAGE;
+  case TEST:
+    return SSD1815B_TEST_MODE;
+  default:
+    return SSD1815B_OUTSIDE_TABLE;
+  }
+  return SSD1815B_TAKEN;
+}
+
+static inline uint8_t command(uint8_t *state, uint8_t byte)
 {
   if (state[AWAITED] != 0) {
     return take_n(state, byte);
   }
-  switch (byte >> 4) {
-  case 0x0:
-    state[COLUMN] = (uint8_t)((state[COLUMN] & 0xF0) | byte);
-    break;
-  case 0x1:
-    state[COLUMN] = (uint8_t)((state[COLUMN] & 0x0F) | (byte & 0x0F) << 4);
-    break;
-  case 0x2:
-    state[byte < 0x28 ? RATIO : POWER] = byte % 8;
-    break;
-  case 0x4: case 0x5: case 0x6: case 0x7:
-    state[START_LINE] = byte % 64;
-    break;
-  case 0xB:
-    if (byte > 0xB8) {
-      return SSD1815B_NO_PAGE;
-    }
-    state[PAGE] = byte % 16;
-    break;
-  case 0xC:
-    state[ROW_DIRECTION] = byte >= 0xC8;
-    break;
-  case 0xF:
-    return SSD1815B_TEST_MODE;
-  default:
-    switch (byte) {
-    case 0xA0: case 0xA1:
-      state[COLUMN_DIRECTION] = byte % 2;
-      break;
-    case 0xA2: case 0xA3:
-      state[BIAS] = byte % 2;
-      break;
-    case 0xA4: case 0xA5:
-      state[ENTIRE_ON] = byte % 2;
-      break;
-    case 0xA6: case 0xA7:
-      state[REVERSE] = byte % 2;
-      break;
-    case 0xAA: case 0xAB:
-      state[QUARTER_BIAS] = byte % 2;
-      break;
-    case 0xAC:
-      state[INDICATOR_ON] = 0;
-      state[INDICATOR_MODE] = 0;
-      break;
-    case 0xAE: case 0xAF:
-      state[DISPLAY_ON] = byte % 2;
-      break;
-    case 0x81: case 0xA8: case 0xA9: case 0xAD: case 0xD3: case 0xD4:
-      state[AWAITED] = byte;
-      break;
-    case 0xE0:
-      if (state[MODIFY] == 0) {
-        state[MODIFY] = 1;
-        state[SAVED] = state[COLUMN];
-      }
-      break;
-    case 0xE2:
-      software_reset(state);
-      break;
-    case 0xE3:
-      break;
-    case 0xEE:
-      if (state[MODIFY] == 1) {
-        state[MODIFY] = 0;
-        state[COLUMN] = state[SAVED];
-        state[SAVED] = 0;
-      }
-      break;
-    default:
-      return SSD1815B_OUTSIDE_TABLE;
+  struct effect effect = effects[byte];
+  if (effect.what == SETS) {
+    uint8_t kept = state[effect.place] & effect.kept;
+    state[effect.place] = kept | effect.value;
+  } else {
+    uint8_t number = command_apart(state, effect.what);
+    if (number != SSD1815B_TAKEN) {
+      return number;
     }
   }
   state[FRESH] = 1;
@@ -399,48 +419,163 @@ static uint8_t judge(size_t kind, size_t length)
   return SSD1815B_TAKEN;
 }
 
-/* A record's payload.  *done counts its events taken. */
-static uint8_t obey(uint8_t *state, uint8_t *memory, size_t kind,
-                    const uint8_t *payload, size_t length, size_t *done)
+/* Command bytes; how many are taken, and the number of the one that is not. */
+static size_t obey_commands(uint8_t *state, const uint8_t *bytes, size_t count,
+                            uint8_t *number)
 {
-  uint8_t number = SSD1815B_TAKEN;
-  size_t i = 0;
-  switch (kind) {
-  case COMMANDS:
-    for (; i < length; i++) {
-      number = command(state, payload[i]);
-      if (number != SSD1815B_TAKEN) {
-        break;
-      }
+  for (size_t i = 0; i < count; i++) {
+    *number = command(state, bytes[i]);
+    if (*number != SSD1815B_TAKEN) {
+      return i;
     }
-    break;
-  case WRITTEN:
-    for (; i < length; i++) {
-      number = write(state, memory, payload[i]);
-      if (number != SSD1815B_TAKEN) {
-        break;
-      }
-    }
-    break;
-  case READ:
-    for (; i < length; i++) {
-      number = access(state);
-      if (number != SSD1815B_TAKEN) {
-        break;
-      }
-      if (state[FRESH] == 0 && fetch(state, memory) != payload[i]) {
-        number = SSD1815B_READ_DIFFERS;
-        break;
-      }
-      read(state);
-    }
-    break;
-  default: /* the reset pin */
-    memcpy(state, power_on, STATE_SIZE);
-    break;
   }
-  *done = i;
-  return number;
+  return count;
+}
+
+/* How many of so many bytes go up to column 131. */
+static size_t stretch(size_t column, size_t count)
+{
+  return count < COLUMNS - column ? count : COLUMNS - column;
+}
+
+/* The column that follows a stretch. */
+static size_t after(size_t column)
+{
+  return column == COLUMNS ? 0 : column;
+}
+
+/* The page that is accessed. */
+static size_t page_place(const uint8_t *state)
+{
+  return (size_t)state[PAGE] * COLUMNS;
+}
+
+/* Copies bit 0 of each byte. */
+static void copy_icons(uint8_t *restrict to, const uint8_t *restrict from,
+                       size_t count)
+{
+  for (size_t i = 0; i < count; i++) {
+    to[i] = from[i] & 1;
+  }
+}
+
+/* Data bytes written, at least one, of which 6 and 7 are asked: the first asks
+** for all, as the column then stays below 132. */
+static void store_all(uint8_t *state, uint8_t *restrict memory,
+                      const uint8_t *restrict bytes, size_t count)
+{
+  uint8_t *page = memory + page_place(state);
+  bool icons = state[PAGE] == ICON_PAGE;
+  size_t column = state[COLUMN];
+  while (count > 0) {
+    size_t part = stretch(column, count);
+    if (icons) {
+      copy_icons(page + column, bytes, part);
+    } else {
+      memcpy(page + column, bytes, part);
+    }
+    bytes += part;
+    count -= part;
+    column = after(column + part);
+  }
+  state[COLUMN] = (uint8_t)column;
+  state[FRESH] = 1;
+}
+
+/* How many recorded bytes, from the first on, are those of a page; on page 8
+** their bit 0. */
+static size_t count_same(const uint8_t *page, const uint8_t *recorded,
+                         size_t count, uint8_t bits)
+{
+  if (bits == 0xFF && memcmp(page, recorded, count) == 0) {
+    return count;
+  }
+  size_t same = 0;
+  while (same < count && (page[same] & bits) == recorded[same]) {
+    same++;
+  }
+  return same;
+}
+
+/* How many recorded bytes, from the first on, are one byte again and again. */
+static size_t count_again(uint8_t byte, const uint8_t *recorded, size_t count)
+{
+  if (count > 16 && recorded[0] == byte
+      && memcmp(recorded, recorded + 1, count - 1) == 0) {
+    return count;
+  }
+  size_t same = 0;
+  while (same < count && recorded[same] == byte) {
+    same++;
+  }
+  return same;
+}
+
+/* Data bytes read, after the dummy read and not in read-modify-write; how many
+** are as recorded. */
+static size_t compare_all(uint8_t *state, const uint8_t *memory,
+                          const uint8_t *recorded, size_t count)
+{
+  const uint8_t *page = memory + page_place(state);
+  uint8_t bits = state[PAGE] == ICON_PAGE ? 0x01 : 0xFF;
+  size_t column = state[COLUMN];
+  size_t done = 0;
+  while (done < count) {
+    size_t part = stretch(column, count - done);
+    size_t same = count_same(page + column, recorded + done, part, bits);
+    done += same;
+    column = after(column + same);
+    if (same < part) {
+      break;
+    }
+  }
+  state[COLUMN] = (uint8_t)column;
+  return done;
+}
+
+/* Data bytes read, at least one, of which 6 and 7 are asked; how many are
+** taken.  With fresh 1 the first is the dummy read. */
+static size_t read_all(uint8_t *state, const uint8_t *memory,
+                       const uint8_t *recorded, size_t count)
+{
+  size_t dummies = state[FRESH];
+  state[FRESH] = 0;
+  recorded += dummies;
+  count -= dummies;
+  if (state[MODIFY] == 1) {
+    return dummies + count_again(fetch(state, memory), recorded, count);
+  }
+  return dummies + compare_all(state, memory, recorded, count);
+}
+
+/* A record's payload; how many of its events are taken, and the number of the
+** one that is not. */
+static size_t obey(uint8_t *state, uint8_t *memory, size_t kind,
+                   const uint8_t *payload, size_t length, uint8_t *number)
+{
+  if (kind == COMMANDS) {
+    return obey_commands(state, payload, length, number);
+  }
+  if (kind == RESET_PIN) {
+    memcpy(state, power_on, STATE_SIZE);
+    return 0;
+  }
+  if (length == 0) {
+    return 0;
+  }
+  *number = access(state);
+  if (*number != SSD1815B_TAKEN) {
+    return 0;
+  }
+  if (kind == WRITTEN) {
+    store_all(state, memory, payload, length);
+    return length;
+  }
+  size_t done = read_all(state, memory, payload, length);
+  if (done < length) {
+    *number = SSD1815B_READ_DIFFERS;
+  }
+  return done;
 }
 
 uint8_t plain_run(uint8_t *state, size_t state_len, uint8_t *memory,
@@ -466,14 +601,11 @@ uint8_t plain_run(uint8_t *state, size_t state_len, uint8_t *memory,
     if (number != SSD1815B_TAKEN) {
       break;
     }
-    const uint8_t *payload = trace + at + HEADER_SIZE;
-    size_t done;
-    number = obey(state, memory, kind, payload, length, &done);
+    at += HEADER_SIZE;
+    at += obey(state, memory, kind, trace + at, length, &number);
     if (number != SSD1815B_TAKEN) {
-      at += HEADER_SIZE + done;
       break;
     }
-    at += HEADER_SIZE + length;
     records++;
   }
   *offset = at;
@@ -497,31 +629,110 @@ uint8_t plain_power_state(const uint8_t *state, size_t state_len,
 
 /* ---- the frame ---- */
 
-/* A row of the frame that shows one bit of a page's bytes. */
-static void draw_row(uint8_t *restrict row, const uint8_t *restrict page,
-                     uint8_t mask, bool mirrored, bool reverse)
+static uint64_t eight_bytes(const uint8_t *from)
 {
-  if (mirrored) {
-    for (int x = 0; x < COLUMNS; x++) {
-      row[x] = ((page[COLUMNS - 1 - x] & mask) != 0) != reverse;
-    }
-  } else {
-    for (int x = 0; x < COLUMNS; x++) {
-      row[x] = ((page[x] & mask) != 0) != reverse;
-    }
+  uint64_t word;
+  memcpy(&word, from, sizeof word);
+  return word;
+}
+
+static void put_eight(uint8_t *to, uint64_t word)
+{
+  memcpy(to, &word, sizeof word);
+}
+
+/* Eight bytes, the last of them first. */
+static uint64_t turned_round(uint64_t word)
+{
+  word = (word >> 8 & 0x00FF00FF00FF00FF) | (word & 0x00FF00FF00FF00FF) << 8;
+  word = (word >> 16 & 0x0000FFFF0000FFFF) | (word & 0x0000FFFF0000FFFF) << 16;
+  return word >> 32 | word << 32;
+}
+
+enum { LAST_8 = COLUMNS - 8, LAST_16 = COLUMNS - 16 };
+
+/* A page's 132 bytes, the last of them first. */
+static void turn_page(uint8_t *restrict to, const uint8_t *restrict page)
+{
+  for (size_t x = 0; x < LAST_8; x += 8) {
+    put_eight(to + x, turned_round(eight_bytes(page + LAST_8 - x)));
+  }
+  put_eight(to + LAST_8, turned_round(eight_bytes(page)));
+}
+
+/* All pages turned round: before the first row is drawn, so that no row waits
+** for its page to be stored. */
+static void turn_memory(uint8_t *restrict to, const uint8_t *restrict memory)
+{
+  for (size_t at = 0; at < MEMORY_SIZE; at += COLUMNS) {
+    turn_page(to + at, memory + at);
   }
 }
 
-static inline void draw_ram_row(uint8_t *row, const uint8_t *state,
-                                const uint8_t *memory, unsigned ram_row)
+/* A row that shows one bit of a page's bytes, which are turned if dark and lit
+** are exchanged.  It is drawn 16 places at once, the last 16 by themselves. */
+static inline void draw_row(uint8_t *restrict row, const uint8_t *restrict page,
+                            unsigned bit, uint8_t turn)
 {
-  if (state[ENTIRE_ON] == 1) {
-    memset(row, 1, COLUMNS);
+  for (size_t x = 0; x < COLUMNS / 16 * 16; x++) {
+    row[x] = (page[x] ^ turn) >> bit & 1;
+  }
+  for (size_t x = LAST_16; x < COLUMNS; x++) {
+    row[x] = (page[x] ^ turn) >> bit & 1;
+  }
+}
+
+/* All places of a row, by a fill of eight. */
+static void fill_row(uint8_t *row, uint64_t places)
+{
+  for (size_t x = 0; x < LAST_8; x += 8) {
+    put_eight(row + x, places);
+  }
+  put_eight(row + LAST_8, places);
+}
+
+/* Some rows of the frame, one after the other. */
+static void fill_rows(uint8_t *frame, size_t width, size_t first, size_t count,
+                      uint8_t place)
+{
+  if (width == COLUMNS) {
+    memset(frame + first * COLUMNS, place, count * COLUMNS);
     return;
   }
-  draw_row(row, memory + (size_t)(ram_row / 8) * COLUMNS,
-           (uint8_t)(1u << ram_row % 8), state[COLUMN_DIRECTION] == 1,
-           state[REVERSE] == 1);
+  for (size_t row = first; row < first + count; row++) {
+    fill_row(frame + row * width, place * 0x0101010101010101);
+  }
+}
+
+/* Some of the 64 panel rows, from one on and round. */
+static void fill_band(uint8_t *frame, size_t width, size_t first, size_t count,
+                      uint8_t place)
+{
+  size_t below = count < ROWS - first ? count : ROWS - first;
+  fill_rows(frame, width, first, below, place);
+  fill_rows(frame, width, 0, count - below, place);
+}
+
+/* Where the rows in use lie: row k of them on panel row first + step * k, round
+** the 64; the dark ones follow from panel row `dark` on. */
+struct band {
+  unsigned in_use;
+  unsigned top;
+  unsigned dark;
+  unsigned first;
+  unsigned step;
+};
+
+static struct band band_of(const uint8_t *state)
+{
+  unsigned in_use = state[MULTIPLEX] + 1u;
+  unsigned above = (ROWS - in_use) / 2;
+  unsigned top = (above + ROWS - state[OFFSET]) % ROWS;
+  bool reversed = state[ROW_DIRECTION] == 1;
+  struct band band = { in_use, top, (top + in_use) % ROWS,
+                       reversed ? top + in_use - 1 : top,
+                       reversed ? ROWS - 1 : 1 };
+  return band;
 }
 
 /* What a display that is on shows, each row so many places after the one before
@@ -529,19 +740,49 @@ static inline void draw_ram_row(uint8_t *row, const uint8_t *state,
 static void draw_rows(uint8_t *frame, size_t width, const uint8_t *state,
                       const uint8_t *memory)
 {
-  unsigned in_use = state[MULTIPLEX] + 1u;
-  unsigned above = (ROWS - in_use) / 2;
-  for (unsigned p = 0; p < ROWS; p++) {
-    uint8_t *row = frame + p * width;
-    unsigned com = (p + state[OFFSET] + ROWS - above) % ROWS;
-    if (com >= in_use) {
-      memset(row, 0, COLUMNS);
-    } else {
-      unsigned k = state[ROW_DIRECTION] == 1 ? in_use - 1 - com : com;
-      draw_ram_row(row, state, memory, (state[START_LINE] + k) % ROWS);
-    }
+  struct band band = band_of(state);
+  unsigned start = state[START_LINE];
+  uint8_t turn = state[REVERSE] == 1 ? 0xFF : 0x00;
+  fill_band(frame, width, band.dark, ROWS - band.in_use, 0);
+  for (unsigned page = 0; page < ICON_PAGE; page++) {
+    const uint8_t *bytes = memory + page * COLUMNS;
+#define DRAW(bit)                                                            \
+  {                                                                          \
+    unsigned k = (8 * page + (bit) - start) % ROWS;                          \
+    if (k < band.in_use) {                                                   \
+      draw_row(frame + (band.first + band.step * k) % ROWS * width, bytes,   \
+               bit, turn);                                                   \
+    }                                                                        \
   }
-  draw_ram_row(frame + ICON_ROW * width, state, memory, ICON_ROW);
+    DRAW(0) DRAW(1) DRAW(2) DRAW(3) DRAW(4) DRAW(5) DRAW(6) DRAW(7)
+  }
+  draw_row(frame + ICON_ROW * width, memory + ICON_PAGE * COLUMNS, 0, turn);
+}
+
+/* All rows in use and the icon line lit, the others dark. */
+static void light_rows(uint8_t *frame, size_t width, const uint8_t *state)
+{
+  struct band band = band_of(state);
+  fill_band(frame, width, band.dark, ROWS - band.in_use, 0);
+  fill_band(frame, width, band.top, band.in_use, 1);
+  fill_rows(frame, width, ICON_ROW, 1, 1);
+}
+
+/* What a chip shows, each row so many places after the one before it. */
+static void draw(uint8_t *frame, size_t width, const uint8_t *state,
+                 const uint8_t *memory)
+{
+  uint8_t turned[MEMORY_SIZE];
+  if (state[DISPLAY_ON] == 0) {
+    fill_rows(frame, width, 0, ROWS + 1, 0);
+  } else if (state[ENTIRE_ON] == 1) {
+    light_rows(frame, width, state);
+  } else if (state[COLUMN_DIRECTION] == 1) {
+    turn_memory(turned, memory);
+    draw_rows(frame, width, state, turned);
+  } else {
+    draw_rows(frame, width, state, memory);
+  }
 }
 
 uint8_t plain_draw(const uint8_t *state, size_t state_len,
@@ -555,11 +796,7 @@ uint8_t plain_draw(const uint8_t *state, size_t state_len,
   if (number != SSD1815B_TAKEN) {
     return number;
   }
-  if (state[DISPLAY_ON] == 0) {
-    memset(frame, 0, FRAME_SIZE);
-  } else {
-    draw_rows(frame, COLUMNS, state, memory);
-  }
+  draw(frame, COLUMNS, state, memory);
   return SSD1815B_TAKEN;
 }
 
@@ -894,20 +1131,40 @@ static bool selects(uint8_t selection)
 
 /* ---- events for both chips: neither changes unless both take them ---- */
 
-/* A command byte: the left is put back if the right refuses. */
+/* What a command byte is refused by while this code is awaited: 0, or 3 to 5 or
+** 15. */
+static uint8_t refusal(uint8_t awaited, uint8_t byte)
+{
+  if (awaited == 0) {
+    static const uint8_t numbers[] = {
+      [NO_COMMAND] = SSD1815B_OUTSIDE_TABLE,
+      [NO_SUCH_PAGE] = SSD1815B_NO_PAGE, [TEST] = SSD1815B_TEST_MODE,
+      [LEAVE] = SSD1815B_TAKEN
+    };
+    return numbers[effects[byte].what];
+  }
+  return allowed(awaited, byte) ? SSD1815B_TAKEN : SSD1815B_NOT_ALLOWED;
+}
+
+/* A command byte: both are asked before either takes it. */
 static uint8_t command_both(uint8_t *left, uint8_t *right, uint8_t byte)
 {
-  uint8_t before[STATE_SIZE];
-  memcpy(before, left, STATE_SIZE);
-  uint8_t number = command(left, byte);
-  if (number != SSD1815B_TAKEN) {
-    return number;
+  uint8_t number = refusal(left[AWAITED], byte);
+  if (number == SSD1815B_TAKEN) {
+    number = refusal(right[AWAITED], byte);
   }
-  number = command(right, byte);
-  if (number != SSD1815B_TAKEN) {
-    memcpy(left, before, STATE_SIZE);
+  if (number == SSD1815B_TAKEN) {
+    command(left, byte);
+    command(right, byte);
   }
   return number;
+}
+
+/* Whether data can be accessed in both: 0, or 6 or 7. */
+static uint8_t access_both(const uint8_t *left, const uint8_t *right)
+{
+  uint8_t number = access(left);
+  return number != SSD1815B_TAKEN ? number : access(right);
 }
 
 /* A data byte written: both are asked before either stores. */
@@ -915,10 +1172,7 @@ static uint8_t write_both(uint8_t *left_state, uint8_t *left_memory,
                           uint8_t *right_state, uint8_t *right_memory,
                           uint8_t byte)
 {
-  uint8_t number = access(left_state);
-  if (number == SSD1815B_TAKEN) {
-    number = access(right_state);
-  }
+  uint8_t number = access_both(left_state, right_state);
   if (number == SSD1815B_TAKEN) {
     store(left_state, left_memory, byte);
     store(right_state, right_memory, byte);
@@ -1049,60 +1303,63 @@ static uint8_t wide_judge(size_t kind, const uint8_t *payload, size_t length)
                                             : SSD1815B_NO_SELECTION;
 }
 
-/* A record's payload for both chips.  *done counts its events taken. */
-static uint8_t obey_both(const struct terminal *both, size_t kind,
-                         const uint8_t *payload, size_t length, size_t *done)
+/* Command bytes for both; as obey_commands. */
+static size_t obey_commands_both(uint8_t *left, uint8_t *right,
+                                 const uint8_t *bytes, size_t count,
+                                 uint8_t *number)
 {
-  uint8_t number = SSD1815B_TAKEN;
-  size_t i = 0;
-  switch (kind) {
-  case COMMANDS:
-    for (; i < length; i++) {
-      number = command_both(both->left_state, both->right_state, payload[i]);
-      if (number != SSD1815B_TAKEN) {
-        break;
-      }
+  for (size_t i = 0; i < count; i++) {
+    *number = command_both(left, right, bytes[i]);
+    if (*number != SSD1815B_TAKEN) {
+      return i;
     }
-    break;
-  case WRITTEN:
-    for (; i < length; i++) {
-      number = write_both(both->left_state, both->left_memory,
-                          both->right_state, both->right_memory, payload[i]);
-      if (number != SSD1815B_TAKEN) {
-        break;
-      }
-    }
-    break;
-  case READ:
-    number = length > 0 ? SSD1815B_BOTH_SELECTED : SSD1815B_TAKEN;
-    break;
-  default: /* the reset pin */
-    memcpy(both->left_state, power_on, STATE_SIZE);
-    memcpy(both->right_state, power_on, STATE_SIZE);
-    break;
   }
-  *done = i;
-  return number;
+  return count;
 }
 
-/* A record of a wide trace, whose kind is judged. */
-static uint8_t wide_obey(struct terminal *terminal, size_t kind,
-                         const uint8_t *payload, size_t length, size_t *done)
+/* A record's payload for both chips; as obey. */
+static size_t obey_both(const struct terminal *both, size_t kind,
+                        const uint8_t *payload, size_t length, uint8_t *number)
+{
+  if (kind == COMMANDS) {
+    return obey_commands_both(both->left_state, both->right_state, payload,
+                              length, number);
+  }
+  if (kind == RESET_PIN) {
+    memcpy(both->left_state, power_on, STATE_SIZE);
+    memcpy(both->right_state, power_on, STATE_SIZE);
+    return 0;
+  }
+  if (length == 0) {
+    return 0;
+  }
+  *number = kind == READ ? SSD1815B_BOTH_SELECTED
+                         : access_both(both->left_state, both->right_state);
+  if (*number != SSD1815B_TAKEN) {
+    return 0;
+  }
+  store_all(both->left_state, both->left_memory, payload, length);
+  store_all(both->right_state, both->right_memory, payload, length);
+  return length;
+}
+
+/* A record of a wide trace, whose kind is judged; as obey. */
+static size_t wide_obey(struct terminal *terminal, size_t kind,
+                        const uint8_t *payload, size_t length, uint8_t *number)
 {
   if (kind == SELECT) {
     terminal->selection = payload[0];
-    *done = length;
-    return SSD1815B_TAKEN;
+    return length;
   }
   switch (terminal->selection) {
   case LEFT:
     return obey(terminal->left_state, terminal->left_memory, kind, payload,
-                length, done);
+                length, number);
   case RIGHT:
     return obey(terminal->right_state, terminal->right_memory, kind, payload,
-                length, done);
+                length, number);
   default:
-    return obey_both(terminal, kind, payload, length, done);
+    return obey_both(terminal, kind, payload, length, number);
   }
 }
 
@@ -1123,13 +1380,11 @@ static uint8_t wide_walk(struct terminal *terminal, const uint8_t *trace,
     if (number != SSD1815B_TAKEN) {
       return number;
     }
-    size_t done;
-    number = wide_obey(terminal, kind, payload, length, &done);
+    *at += HEADER_SIZE;
+    *at += wide_obey(terminal, kind, payload, length, &number);
     if (number != SSD1815B_TAKEN) {
-      *at += HEADER_SIZE + done;
       return number;
     }
-    *at = next;
     ++*records;
   }
   return SSD1815B_TAKEN;
@@ -1156,19 +1411,6 @@ uint8_t plain_wide_run(uint8_t *left_state, size_t left_state_len,
 
 /* ---- the wide frame, one page, the wide listing ---- */
 
-/* A chip's half of a wide frame. */
-static void draw_half(uint8_t *half, const uint8_t *state,
-                      const uint8_t *memory)
-{
-  if (state[DISPLAY_ON] == 1) {
-    draw_rows(half, WIDE_COLUMNS, state, memory);
-    return;
-  }
-  for (size_t row = 0; row <= ICON_ROW; row++) {
-    memset(half + row * WIDE_COLUMNS, 0, COLUMNS);
-  }
-}
-
 uint8_t plain_wide_draw(const uint8_t *left_state, size_t left_state_len,
                         const uint8_t *left_memory, size_t left_memory_len,
                         const uint8_t *right_state, size_t right_state_len,
@@ -1183,8 +1425,8 @@ uint8_t plain_wide_draw(const uint8_t *left_state, size_t left_state_len,
   if (number != SSD1815B_TAKEN) {
     return number;
   }
-  draw_half(frame, left_state, left_memory);
-  draw_half(frame + COLUMNS, right_state, right_memory);
+  draw(frame, WIDE_COLUMNS, left_state, left_memory);
+  draw(frame + COLUMNS, WIDE_COLUMNS, right_state, right_memory);
   return SSD1815B_TAKEN;
 }
 
