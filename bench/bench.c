@@ -31,9 +31,9 @@ static const struct model models[] = {
     ssd1815b_wide_draw, ssd1815b_wide_page, ssd1815b_wide_list },
   { "plain", plain_start, plain_start_upright, plain_command, plain_write,
     plain_read, plain_reset, plain_run, plain_draw, plain_list,
-    plain_compare_frames, plain_compare_memories, plain_wide_command, plain_wide_write,
-    plain_wide_read, plain_wide_run, plain_wide_draw, plain_wide_page,
-    plain_wide_list },
+    plain_compare_frames, plain_compare_memories, plain_wide_command,
+    plain_wide_write, plain_wide_read, plain_wide_run, plain_wide_draw,
+    plain_wide_page, plain_wide_list },
   { .name = "tuned", .compare_frames = tuned_compare_frames,
     .compare_memories = tuned_compare_memories },
 };
@@ -90,7 +90,8 @@ static void must_be_same(const struct workload *workload, const char *what,
   }
 }
 
-/* All models must leave the same from the same, and the limit where it draws. */
+/* All models must leave the same from the same, and so must the limit where it
+** leaves anything. */
 static void same_result(const struct workload *workload)
 {
   workload->prepare();

@@ -114,10 +114,10 @@ static inline bool allowed(uint8_t code, uint8_t n)
          && (code != 0xD4 || (n <= 0x30 && n % 16 == 0));
 }
 
-/* A command byte while a code is awaited: the code's n. */
-static uint8_t take_n(uint8_t *state, uint8_t n)
+/* Gives a code the n that it takes. */
+static inline void set_n(uint8_t *state, uint8_t code, uint8_t n)
 {
-  switch (state[AWAITED]) {
+  switch (code) {
   case 0x81:
     state[CONTRAST] = n % 64;
     break;
@@ -132,29 +132,22 @@ static uint8_t take_n(uint8_t *state, uint8_t n)
     state[INDICATOR_MODE] = n % 4;
     break;
   case 0xD3:
-    if (!allowed(0xD3, n)) {
-      return SSD1815B_NOT_ALLOWED;
-    }
     state[OFFSET] = n;
     break;
   default: /* D4 */
-    if (!allowed(0xD4, n)) {
-      return SSD1815B_NOT_ALLOWED;
-    }
     state[PHASES] = n / 16;
     break;
   }
-  state[AWAITED] = 0;
-  state[FRESH] = 1;
-  return SSD1815B_TAKEN;
 }
 
 /* What a command byte does with no code awaited; 0 is a byte that is none. */
 enum {
-  NO_COMMAND, SETS, NO_SUCH_PAGE, TEST, INDICATOR_OFF, ENTER, RESET, LEAVE
+  NO_COMMAND, SETS, AWAITS, NO_SUCH_PAGE, TEST, INDICATOR_OFF, ENTER, RESET,
+  LEAVE
 };
 
-/* A byte that sets: register `place` keeps these bits and gets that value. */
+/* A byte that sets: the register at a place keeps some bits, and others are
+** those of the value. */
 struct effect {
   uint8_t what;
   uint8_t place;
@@ -176,26 +169,26 @@ struct effect {
 #define LINE_IS(n)     [n] = { SETS, START_LINE, 0, (n) % 64 }
 #define PAGE_IS(n)     [n] = { SETS, PAGE, 0, (n) % 16 }
 #define ROWS_ARE(n)    [n] = { SETS, ROW_DIRECTION, 0, (n) >= 0xC8 }
-#define FLAG(n, place) [n] = { SETS, place, 0, 0 }, [(n) + 1] = { SETS, place, 0, 1 }
-#define AWAITS(n)      [n] = { SETS, AWAITED, 0, n }
+#define FLAG(n, p)     [n] = { SETS, p, 0, 0 }, [(n) + 1] = { SETS, p, 0, 1 }
+#define CODE(n)        [n] = { .what = AWAITS }
 #define NO_PAGE(n)     [n] = { .what = NO_SUCH_PAGE }
 #define TESTS(n)       [n] = { .what = TEST }
 
 static const struct effect effects[256] = {
   EACH_16(LOW_COLUMN, 0x00), EACH_16(HIGH_COLUMN, 0x10), EACH_8(RATIO_IS, 0x20),
-  EACH_8(POWER_IS, 0x28), EACH_64(LINE_IS, 0x40), AWAITS(0x81),
+  EACH_8(POWER_IS, 0x28), EACH_64(LINE_IS, 0x40), CODE(0x81),
   FLAG(0xA0, COLUMN_DIRECTION), FLAG(0xA2, BIAS), FLAG(0xA4, ENTIRE_ON),
-  FLAG(0xA6, REVERSE), AWAITS(0xA8), AWAITS(0xA9), FLAG(0xAA, QUARTER_BIAS),
-  [0xAC] = { .what = INDICATOR_OFF }, AWAITS(0xAD), FLAG(0xAE, DISPLAY_ON),
+  FLAG(0xA6, REVERSE), CODE(0xA8), CODE(0xA9), FLAG(0xAA, QUARTER_BIAS),
+  [0xAC] = { .what = INDICATOR_OFF }, CODE(0xAD), FLAG(0xAE, DISPLAY_ON),
   EACH_8(PAGE_IS, 0xB0), PAGE_IS(0xB8), NO_PAGE(0xB9), NO_PAGE(0xBA),
-  NO_PAGE(0xBB), EACH_4(NO_PAGE, 0xBC), EACH_16(ROWS_ARE, 0xC0), AWAITS(0xD3),
-  AWAITS(0xD4), [0xE0] = { .what = ENTER }, [0xE2] = { .what = RESET },
+  NO_PAGE(0xBB), EACH_4(NO_PAGE, 0xBC), EACH_16(ROWS_ARE, 0xC0), CODE(0xD3),
+  CODE(0xD4), [0xE0] = { .what = ENTER }, [0xE2] = { .what = RESET },
   [0xE3] = { SETS, FRESH, 0, 1 }, [0xEE] = { .what = LEAVE },
   EACH_16(TESTS, 0xF0)
 };
 
 /* A byte that is refused, or does more than set one register. */
-static uint8_t command_apart(uint8_t *state, uint8_t what)
+static inline uint8_t command_apart(uint8_t *state, uint8_t what)
 {
   switch (what) {
   case INDICATOR_OFF:
@@ -228,23 +221,43 @@ static uint8_t command_apart(uint8_t *state, uint8_t what)
   return SSD1815B_TAKEN;
 }
 
+/* What a byte that sets does. */
+static inline void set_register(uint8_t *state, const struct effect *effect)
+{
+  uint8_t kept = state[effect->place] & effect->kept;
+  state[effect->place] = kept | effect->value;
+}
+
+/* A command byte with this code awaited; *awaited is then the next one, and
+** fresh is left to the caller. */
+static inline uint8_t obey_byte(uint8_t *state, uint8_t byte, uint8_t *awaited)
+{
+  const struct effect *effect = &effects[byte];
+  if (*awaited != 0) {
+    if (!allowed(*awaited, byte)) {
+      return SSD1815B_NOT_ALLOWED;
+    }
+    set_n(state, *awaited, byte);
+    *awaited = 0;
+  } else if (effect->what == SETS) {
+    set_register(state, effect);
+  } else if (effect->what == AWAITS) {
+    *awaited = byte;
+  } else {
+    return command_apart(state, effect->what);
+  }
+  return SSD1815B_TAKEN;
+}
+
 static inline uint8_t command(uint8_t *state, uint8_t byte)
 {
-  if (state[AWAITED] != 0) {
-    return take_n(state, byte);
+  uint8_t awaited = state[AWAITED];
+  uint8_t number = obey_byte(state, byte, &awaited);
+  if (number == SSD1815B_TAKEN) {
+    state[AWAITED] = awaited;
+    state[FRESH] = 1;
   }
-  struct effect effect = effects[byte];
-  if (effect.what == SETS) {
-    uint8_t kept = state[effect.place] & effect.kept;
-    state[effect.place] = kept | effect.value;
-  } else {
-    uint8_t number = command_apart(state, effect.what);
-    if (number != SSD1815B_TAKEN) {
-      return number;
-    }
-  }
-  state[FRESH] = 1;
-  return SSD1815B_TAKEN;
+  return number;
 }
 
 /* Whether data can be accessed now: 0, or 6 or 7. */
@@ -419,17 +432,51 @@ static uint8_t judge(size_t kind, size_t length)
   return SSD1815B_TAKEN;
 }
 
-/* Command bytes; how many are taken, and the number of the one that is not. */
-static size_t obey_commands(uint8_t *state, const uint8_t *bytes, size_t count,
-                            uint8_t *number)
+/* How many events of a record are taken, and the number of the one that is not,
+** or 0. */
+struct outcome {
+  size_t taken;
+  uint8_t number;
+};
+
+/* Command bytes that set, up to the first that does not; how many. */
+static inline size_t set_registers(uint8_t *state, const uint8_t *bytes,
+                                   size_t count)
 {
   for (size_t i = 0; i < count; i++) {
-    *number = command(state, bytes[i]);
-    if (*number != SSD1815B_TAKEN) {
+    const struct effect *effect = &effects[bytes[i]];
+    if (effect->what != SETS) {
       return i;
     }
+    set_register(state, effect);
   }
   return count;
+}
+
+static struct outcome obey_commands(uint8_t *state, const uint8_t *bytes,
+                                    size_t count)
+{
+  struct outcome outcome = { 0, SSD1815B_TAKEN };
+  uint8_t awaited = state[AWAITED];
+  while (outcome.taken < count) {
+    if (awaited == 0) {
+      outcome.taken += set_registers(state, bytes + outcome.taken,
+                                     count - outcome.taken);
+      if (outcome.taken == count) {
+        break;
+      }
+    }
+    outcome.number = obey_byte(state, bytes[outcome.taken], &awaited);
+    if (outcome.number != SSD1815B_TAKEN) {
+      break;
+    }
+    outcome.taken++;
+  }
+  if (outcome.taken > 0) {
+    state[AWAITED] = awaited;
+    state[FRESH] = 1;
+  }
+  return outcome;
 }
 
 /* How many of so many bytes go up to column 131. */
@@ -548,34 +595,30 @@ static size_t read_all(uint8_t *state, const uint8_t *memory,
   return dummies + compare_all(state, memory, recorded, count);
 }
 
-/* A record's payload; how many of its events are taken, and the number of the
-** one that is not. */
-static size_t obey(uint8_t *state, uint8_t *memory, size_t kind,
-                   const uint8_t *payload, size_t length, uint8_t *number)
+/* A record's payload. */
+static struct outcome obey(uint8_t *state, uint8_t *memory, size_t kind,
+                           const uint8_t *payload, size_t length)
 {
+  struct outcome nothing = { 0, SSD1815B_TAKEN };
   if (kind == COMMANDS) {
-    return obey_commands(state, payload, length, number);
+    return obey_commands(state, payload, length);
   }
   if (kind == RESET_PIN) {
     memcpy(state, power_on, STATE_SIZE);
-    return 0;
+    return nothing;
   }
-  if (length == 0) {
-    return 0;
-  }
-  *number = access(state);
-  if (*number != SSD1815B_TAKEN) {
-    return 0;
+  nothing.number = length > 0 ? access(state) : SSD1815B_TAKEN;
+  if (length == 0 || nothing.number != SSD1815B_TAKEN) {
+    return nothing;
   }
   if (kind == WRITTEN) {
     store_all(state, memory, payload, length);
-    return length;
+    return (struct outcome){ length, SSD1815B_TAKEN };
   }
-  size_t done = read_all(state, memory, payload, length);
-  if (done < length) {
-    *number = SSD1815B_READ_DIFFERS;
-  }
-  return done;
+  size_t taken = read_all(state, memory, payload, length);
+  return (struct outcome){
+    taken, taken < length ? SSD1815B_READ_DIFFERS : SSD1815B_TAKEN
+  };
 }
 
 uint8_t plain_run(uint8_t *state, size_t state_len, uint8_t *memory,
@@ -602,7 +645,9 @@ uint8_t plain_run(uint8_t *state, size_t state_len, uint8_t *memory,
       break;
     }
     at += HEADER_SIZE;
-    at += obey(state, memory, kind, trace + at, length, &number);
+    struct outcome outcome = obey(state, memory, kind, trace + at, length);
+    at += outcome.taken;
+    number = outcome.number;
     if (number != SSD1815B_TAKEN) {
       break;
     }
@@ -649,7 +694,7 @@ static uint64_t turned_round(uint64_t word)
   return word >> 32 | word << 32;
 }
 
-enum { LAST_8 = COLUMNS - 8, LAST_16 = COLUMNS - 16 };
+enum { LAST_8 = COLUMNS - 8, LAST_4 = COLUMNS - 4 };
 
 /* A page's 132 bytes, the last of them first. */
 static void turn_page(uint8_t *restrict to, const uint8_t *restrict page)
@@ -669,48 +714,74 @@ static void turn_memory(uint8_t *restrict to, const uint8_t *restrict memory)
   }
 }
 
-/* A row that shows one bit of a page's bytes, which are turned if dark and lit
-** are exchanged.  It is drawn 16 places at once, the last 16 by themselves. */
+/* Two places of a row: one bit of two bytes, after their bits are turned by
+** those of `turn`.  gcc does so for 16 places at once, and shifts by twos. */
+static inline void draw_two(uint8_t *restrict places,
+                            const uint8_t *restrict bytes, unsigned bit,
+                            uint16_t turn)
+{
+  uint16_t two;
+  memcpy(&two, bytes, sizeof two);
+  two = (uint16_t)((two ^ turn) >> bit & 0x0101);
+  memcpy(places, &two, sizeof two);
+}
+
+/* The last four places of a row, which are no 16. */
+static inline void draw_four(uint8_t *restrict places,
+                             const uint8_t *restrict bytes, unsigned bit,
+                             uint16_t turn)
+{
+  uint32_t four;
+  memcpy(&four, bytes, sizeof four);
+  four = (four ^ turn * 0x00010001u) >> bit & 0x01010101;
+  memcpy(places, &four, sizeof four);
+}
+
+/* A row that shows one bit of a page's bytes. */
 static inline void draw_row(uint8_t *restrict row, const uint8_t *restrict page,
-                            unsigned bit, uint8_t turn)
+                            unsigned bit, uint16_t turn)
 {
-  for (size_t x = 0; x < COLUMNS / 16 * 16; x++) {
-    row[x] = (page[x] ^ turn) >> bit & 1;
+  for (size_t x = 0; x < LAST_4; x += 2) {
+    draw_two(row + x, page + x, bit, turn);
   }
-  for (size_t x = LAST_16; x < COLUMNS; x++) {
-    row[x] = (page[x] ^ turn) >> bit & 1;
-  }
+  draw_four(row + LAST_4, page + LAST_4, bit, turn);
 }
 
-/* All places of a row, by a fill of eight. */
-static void fill_row(uint8_t *row, uint64_t places)
-{
-  for (size_t x = 0; x < LAST_8; x += 8) {
-    put_eight(row + x, places);
-  }
-  put_eight(row + LAST_8, places);
-}
+/* Rows of a frame: the first place, how many places are drawn of each, and how
+** many places after the row before it each begins. */
+struct rows {
+  uint8_t *frame;
+  size_t places;
+  size_t width;
+};
 
-/* Some rows of the frame, one after the other. */
-static void fill_rows(uint8_t *frame, size_t width, size_t first, size_t count,
+/* Makes some rows all dark or all lit.  Those of half a wide frame are stored
+** by eights: gcc would fill 132 places by a repeated instruction. */
+static void fill_rows(struct rows rows, size_t first, size_t count,
                       uint8_t place)
 {
-  if (width == COLUMNS) {
-    memset(frame + first * COLUMNS, place, count * COLUMNS);
+  uint8_t *row = rows.frame + first * rows.width;
+  if (rows.places == rows.width) {
+    memset(row, place, count * rows.width);
     return;
   }
-  for (size_t row = first; row < first + count; row++) {
-    fill_row(frame + row * width, place * 0x0101010101010101);
+  uint64_t eight = place * 0x0101010101010101;
+  for (; count > 0; count--) {
+    for (size_t x = 0; x < LAST_8; x += 8) {
+      put_eight(row + x, eight);
+    }
+    put_eight(row + LAST_8, eight);
+    row += rows.width;
   }
 }
 
 /* Some of the 64 panel rows, from one on and round. */
-static void fill_band(uint8_t *frame, size_t width, size_t first, size_t count,
+static void fill_band(struct rows rows, size_t first, size_t count,
                       uint8_t place)
 {
   size_t below = count < ROWS - first ? count : ROWS - first;
-  fill_rows(frame, width, first, below, place);
-  fill_rows(frame, width, 0, count - below, place);
+  fill_rows(rows, first, below, place);
+  fill_rows(rows, 0, count - below, place);
 }
 
 /* Where the rows in use lie: row k of them on panel row first + step * k, round
@@ -735,53 +806,55 @@ static struct band band_of(const uint8_t *state)
   return band;
 }
 
-/* What a display that is on shows, each row so many places after the one before
-** it. */
-static void draw_rows(uint8_t *frame, size_t width, const uint8_t *state,
-                      const uint8_t *memory)
+/* What the pages of a memory show, from left to right. */
+static inline void draw_pages(struct rows rows, const uint8_t *state,
+                              const uint8_t *memory)
 {
   struct band band = band_of(state);
   unsigned start = state[START_LINE];
-  uint8_t turn = state[REVERSE] == 1 ? 0xFF : 0x00;
-  fill_band(frame, width, band.dark, ROWS - band.in_use, 0);
+  uint16_t turn = state[REVERSE] == 1 ? 0xFFFF : 0x0000;
+  fill_band(rows, band.dark, ROWS - band.in_use, 0);
   for (unsigned page = 0; page < ICON_PAGE; page++) {
     const uint8_t *bytes = memory + page * COLUMNS;
-#define DRAW(bit)                                                            \
-  {                                                                          \
-    unsigned k = (8 * page + (bit) - start) % ROWS;                          \
-    if (k < band.in_use) {                                                   \
-      draw_row(frame + (band.first + band.step * k) % ROWS * width, bytes,   \
-               bit, turn);                                                   \
-    }                                                                        \
+#define DRAW_BIT(bit)                                                     \
+    {                                                                     \
+      unsigned k = (8 * page + (bit) - start) % ROWS;                     \
+      unsigned panel_row = (band.first + band.step * k) % ROWS;           \
+      if (k < band.in_use) {                                              \
+        draw_row(rows.frame + panel_row * rows.width, bytes, bit, turn);  \
+      }                                                                   \
+    }
+    DRAW_BIT(0) DRAW_BIT(1) DRAW_BIT(2) DRAW_BIT(3)
+    DRAW_BIT(4) DRAW_BIT(5) DRAW_BIT(6) DRAW_BIT(7)
   }
-    DRAW(0) DRAW(1) DRAW(2) DRAW(3) DRAW(4) DRAW(5) DRAW(6) DRAW(7)
-  }
-  draw_row(frame + ICON_ROW * width, memory + ICON_PAGE * COLUMNS, 0, turn);
+  draw_row(rows.frame + ICON_ROW * rows.width, memory + ICON_PAGE * COLUMNS, 0,
+           turn);
 }
 
-/* All rows in use and the icon line lit, the others dark. */
-static void light_rows(uint8_t *frame, size_t width, const uint8_t *state)
+/* What entire on shows: the rows in use and the icon line lit, the others
+** dark. */
+static void light_rows(struct rows rows, const uint8_t *state)
 {
   struct band band = band_of(state);
-  fill_band(frame, width, band.dark, ROWS - band.in_use, 0);
-  fill_band(frame, width, band.top, band.in_use, 1);
-  fill_rows(frame, width, ICON_ROW, 1, 1);
+  fill_band(rows, band.dark, ROWS - band.in_use, 0);
+  fill_band(rows, band.top, band.in_use, 1);
+  fill_rows(rows, ICON_ROW, 1, 1);
 }
 
-/* What a chip shows, each row so many places after the one before it. */
-static void draw(uint8_t *frame, size_t width, const uint8_t *state,
-                 const uint8_t *memory)
+/* What a chip shows. */
+static inline void draw(struct rows rows, const uint8_t *state,
+                        const uint8_t *memory)
 {
   uint8_t turned[MEMORY_SIZE];
   if (state[DISPLAY_ON] == 0) {
-    fill_rows(frame, width, 0, ROWS + 1, 0);
+    fill_rows(rows, 0, ROWS + 1, 0);
   } else if (state[ENTIRE_ON] == 1) {
-    light_rows(frame, width, state);
+    light_rows(rows, state);
   } else if (state[COLUMN_DIRECTION] == 1) {
     turn_memory(turned, memory);
-    draw_rows(frame, width, state, turned);
+    draw_pages(rows, state, turned);
   } else {
-    draw_rows(frame, width, state, memory);
+    draw_pages(rows, state, memory);
   }
 }
 
@@ -796,7 +869,7 @@ uint8_t plain_draw(const uint8_t *state, size_t state_len,
   if (number != SSD1815B_TAKEN) {
     return number;
   }
-  draw(frame, COLUMNS, state, memory);
+  draw((struct rows){ frame, COLUMNS, COLUMNS }, state, memory);
   return SSD1815B_TAKEN;
 }
 
@@ -823,31 +896,92 @@ static uint8_t *put_number(uint8_t *to, size_t value)
   return to;
 }
 
+/* The places of a row as text, and how long each is. */
+struct decimal {
+  uint8_t digits[3];
+  uint8_t length;
+};
+
+#define ONE(a, b, c)   { { c }, 1 }
+#define TWO(a, b, c)   { { b, c }, 2 }
+#define THREE(a, b, c) { { a, b, c }, 3 }
+#define TEN(DO, a, b) \
+  DO(a, b, '0'), DO(a, b, '1'), DO(a, b, '2'), DO(a, b, '3'), DO(a, b, '4'), \
+  DO(a, b, '5'), DO(a, b, '6'), DO(a, b, '7'), DO(a, b, '8'), DO(a, b, '9')
+
+static const struct decimal decimals[] = {
+  TEN(ONE, 0, 0), TEN(TWO, 0, '1'), TEN(TWO, 0, '2'), TEN(TWO, 0, '3'),
+  TEN(TWO, 0, '4'), TEN(TWO, 0, '5'), TEN(TWO, 0, '6'), TEN(TWO, 0, '7'),
+  TEN(TWO, 0, '8'), TEN(TWO, 0, '9'), TEN(THREE, '1', '0'),
+  TEN(THREE, '1', '1'), TEN(THREE, '1', '2'), TEN(THREE, '1', '3'),
+  TEN(THREE, '1', '4'), TEN(THREE, '1', '5'), TEN(THREE, '1', '6'),
+  TEN(THREE, '1', '7'), TEN(THREE, '1', '8'), TEN(THREE, '1', '9'),
+  TEN(THREE, '2', '0'), TEN(THREE, '2', '1'), TEN(THREE, '2', '2'),
+  TEN(THREE, '2', '3'), TEN(THREE, '2', '4'), TEN(THREE, '2', '5'),
+  TEN(THREE, '2', '6')
+};
+
+/* Puts a place and what follows it.  It stores four bytes: what comes after
+** them in the text is stored later. */
+static uint8_t *put_place(uint8_t *to, size_t place, uint8_t then)
+{
+  _Static_assert(sizeof(struct decimal) == 4, "a place is stored at once");
+  size_t length = decimals[place].length;
+  memcpy(to, &decimals[place], sizeof(struct decimal));
+  to[length] = then;
+  return to + length + 1;
+}
+
+/* Eight places as bits, the first the lowest: the product has each of them once
+** in its high byte. */
+static uint64_t eight_lit(const uint8_t *places)
+{
+  _Static_assert(__BYTE_ORDER__ == __ORDER_LITTLE_ENDIAN__,
+                 "the first place is the low byte of a word");
+  const uint64_t low_7 = 0x7F7F7F7F7F7F7F7F;
+  uint64_t word = eight_bytes(places);
+  uint64_t lit = (((word & low_7) + low_7) | word) >> 7 & 0x0101010101010101;
+  return lit * 0x0102040810204080 >> 56;
+}
+
+/* Up to 64 places of a row as bits: a multiple of eight, or four more, which
+** are the last of the row. */
+static uint64_t lit_places(const uint8_t *places, size_t count)
+{
+  uint64_t lit = 0;
+  for (size_t x = 0; x + 8 <= count; x += 8) {
+    lit |= eight_lit(places + x) << x;
+  }
+  if (count % 8 != 0) {
+    lit |= eight_lit(places + count - 8) >> 4 << (count - 4);
+  }
+  return lit;
+}
+
+/* Puts a row's runs: each bit of `turns` is a place that is not as the one
+** before it, a run's first or the one after its last. */
 static uint8_t *put_row(uint8_t *to, const uint8_t *row, size_t width,
                         size_t number)
 {
-  bool begun = false;
-  for (size_t x = 0; x < width; x++) {
-    if (row[x] == 0) {
-      continue;
+  uint8_t *begun = put_place(to, number, ' ');
+  uint8_t *end = begun;
+  uint64_t before = 0;
+  for (size_t from = 0; from < width; from += 64) {
+    size_t left = width - from;
+    uint64_t lit = lit_places(row + from, left < 64 ? left : 64);
+    uint64_t turns = lit ^ (lit << 1 | before);
+    before = lit >> 63;
+    for (; turns != 0; turns &= turns - 1) {
+      size_t bit = (size_t)__builtin_ctzll(turns);
+      size_t first = lit >> bit & 1;
+      end = put_place(end, from + bit - 1 + first, first ? '-' : ' ');
     }
-    size_t first = x;
-    while (x + 1 < width && row[x + 1] != 0) {
-      x++;
-    }
-    if (!begun) {
-      to = put_number(to, number);
-      begun = true;
-    }
-    *to++ = ' ';
-    to = put_number(to, first);
-    *to++ = '-';
-    to = put_number(to, x);
   }
-  if (begun) {
-    *to++ = '\n';
+  if (end == begun) {
+    return to;
   }
-  return to;
+  end[-1] = '\n';
+  return end;
 }
 
 /* The listing into a text that is long enough for any; its length. */
@@ -1133,17 +1267,46 @@ static bool selects(uint8_t selection)
 
 /* What a command byte is refused by while this code is awaited: 0, or 3 to 5 or
 ** 15. */
-static uint8_t refusal(uint8_t awaited, uint8_t byte)
+static inline uint8_t refusal(uint8_t awaited, uint8_t byte)
 {
+  static const uint8_t numbers[] = {
+    [NO_COMMAND] = SSD1815B_OUTSIDE_TABLE, [NO_SUCH_PAGE] = SSD1815B_NO_PAGE,
+    [TEST] = SSD1815B_TEST_MODE, [LEAVE] = SSD1815B_TAKEN
+  };
   if (awaited == 0) {
-    static const uint8_t numbers[] = {
-      [NO_COMMAND] = SSD1815B_OUTSIDE_TABLE,
-      [NO_SUCH_PAGE] = SSD1815B_NO_PAGE, [TEST] = SSD1815B_TEST_MODE,
-      [LEAVE] = SSD1815B_TAKEN
-    };
     return numbers[effects[byte].what];
   }
   return allowed(awaited, byte) ? SSD1815B_TAKEN : SSD1815B_NOT_ALLOWED;
+}
+
+/* What a chip with this code awaited would take of command bytes. */
+static struct outcome judge_commands(uint8_t awaited, const uint8_t *bytes,
+                                     size_t count)
+{
+  for (size_t i = 0; i < count; i++) {
+    uint8_t number = refusal(awaited, bytes[i]);
+    if (number != SSD1815B_TAKEN) {
+      return (struct outcome){ i, number };
+    }
+    bool awaits = awaited == 0 && effects[bytes[i]].what == AWAITS;
+    awaited = awaits ? bytes[i] : 0;
+  }
+  return (struct outcome){ count, SSD1815B_TAKEN };
+}
+
+/* Command bytes for both: up to the first that either refuses, and the left's
+** number if it is one byte. */
+static struct outcome obey_commands_both(uint8_t *left, uint8_t *right,
+                                         const uint8_t *bytes, size_t count)
+{
+  struct outcome outcome = judge_commands(left[AWAITED], bytes, count);
+  if (left[AWAITED] != right[AWAITED]) {
+    struct outcome other = judge_commands(right[AWAITED], bytes, count);
+    outcome = other.taken < outcome.taken ? other : outcome;
+  }
+  obey_commands(left, bytes, outcome.taken);
+  obey_commands(right, bytes, outcome.taken);
+  return outcome;
 }
 
 /* A command byte: both are asked before either takes it. */
@@ -1303,63 +1466,51 @@ static uint8_t wide_judge(size_t kind, const uint8_t *payload, size_t length)
                                             : SSD1815B_NO_SELECTION;
 }
 
-/* Command bytes for both; as obey_commands. */
-static size_t obey_commands_both(uint8_t *left, uint8_t *right,
-                                 const uint8_t *bytes, size_t count,
-                                 uint8_t *number)
+/* A record's payload for both chips. */
+static struct outcome obey_both(const struct terminal *both, size_t kind,
+                                const uint8_t *payload, size_t length)
 {
-  for (size_t i = 0; i < count; i++) {
-    *number = command_both(left, right, bytes[i]);
-    if (*number != SSD1815B_TAKEN) {
-      return i;
-    }
-  }
-  return count;
-}
-
-/* A record's payload for both chips; as obey. */
-static size_t obey_both(const struct terminal *both, size_t kind,
-                        const uint8_t *payload, size_t length, uint8_t *number)
-{
+  struct outcome nothing = { 0, SSD1815B_TAKEN };
   if (kind == COMMANDS) {
     return obey_commands_both(both->left_state, both->right_state, payload,
-                              length, number);
+                              length);
   }
   if (kind == RESET_PIN) {
     memcpy(both->left_state, power_on, STATE_SIZE);
     memcpy(both->right_state, power_on, STATE_SIZE);
-    return 0;
+    return nothing;
   }
   if (length == 0) {
-    return 0;
+    return nothing;
   }
-  *number = kind == READ ? SSD1815B_BOTH_SELECTED
-                         : access_both(both->left_state, both->right_state);
-  if (*number != SSD1815B_TAKEN) {
-    return 0;
+  nothing.number = kind == READ
+                     ? SSD1815B_BOTH_SELECTED
+                     : access_both(both->left_state, both->right_state);
+  if (nothing.number != SSD1815B_TAKEN) {
+    return nothing;
   }
   store_all(both->left_state, both->left_memory, payload, length);
   store_all(both->right_state, both->right_memory, payload, length);
-  return length;
+  return (struct outcome){ length, SSD1815B_TAKEN };
 }
 
-/* A record of a wide trace, whose kind is judged; as obey. */
-static size_t wide_obey(struct terminal *terminal, size_t kind,
-                        const uint8_t *payload, size_t length, uint8_t *number)
+/* A record of a wide trace, whose kind is judged. */
+static struct outcome wide_obey(struct terminal *terminal, size_t kind,
+                                const uint8_t *payload, size_t length)
 {
   if (kind == SELECT) {
     terminal->selection = payload[0];
-    return length;
+    return (struct outcome){ length, SSD1815B_TAKEN };
   }
   switch (terminal->selection) {
   case LEFT:
     return obey(terminal->left_state, terminal->left_memory, kind, payload,
-                length, number);
+                length);
   case RIGHT:
     return obey(terminal->right_state, terminal->right_memory, kind, payload,
-                length, number);
+                length);
   default:
-    return obey_both(terminal, kind, payload, length, number);
+    return obey_both(terminal, kind, payload, length);
   }
 }
 
@@ -1380,10 +1531,10 @@ static uint8_t wide_walk(struct terminal *terminal, const uint8_t *trace,
     if (number != SSD1815B_TAKEN) {
       return number;
     }
-    *at += HEADER_SIZE;
-    *at += wide_obey(terminal, kind, payload, length, &number);
-    if (number != SSD1815B_TAKEN) {
-      return number;
+    struct outcome outcome = wide_obey(terminal, kind, payload, length);
+    *at += HEADER_SIZE + outcome.taken;
+    if (outcome.number != SSD1815B_TAKEN) {
+      return outcome.number;
     }
     ++*records;
   }
@@ -1411,6 +1562,17 @@ uint8_t plain_wide_run(uint8_t *left_state, size_t left_state_len,
 
 /* ---- the wide frame, one page, the wide listing ---- */
 
+/* Whether both halves are dark, or have the same rows lit. */
+static bool filled_alike(const uint8_t *left, const uint8_t *right)
+{
+  if (left[DISPLAY_ON] == 0 || right[DISPLAY_ON] == 0) {
+    return left[DISPLAY_ON] == right[DISPLAY_ON];
+  }
+  return left[ENTIRE_ON] == 1 && right[ENTIRE_ON] == 1
+         && left[MULTIPLEX] == right[MULTIPLEX]
+         && left[OFFSET] == right[OFFSET];
+}
+
 uint8_t plain_wide_draw(const uint8_t *left_state, size_t left_state_len,
                         const uint8_t *left_memory, size_t left_memory_len,
                         const uint8_t *right_state, size_t right_state_len,
@@ -1425,8 +1587,14 @@ uint8_t plain_wide_draw(const uint8_t *left_state, size_t left_state_len,
   if (number != SSD1815B_TAKEN) {
     return number;
   }
-  draw(frame, WIDE_COLUMNS, left_state, left_memory);
-  draw(frame + COLUMNS, WIDE_COLUMNS, right_state, right_memory);
+  if (filled_alike(left_state, right_state)) {
+    draw((struct rows){ frame, WIDE_COLUMNS, WIDE_COLUMNS }, left_state,
+         left_memory);
+    return SSD1815B_TAKEN;
+  }
+  draw((struct rows){ frame, COLUMNS, WIDE_COLUMNS }, left_state, left_memory);
+  draw((struct rows){ frame + COLUMNS, COLUMNS, WIDE_COLUMNS }, right_state,
+       right_memory);
   return SSD1815B_TAKEN;
 }
 

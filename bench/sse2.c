@@ -39,7 +39,8 @@ static void store(uint8_t *to, __m128i bytes)
 
 /* The largest value of each register; the awaited code is asked apart. */
 static const uint8_t largest[STATE_SIZE] = {
-  8, 255, 63, 63, 63, 63, 7, 7, 1, 1, 255, 3, 1, 1, 1, 1, 1, 1, 3, 255, 1, 255, 1
+  8, 255, 63, 63, 63, 63, 7, 7, 1, 1, 255, 3, 1, 1, 1, 1, 1, 1, 3, 255, 1, 255,
+  1
 };
 
 /* Whether a code can be awaited. */
@@ -131,9 +132,16 @@ static inline void next_row(struct page *page)
   EACH_PIECE(SHIFT)
 }
 
-static void darken_row(uint8_t *row)
+/* Makes some rows dark; those of a narrow frame are one stretch. */
+static void darken_rows(uint8_t *row, size_t width, size_t count)
 {
-  EACH_PIECE(DARK)
+  if (width == COLUMNS) {
+    memset(row, 0, count * COLUMNS);
+    return;
+  }
+  for (; count > 0; count--, row += width) {
+    EACH_PIECE(DARK)
+  }
 }
 
 /* ---- the frame ---- */
@@ -159,9 +167,10 @@ static void draw_panel(uint8_t *frame, size_t width, const uint8_t *state,
       next_row(&page);
     }
   }
-  for (unsigned com = in_use; com < ROWS; com++) {
-    darken_row(frame + (top + com) % ROWS * width);
-  }
+  unsigned dark = (top + in_use) % ROWS;
+  unsigned below = ROWS - in_use < ROWS - dark ? ROWS - in_use : ROWS - dark;
+  darken_rows(frame + dark * width, width, below);
+  darken_rows(frame, width, ROWS - in_use - below);
 }
 
 /* A chip's rows, each so many places after the one before it. */
@@ -169,9 +178,7 @@ static void draw_half(uint8_t *frame, size_t width, const uint8_t *state,
                       const uint8_t *memory)
 {
   if (state[SSD1815B_DISPLAY_ON] == 0) {
-    for (size_t row = 0; row <= ICON_ROW; row++) {
-      darken_row(frame + row * width);
-    }
+    darken_rows(frame, width, ICON_ROW + 1);
     return;
   }
   __m128i turn = _mm_set1_epi8((char)(0 - state[SSD1815B_REVERSE]));

@@ -94,7 +94,8 @@ static void draw(const struct model *model)
                     sizeof frame));
 }
 
-/* The limits of a frame: the SSE2 loop, and memset where all places are equal. */
+/* The limits of a frame: the SSE2 loop, and memset where all places are
+** equal. */
 static void draw_by_sse2(void)
 {
   taken(sse2_draw(state, sizeof state, memory, sizeof memory, frame,
@@ -838,7 +839,8 @@ static void copy_wide_text(void)
 #define BY_TWICE LIMIT(records_twice, "memcpy of each record, twice")
 #define BY_IMAGE LIMIT(copy_images, "memcpy of the image")
 #define BY_IMAGES LIMIT(copy_both_images, "memcpy of both images")
-#define BY_FRAMES LIMIT(frames_by_memcmp, "memcmp of a frame, memcpy of the list")
+#define BY_FRAMES \
+  LIMIT(frames_by_memcmp, "memcmp of a frame, memcpy of the list")
 #define BY_MEMORIES \
   LIMIT(memories_by_memcmp, "memcmp of a memory, memcpy of the list")
 
