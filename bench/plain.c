@@ -77,6 +77,10 @@ static inline bool legal(const uint8_t *state)
           | (state[PAGE] > ICON_PAGE) | !awaitable[state[AWAITED]]) == 0;
 }
 
+/* The memory's size, kept from gcc: so many bytes that are known it would clear
+** by a repeated instruction, which is slower than the C library's memset. */
+static const volatile size_t memory_size = MEMORY_SIZE;
+
 static bool too_short(size_t state_len, size_t memory_len)
 {
   return state_len < STATE_SIZE || memory_len < MEMORY_SIZE;
@@ -339,7 +343,7 @@ uint8_t plain_start_upright(uint8_t *state, size_t state_len, uint8_t *memory,
     return SSD1815B_TOO_SHORT;
   }
   memcpy(state, power_on, STATE_SIZE);
-  memset(memory, 0, MEMORY_SIZE);
+  memset(memory, 0, memory_size);
   return SSD1815B_TAKEN;
 }
 
