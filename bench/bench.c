@@ -167,6 +167,12 @@ static struct times times_of(const struct workload *workload, size_t times)
   return found;
 }
 
+/* A time of a row; with three decimals where it is below a nanosecond. */
+static void print_time(double nanoseconds)
+{
+  printf(" %10.*f", nanoseconds < 1 ? 3 : 2, nanoseconds);
+}
+
 static void measure(const struct workload *workload)
 {
   same_result(workload);
@@ -175,11 +181,13 @@ static void measure(const struct workload *workload)
   struct times found = times_of(workload, times);
   const double *best = found.best;
   double units = (double)times * (double)workload->units();
-  printf("%-28s %10.2f %10.2f %10.2f  ns per %-6s %6.2f %6.2f %6.2f  %s\n",
-         workload->name, best[LIBRARY] / units * 1e9, best[PLAIN] / units * 1e9,
-         found.limit / units * 1e9, workload->unit, best[LIBRARY] / best[PLAIN],
-         best[LIBRARY] / found.limit, best[PLAIN] / found.limit,
-         workload->limit_what);
+  printf("%-28s", workload->name);
+  print_time(best[LIBRARY] / units * 1e9);
+  print_time(best[PLAIN] / units * 1e9);
+  print_time(found.limit / units * 1e9);
+  printf("  ns per %-6s %6.2f %6.2f %6.2f  %s\n", workload->unit,
+         best[LIBRARY] / best[PLAIN], best[LIBRARY] / found.limit,
+         best[PLAIN] / found.limit, workload->limit_what);
   if (workload->compares) {
     print_tuned(best, best[TUNED] / units * 1e9);
   }

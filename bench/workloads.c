@@ -425,17 +425,25 @@ static void fill_by_memset(const uint8_t *image)
   }
 }
 
+/* The image that each start leaves. */
+static void start_image(uint8_t *image, uint8_t directions)
+{
+  plain_start_upright(image, sizeof state, aside, sizeof aside);
+  image[SSD1815B_COLUMN_DIRECTION] = directions;
+  image[SSD1815B_ROW_DIRECTION] = directions;
+}
+
 static void start_by_memset(void)
 {
   uint8_t image[sizeof state];
-  plain_start(image, sizeof image, aside, sizeof aside);
+  start_image(image, 1);
   fill_by_memset(image);
 }
 
 static void start_upright_by_memset(void)
 {
   uint8_t image[sizeof state];
-  plain_start_upright(image, sizeof image, aside, sizeof aside);
+  start_image(image, 0);
   fill_by_memset(image);
 }
 
