@@ -66,6 +66,7 @@ CALLS    := $(OUT)/calls
 DIFFER   := $(OUT)/differences
 TUNED    := $(OUT)/compare-tuned
 T_DIFFER := $(OUT)/differences-tuned
+T_ROWS   := $(OUT)/everyrow-tuned
 SAMPLES  := $(OUT)/samples
 EVERYROW := $(OUT)/everyrow
 PARTS    := $(OUT)/parts
@@ -128,17 +129,19 @@ test: compare calls check-tool check-traces \
       $(if $(VARIANT),,check-install check-python)
 	@echo 'make test: all passed ($(MODEL))'
 
-# The second stream is for tuned C, which has just the two comparing calls.
+# The second stream is for the limits of the bench: tuned C, which has just the
+# two comparing calls, and the SSE2 loop, the two drawing calls.
 compare: $(COMPARE) $(TUNED) oracle
 	host/compare/compare.sh $(ORACLE) $(SEED) $(TIMES) -- $(RUN) $(COMPARE)
 	bench/tuned.sh $(ORACLE) $(SEED) $(TIMES) -- $(RUN) $(TUNED)
 
-calls: $(CALLS) $(DIFFER) $(T_DIFFER) $(SAMPLES) $(EVERYROW) $(WIDE_CALLS) $(HEADER)
+calls: $(CALLS) $(DIFFER) $(T_DIFFER) $(SAMPLES) $(EVERYROW) $(T_ROWS) $(WIDE_CALLS) $(HEADER)
 	$(RUN) $(CALLS)
 	$(RUN) $(DIFFER)
 	$(RUN) $(T_DIFFER)
 	$(RUN) $(SAMPLES)
 	$(RUN) $(EVERYROW)
+	$(RUN) $(T_ROWS)
 	$(RUN) $(OUT)/wide
 	$(RUN) $(OUT)/widerun
 	$(RUN) $(OUT)/widepicture
@@ -237,12 +240,14 @@ COMPARED := $(call objects,host/compare/*.c) \
 $(COMPARE): $(COMPARED) $(LINKED)
 $(CALLS): $(OUT)/host/test/calls.o $(OUT)/host/compare/room.o $(LINKED)
 $(DIFFER): $(OUT)/host/test/differences.o $(OUT)/host/compare/room.o $(LINKED)
-# Tuned C in place of the two comparing calls (bench/as_tuned.h).
-$(TUNED): $(COMPARED:%/differences.o=%/differences_tuned.o) \
-          $(OUT)/bench/tuned.o $(LINKED)
+# Tuned C in place of the two comparing calls, and the SSE2 loop in place of the
+# two drawing calls (bench/as_tuned.h).
+$(TUNED): $(patsubst %/draws.o,%/draws_tuned.o,$(COMPARED:%/differences.o=%/differences_tuned.o)) \
+          $(OUT)/bench/tuned.o $(OUT)/bench/sse2.o $(LINKED)
 $(T_DIFFER): $(OUT)/host/test/differences_tuned.o $(OUT)/host/compare/room.o \
              $(OUT)/bench/tuned.o
-$(TUNED) $(T_DIFFER):
+$(T_ROWS): $(OUT)/host/test/everyrow_tuned.o $(OUT)/bench/sse2.o $(LINKED)
+$(TUNED) $(T_DIFFER) $(T_ROWS):
 	$(Q)$(CC) $(CFLAGS) $^ -o $@
 
 $(SAMPLES): $(OUT)/host/test/samples.o $(LINKED)
@@ -255,7 +260,7 @@ $(LISTINGS): $(OUT)/host/test/listings.o $(OUT)/host/tool/stored.o $(LINKED)
 # The tool as it is where libstb-dev is missing.
 $(NO_PNG): $(filter-out %/png.o,$(call objects,host/tool/*.c)) \
            $(OUT)/host/tool/no_png.o $(LINKED)
-$(BENCH): $(addprefix $(OUT)/bench/,bench.o workloads.o plain.o tuned.o) \
+$(BENCH): $(addprefix $(OUT)/bench/,bench.o workloads.o plain.o tuned.o sse2.o) \
           $(LINKED)
 
 $(TOOL) $(NO_PNG) $(COMPARE) $(CALLS) $(DIFFER) $(SAMPLES) $(EVERYROW) $(WIDE_CALLS) $(PARTS) $(LISTINGS) $(BENCH):
@@ -283,7 +288,7 @@ $(OUT)/%_tuned.o: %.c | cross
 	$(Q)$(CC) $(CFLAGS) $(INCLUDE) -include bench/as_tuned.h -MMD -MP -c $< -o $@
 
 # What is measured is compiled as well as gcc can.
-$(addprefix $(OUT)/bench/,plain.o plain_as_model.o tuned.o): CFLAGS += -O3
+$(addprefix $(OUT)/bench/,plain.o plain_as_model.o tuned.o sse2.o): CFLAGS += -O3
 
 $(OUT)/bench/plain_as_model.o: bench/plain.c | cross
 	@mkdir -p $(@D)

@@ -1,6 +1,6 @@
 /*
-** bench: the library beside plain C, and below each pair that is compared the
-** limits, tuned C and memcmp.  See usage below.
+** bench: the library beside plain C and the limit, and below each pair that is
+** compared tuned C.  See usage below.
 */
 #define _POSIX_C_SOURCE 200809L /* clock_gettime */
 #include <stdbool.h>
@@ -24,15 +24,16 @@ static const char usage[] =
 
 static const struct model models[] = {
   { "library", ssd1815b_start, ssd1815b_start_upright, ssd1815b_command,
-    ssd1815b_write, ssd1815b_read, ssd1815b_run, ssd1815b_draw, ssd1815b_list,
+    ssd1815b_write, ssd1815b_read, ssd1815b_reset, ssd1815b_run, ssd1815b_draw,
+    ssd1815b_list,
     ssd1815b_compare_frames, ssd1815b_compare_memories, ssd1815b_wide_command,
     ssd1815b_wide_write, ssd1815b_wide_read, ssd1815b_wide_run,
     ssd1815b_wide_draw, ssd1815b_wide_page, ssd1815b_wide_list },
   { "plain", plain_start, plain_start_upright, plain_command, plain_write,
-    plain_read, plain_run, plain_draw, plain_list, plain_compare_frames,
-    plain_compare_memories, plain_wide_command, plain_wide_write,
-    plain_wide_read, plain_wide_run, plain_wide_draw, plain_wide_page,
-    plain_wide_list },
+    plain_read, plain_reset, plain_run, plain_draw, plain_list,
+    plain_compare_frames, plain_compare_memories, plain_wide_command,
+    plain_wide_write, plain_wide_read, plain_wide_run, plain_wide_draw,
+    plain_wide_page, plain_wide_list },
   { .name = "tuned", .compare_frames = tuned_compare_frames,
     .compare_memories = tuned_compare_memories },
 };
@@ -60,14 +61,14 @@ static double seconds_for(void (*once)(const struct model *),
   return seconds_between(from, to);
 }
 
-/* The same for memcmp of what the workload compares. */
-static double seconds_by_memcmp(const struct workload *workload, size_t times)
+/* The same for the workload's limit. */
+static double seconds_of_limit(const struct workload *workload, size_t times)
 {
   struct timespec from;
   struct timespec to;
   clock_gettime(CLOCK_MONOTONIC, &from);
   for (size_t i = 0; i < times; i++) {
-    workload->by_memcmp();
+    workload->limit();
   }
   clock_gettime(CLOCK_MONOTONIC, &to);
   return seconds_between(from, to);
@@ -79,19 +80,32 @@ static int models_for(const struct workload *workload)
   return workload->compares ? MODELS : TUNED;
 }
 
-/* All models must leave the same from the same. */
+/* Ends the bench unless the library and something else left the same. */
+static void must_be_same(const struct workload *workload, const char *what,
+                         uint64_t expected)
+{
+  if (workload_left() != expected) {
+    fprintf(stderr, "bench: %s: library and %s differ\n", workload->name, what);
+    exit(1);
+  }
+}
+
+/* All models must leave the same from the same, and so must the limit where it
+** leaves anything. */
 static void same_result(const struct workload *workload)
 {
-  uint64_t left[MODELS];
-  for (int i = 0; i < models_for(workload); i++) {
+  workload->prepare();
+  workload_do(workload, &models[LIBRARY], 2);
+  uint64_t expected = workload_left();
+  for (int i = PLAIN; i < models_for(workload); i++) {
     workload->prepare();
     workload_do(workload, &models[i], 2);
-    left[i] = workload_left();
-    if (left[i] != left[LIBRARY]) {
-      fprintf(stderr, "bench: %s: library and %s C differ\n", workload->name,
-              models[i].name);
-      exit(1);
-    }
+    must_be_same(workload, models[i].name, expected);
+  }
+  if (workload->limit_leaves_same) {
+    workload->prepare();
+    workload->limit();
+    must_be_same(workload, workload->limit_what, expected);
   }
 }
 
@@ -112,13 +126,12 @@ static void keep_best(double *best, double seconds)
   }
 }
 
-/* The line below a row: library and plain C as so many times something that
-** takes so many seconds and nanoseconds. */
-static void print_times(const double *best, const char *what, double seconds,
-                        double nanoseconds)
+/* The line below a row: library and plain C as so many times tuned C, which
+** takes so many nanoseconds. */
+static void print_tuned(const double *best, double nanoseconds)
 {
-  printf("%-28s %10.2f %10.2f  times %s, %.2f ns\n", "",
-         best[LIBRARY] / seconds, best[PLAIN] / seconds, what, nanoseconds);
+  printf("%-28s %10.2f %10.2f  times tuned C, %.2f ns\n", "",
+         best[LIBRARY] / best[TUNED], best[PLAIN] / best[TUNED], nanoseconds);
 }
 
 /* The line below a row: each model as so many times what it takes itself for
@@ -131,11 +144,11 @@ static void print_beside(const double *best, const double *beside,
 }
 
 /* The best time of each model for a workload, for what it is held beside, and
-** for memcmp, all in turn. */
+** of the limit, all in turn. */
 struct times {
   double best[MODELS];
   double beside[MODELS];
-  double by_memcmp;
+  double limit;
 };
 
 static struct times times_of(const struct workload *workload, size_t times)
@@ -149,11 +162,15 @@ static struct times times_of(const struct workload *workload, size_t times)
                   seconds_for(workload->beside, &models[i], times));
       }
     }
-    if (workload->by_memcmp != NULL) {
-      keep_best(&found.by_memcmp, seconds_by_memcmp(workload, times));
-    }
+    keep_best(&found.limit, seconds_of_limit(workload, times));
   }
   return found;
+}
+
+/* A time of a row; with three decimals where it is below a nanosecond. */
+static void print_time(double nanoseconds)
+{
+  printf(" %10.*f", nanoseconds < 1 ? 3 : 2, nanoseconds);
 }
 
 static void measure(const struct workload *workload)
@@ -164,15 +181,15 @@ static void measure(const struct workload *workload)
   struct times found = times_of(workload, times);
   const double *best = found.best;
   double units = (double)times * (double)workload->units();
-  printf("%-28s %10.2f %10.2f  ns per %-6s %6.2f\n", workload->name,
-         best[LIBRARY] / units * 1e9, best[PLAIN] / units * 1e9,
-         workload->unit, best[LIBRARY] / best[PLAIN]);
+  printf("%-28s", workload->name);
+  print_time(best[LIBRARY] / units * 1e9);
+  print_time(best[PLAIN] / units * 1e9);
+  print_time(found.limit / units * 1e9);
+  printf("  ns per %-6s %6.2f %6.2f %6.2f  %s\n", workload->unit,
+         best[LIBRARY] / best[PLAIN], best[LIBRARY] / found.limit,
+         best[PLAIN] / found.limit, workload->limit_what);
   if (workload->compares) {
-    print_times(best, "tuned C", best[TUNED], best[TUNED] / units * 1e9);
-  }
-  if (workload->by_memcmp != NULL) {
-    print_times(best, "memcmp of the same bytes", found.by_memcmp,
-                found.by_memcmp / units * 1e9);
+    print_tuned(best, best[TUNED] / units * 1e9);
   }
   if (workload->beside != NULL) {
     print_beside(best, found.beside, workload->beside_what);
@@ -182,8 +199,8 @@ static void measure(const struct workload *workload)
 static void measure_all(void)
 {
   printf("best of %d, in turn\n", REPETITIONS);
-  printf("%-28s %10s %10s  %-13s %6s\n", "", "library", "plain C", "",
-         "ratio");
+  printf("%-28s %10s %10s %10s  %-13s %6s %6s %6s\n", "", "library", "plain C",
+         "limit", "", "lib/C", "lib/l", "C/l");
   for (size_t i = 0; i < workload_count; i++) {
     measure(&workloads[i]);
   }

@@ -23,6 +23,7 @@ struct model {
   uint8_t (*write)(uint8_t *, size_t, uint8_t *, size_t, uint8_t);
   uint8_t (*read)(uint8_t *, size_t, const uint8_t *, size_t, uint8_t *,
                   uint8_t *);
+  uint8_t (*reset)(uint8_t *, size_t, const uint8_t *, size_t);
   uint8_t (*run)(uint8_t *, size_t, uint8_t *, size_t, const uint8_t *, size_t,
                  size_t *, size_t *);
   uint8_t (*draw)(const uint8_t *, size_t, const uint8_t *, size_t, uint8_t *,

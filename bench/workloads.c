@@ -5,6 +5,7 @@
 #include <string.h>
 
 #include "plain.h"
+#include "sse2.h"
 
 /* ---- the buffers ---- */
 
@@ -42,6 +43,15 @@ static uint32_t next_random(void)
   seed ^= seed << 5;
   return seed;
 }
+
+/* Keeps the compiler from leaving out or joining what was written to bytes. */
+static void seen(const void *bytes)
+{
+  __asm__ volatile("" : : "r"(bytes) : "memory");
+}
+
+/* Where limits copy to. */
+static uint8_t aside[65536];
 
 /* The upright start, which is power-on, a memory of random bytes, and some
 ** commands. */
@@ -84,6 +94,26 @@ static void draw(const struct model *model)
                     sizeof frame));
 }
 
+/* The limits of a frame: the SSE2 loop, and memset where all places are
+** equal. */
+static void draw_by_sse2(void)
+{
+  taken(sse2_draw(state, sizeof state, memory, sizeof memory, frame,
+                  sizeof frame));
+}
+
+static void light_by_memset(void)
+{
+  memset(frame, 1, sizeof frame);
+  seen(frame);
+}
+
+static void darken_by_memset(void)
+{
+  memset(frame, 0, sizeof frame);
+  seen(frame);
+}
+
 static size_t one(void)
 {
   return 1;
@@ -106,6 +136,13 @@ static void list(const struct model *model)
 {
   taken(model->list(SSD1815B_TAKEN, 0, frame, sizeof frame, text, sizeof text,
                     &text_length));
+}
+
+/* The text's bytes, which a model has written before. */
+static void copy_text(void)
+{
+  memcpy(aside, text, text_length);
+  seen(aside);
 }
 
 /* ---- events of a run ---- */
@@ -147,10 +184,9 @@ static void trace_of_commands(void)
   }
 }
 
-/* Whole pages written, nothing else. */
-static void trace_of_writes(void)
+/* Records as long as a page, written from wherever the column is. */
+static void add_written_pages(void)
 {
-  begin_trace();
   for (int records = 0; records < 200; records++) {
     uint8_t payload[SSD1815B_COLUMNS];
     for (size_t i = 0; i < sizeof payload; i++) {
@@ -160,16 +196,60 @@ static void trace_of_writes(void)
   }
 }
 
+/* Whole pages written, nothing else. */
+static void trace_of_writes(void)
+{
+  begin_trace();
+  add_written_pages();
+}
+
+/* The same from column 50 on, so that each record goes past column 131. */
+static void trace_of_writes_from_50(void)
+{
+  static const uint8_t at[] = { 0xB3, 0x02, 0x13 };
+  begin_trace();
+  add_record(1, at, sizeof at);
+  add_written_pages();
+}
+
+/* The same to page 8, which keeps bit 0. */
+static void trace_of_writes_to_icons(void)
+{
+  static const uint8_t at[] = { 0xB8, 0x00, 0x10 };
+  begin_trace();
+  add_record(1, at, sizeof at);
+  add_written_pages();
+}
+
+/* Where reads begin, and the dummy read. */
+static void add_dummy_read(const uint8_t *at, size_t count)
+{
+  static const uint8_t dummy = 0;
+  add_record(1, at, count);
+  add_record(3, &dummy, 1);
+}
+
 /* Whole pages read back: the dummy read, and then what memory holds. */
 static void trace_of_reads(void)
 {
-  begin_trace();
   static const uint8_t at[] = { 0xB0, 0x00, 0x10 };
-  static const uint8_t dummy = 0;
-  add_record(1, at, sizeof at);
-  add_record(3, &dummy, 1);
+  begin_trace();
+  add_dummy_read(at, sizeof at);
   for (int records = 0; records < 200; records++) {
     add_record(3, memory, SSD1815B_COLUMNS);
+  }
+}
+
+/* One byte read again and again, as read-modify-write leaves the column. */
+static void trace_of_reads_of_one(void)
+{
+  static const uint8_t at[] = { 0xB0, 0x00, 0x10, 0xE0 };
+  uint8_t payload[SSD1815B_COLUMNS];
+  begin_trace();
+  memset(payload, memory[0], sizeof payload);
+  add_dummy_read(at, sizeof at);
+  for (int records = 0; records < 200; records++) {
+    add_record(3, payload, sizeof payload);
   }
 }
 
@@ -213,6 +293,40 @@ static size_t events_of_trace(void)
   return trace_events;
 }
 
+/* The limit of a run: each record's payload by the C library, bytes read by
+** memcmp and all others by memcpy, into so many memories. */
+static void copy_records(size_t memories)
+{
+  const uint8_t *record = trace;
+  while (record < trace + trace_length) {
+    size_t length = (size_t)record[0] | (size_t)record[1] << 8;
+    if (record[2] == 3) {
+      static volatile int differs;
+      differs = memcmp(aside, record + 4, length);
+      (void)differs;
+    } else {
+      for (size_t i = 0; i < memories; i++) {
+        memcpy(aside + i * SSD1815B_MEMORY_SIZE, record + 4, length);
+        seen(aside);
+      }
+    }
+    record += 4 + length;
+  }
+}
+
+/* Into one memory. */
+static void records_by_library(void)
+{
+  copy_records(1);
+}
+
+/* Reads that are equal to the end: each record of bytes read is the same. */
+static void reads_by_library(void)
+{
+  memcpy(aside, trace + trace_length - SSD1815B_COLUMNS, SSD1815B_COLUMNS);
+  copy_records(1);
+}
+
 /* ---- events by themselves ---- */
 
 enum { SINGLES = 1000 };
@@ -250,9 +364,36 @@ static void single_reads(const struct model *model)
   }
 }
 
+static void single_resets(const struct model *model)
+{
+  for (int i = 0; i < SINGLES; i++) {
+    taken(model->reset(state, sizeof state, memory, sizeof memory));
+  }
+}
+
 static size_t singles(void)
 {
   return SINGLES;
+}
+
+/* The limit of an event call: memcpy of the image. */
+static void copy_images(void)
+{
+  for (int i = 0; i < SINGLES; i++) {
+    memcpy(aside, state, sizeof state);
+    seen(aside);
+  }
+}
+
+/* The limit of a reset: memcpy of the image that it leaves. */
+static void images_by_memcpy(void)
+{
+  uint8_t image[sizeof state];
+  plain_reset(image, sizeof image, memory, sizeof memory);
+  for (int i = 0; i < SINGLES; i++) {
+    memcpy(state, image, sizeof image);
+    seen(state);
+  }
 }
 
 /* ---- starts ---- */
@@ -269,6 +410,41 @@ static void starts_upright(const struct model *model)
   for (int i = 0; i < SINGLES; i++) {
     taken(model->start_upright(state, sizeof state, memory, sizeof memory));
   }
+}
+
+/* The limit of a start: memcpy of an image, and memset of the memory by the C
+** library; so many bytes that are known gcc would clear itself, and slower. */
+static void fill_by_memset(const uint8_t *image)
+{
+  size_t length = sizeof memory;
+  __asm__ volatile("" : "+r"(length));
+  for (int i = 0; i < SINGLES; i++) {
+    memcpy(state, image, sizeof state);
+    memset(memory, 0, length);
+    seen(memory);
+  }
+}
+
+/* The image that each start leaves. */
+static void start_image(uint8_t *image, uint8_t directions)
+{
+  plain_start_upright(image, sizeof state, aside, sizeof aside);
+  image[SSD1815B_COLUMN_DIRECTION] = directions;
+  image[SSD1815B_ROW_DIRECTION] = directions;
+}
+
+static void start_by_memset(void)
+{
+  uint8_t image[sizeof state];
+  start_image(image, 1);
+  fill_by_memset(image);
+}
+
+static void start_upright_by_memset(void)
+{
+  uint8_t image[sizeof state];
+  start_image(image, 0);
+  fill_by_memset(image);
 }
 
 /* ---- two frames compared ---- */
@@ -288,10 +464,23 @@ static void compare_frames(const struct model *model)
                               &entries_count));
 }
 
-/* The same bytes by the C library, which says only whether they differ. */
+/* The limit of comparing: memcmp of as many bytes that are equal to the end,
+** and memcpy of the list, whose count a model has left. */
+static void compare_by_memcmp(const uint8_t *bytes, size_t length,
+                              size_t entry_size)
+{
+  static volatile int differs;
+  const uint8_t *again = bytes;
+  __asm__ volatile("" : "+r"(again));
+  differs = memcmp(bytes, again, length);
+  (void)differs;
+  memcpy(aside, entries, entries_count * entry_size);
+  seen(aside);
+}
+
 static void frames_by_memcmp(void)
 {
-  answer((uint64_t)memcmp(frame, second_frame, sizeof frame));
+  compare_by_memcmp(frame, sizeof frame, SSD1815B_FRAME_ENTRY_SIZE);
 }
 
 /* Two frames full of the letter P, and a list for all that may differ. */
@@ -371,10 +560,9 @@ static void compare_memories(const struct model *model)
                                 &entries_count));
 }
 
-/* The same bytes by the C library. */
 static void memories_by_memcmp(void)
 {
-  answer((uint64_t)memcmp(memory, second_memory, sizeof memory));
+  compare_by_memcmp(memory, sizeof memory, SSD1815B_MEMORY_ENTRY_SIZE);
 }
 
 /* Two memories of the same random bytes. */
@@ -503,6 +691,22 @@ static void wide_run(const struct model *model)
   answer(count);
 }
 
+/* The limit of a trace that goes to both chips. */
+static void records_twice(void)
+{
+  copy_records(2);
+}
+
+/* The limit of a wide event call: memcpy of the two images. */
+static void copy_both_images(void)
+{
+  for (int i = 0; i < SINGLES; i++) {
+    memcpy(aside, state, sizeof state);
+    memcpy(aside + sizeof state, right_state, sizeof right_state);
+    seen(aside);
+  }
+}
+
 /* Command calls for those that are selected. */
 static void wide_commands(const struct model *model, uint8_t selection)
 {
@@ -569,10 +773,37 @@ static void wide_pages(const struct model *model)
   }
 }
 
+/* The limit of a page call: memcpy of its two answers. */
+static void copy_answers(void)
+{
+  for (int i = 0; i < SINGLES; i++) {
+    memcpy(aside, memory, 2 * sizeof(size_t));
+    seen(aside);
+  }
+}
+
 /* The frame of both. */
 static void wide_draw(const struct model *model)
 {
   taken(model->wide_draw(CHIPS, wide_frame, sizeof wide_frame));
+}
+
+/* The limits of a wide frame. */
+static void wide_draw_by_sse2(void)
+{
+  taken(sse2_wide_draw(CHIPS, wide_frame, sizeof wide_frame));
+}
+
+static void wide_light_by_memset(void)
+{
+  memset(wide_frame, 1, sizeof wide_frame);
+  seen(wide_frame);
+}
+
+static void wide_darken_by_memset(void)
+{
+  memset(wide_frame, 0, sizeof wide_frame);
+  seen(wide_frame);
 }
 
 /* Two narrow frames, one of each. */
@@ -600,104 +831,148 @@ static void wide_list(const struct model *model)
                          wide_text, sizeof wide_text, &wide_text_length));
 }
 
+/* The text's bytes, which a model has written before. */
+static void copy_wide_text(void)
+{
+  memcpy(aside, wide_text, wide_text_length);
+  seen(aside);
+}
+
 /* ---- all of them ---- */
+
+/* Each limit, as the rows have it. */
+#define LIMIT(by, what) .limit = by, .limit_what = what
+#define DRAWN_BY(by, what) LIMIT(by, what), .limit_leaves_same = true
+#define BY_SSE2 DRAWN_BY(draw_by_sse2, "SSE2 loop")
+#define BY_RECORDS LIMIT(records_by_library, "memcpy of each record")
+#define BY_READS LIMIT(reads_by_library, "memcmp of each record")
+#define BY_BOTH LIMIT(records_by_library, "memcpy or memcmp of each record")
+#define BY_TWICE LIMIT(records_twice, "memcpy of each record, twice")
+#define BY_IMAGE LIMIT(copy_images, "memcpy of the image")
+#define BY_IMAGES LIMIT(copy_both_images, "memcpy of both images")
+#define BY_FRAMES \
+  LIMIT(frames_by_memcmp, "memcmp of a frame, memcpy of the list")
+#define BY_MEMORIES \
+  LIMIT(memories_by_memcmp, "memcmp of a memory, memcpy of the list")
 
 const struct workload workloads[] = {
   { .name = "columns normal", .unit = "frame", .prepare = columns_normal,
-    .once = draw, .units = one },
+    .once = draw, .units = one, BY_SSE2 },
   { .name = "columns mirrored", .unit = "frame", .prepare = columns_mirrored,
-    .once = draw, .units = one },
+    .once = draw, .units = one, BY_SSE2 },
   { .name = "rows reversed, reverse", .unit = "frame", .prepare = rows_reversed,
-    .once = draw, .units = one },
+    .once = draw, .units = one, BY_SSE2 },
   { .name = "all three turned", .unit = "frame", .prepare = all_turned,
-    .once = draw, .units = one },
+    .once = draw, .units = one, BY_SSE2 },
   { .name = "16 rows in use", .unit = "frame", .prepare = sixteen_rows,
-    .once = draw, .units = one },
+    .once = draw, .units = one, BY_SSE2 },
   { .name = "all lit", .unit = "frame", .prepare = all_lit, .once = draw,
-    .units = one },
+    .units = one, DRAWN_BY(light_by_memset, "memset of the frame") },
   { .name = "display off", .unit = "frame", .prepare = display_off,
-    .once = draw, .units = one },
+    .once = draw, .units = one,
+    DRAWN_BY(darken_by_memset, "memset of the frame") },
   { .name = "run of commands", .unit = "event", .prepare = trace_of_commands,
-    .once = run, .units = events_of_trace },
+    .once = run, .units = events_of_trace, BY_RECORDS },
   { .name = "run of writes", .unit = "event", .prepare = trace_of_writes,
-    .once = run, .units = events_of_trace },
+    .once = run, .units = events_of_trace, BY_RECORDS },
+  { .name = "run of writes from 50", .unit = "event",
+    .prepare = trace_of_writes_from_50, .once = run, .units = events_of_trace,
+    BY_RECORDS },
+  { .name = "run of writes to page 8", .unit = "event",
+    .prepare = trace_of_writes_to_icons, .once = run, .units = events_of_trace,
+    BY_RECORDS },
   { .name = "run of reads", .unit = "event", .prepare = trace_of_reads,
-    .once = run, .units = events_of_trace },
+    .once = run, .units = events_of_trace, BY_READS },
+  { .name = "run of reads of one byte", .unit = "event",
+    .prepare = trace_of_reads_of_one, .once = run, .units = events_of_trace,
+    BY_READS },
   { .name = "run of all kinds", .unit = "event", .prepare = trace_of_all,
-    .once = run, .units = events_of_trace },
+    .once = run, .units = events_of_trace, BY_BOTH },
   { .name = "command call", .unit = "event", .prepare = idle,
-    .once = single_commands, .units = singles },
+    .once = single_commands, .units = singles, BY_IMAGE },
   { .name = "write call", .unit = "event", .prepare = idle,
-    .once = single_writes, .units = singles },
+    .once = single_writes, .units = singles, BY_IMAGE },
   { .name = "read call", .unit = "event", .prepare = idle, .once = single_reads,
-    .units = singles },
+    .units = singles, BY_IMAGE },
+  { .name = "reset call", .unit = "event", .prepare = idle,
+    .once = single_resets, .units = singles,
+    DRAWN_BY(images_by_memcpy, "memcpy of the image") },
   { .name = "start", .unit = "start", .prepare = idle, .once = starts,
-    .units = singles },
+    .units = singles,
+    DRAWN_BY(start_by_memset, "memset, memcpy of the image") },
   { .name = "start upright", .unit = "start", .prepare = idle,
-    .once = starts_upright, .units = singles },
+    .once = starts_upright, .units = singles,
+    DRAWN_BY(start_upright_by_memset, "memset, memcpy of the image") },
   { .name = "listing of letters", .unit = "text", .prepare = drawn,
-    .once = list, .units = one },
+    .once = list, .units = one, LIMIT(copy_text, "memcpy of the text") },
   { .name = "frames: equal", .unit = "pair", .prepare = equal_frames,
-    .once = compare_frames, .units = one, .compares = true,
-    .by_memcmp = frames_by_memcmp },
+    .once = compare_frames, .units = one, .compares = true, BY_FRAMES },
   { .name = "frames: one run", .unit = "pair", .prepare = one_run,
-    .once = compare_frames, .units = one, .compares = true },
+    .once = compare_frames, .units = one, .compares = true, BY_FRAMES },
   { .name = "frames: letters", .unit = "pair", .prepare = letters,
-    .once = compare_frames, .units = one, .compares = true },
+    .once = compare_frames, .units = one, .compares = true, BY_FRAMES },
   { .name = "frames: letters, exact list", .unit = "pair",
     .prepare = letters_exact, .once = compare_frames, .units = one,
-    .compares = true },
+    .compares = true, BY_FRAMES },
   { .name = "frames: every place a run", .unit = "pair", .prepare = alternating,
-    .once = compare_frames, .units = one, .compares = true },
+    .once = compare_frames, .units = one, .compares = true, BY_FRAMES },
   { .name = "frames: every row a run", .unit = "pair", .prepare = whole_rows,
-    .once = compare_frames, .units = one, .compares = true },
+    .once = compare_frames, .units = one, .compares = true, BY_FRAMES },
   { .name = "frames: random", .unit = "pair", .prepare = random_frames,
-    .once = compare_frames, .units = one, .compares = true },
+    .once = compare_frames, .units = one, .compares = true, BY_FRAMES },
   { .name = "memories: equal", .unit = "pair", .prepare = equal_memories,
-    .once = compare_memories, .units = one, .compares = true,
-    .by_memcmp = memories_by_memcmp },
+    .once = compare_memories, .units = one, .compares = true, BY_MEMORIES },
   { .name = "memories: a few bytes", .unit = "pair", .prepare = a_few_bytes,
-    .once = compare_memories, .units = one, .compares = true },
+    .once = compare_memories, .units = one, .compares = true, BY_MEMORIES },
   { .name = "memories: every byte", .unit = "pair", .prepare = every_byte,
-    .once = compare_memories, .units = one, .compares = true },
+    .once = compare_memories, .units = one, .compares = true, BY_MEMORIES },
   { .name = "wide command call, left", .unit = "event", .prepare = wide_idle,
-    .once = wide_commands_left, .units = singles },
+    .once = wide_commands_left, .units = singles, BY_IMAGES },
   { .name = "wide command call, both", .unit = "event", .prepare = wide_idle,
-    .once = wide_commands_both, .units = singles },
+    .once = wide_commands_both, .units = singles, BY_IMAGES },
   { .name = "wide write call, left", .unit = "event", .prepare = wide_idle,
-    .once = wide_writes_left, .units = singles },
+    .once = wide_writes_left, .units = singles, BY_IMAGES },
   { .name = "wide write call, both", .unit = "event", .prepare = wide_idle,
-    .once = wide_writes_both, .units = singles },
+    .once = wide_writes_both, .units = singles, BY_IMAGES },
   { .name = "wide read call", .unit = "event", .prepare = wide_idle,
-    .once = wide_reads, .units = singles },
+    .once = wide_reads, .units = singles, BY_IMAGES },
   { .name = "wide run of all kinds", .unit = "event",
-    .prepare = wide_trace_of_all, .once = wide_run, .units = events_of_trace },
+    .prepare = wide_trace_of_all, .once = wide_run, .units = events_of_trace,
+    BY_BOTH },
   { .name = "commands played wide", .unit = "event",
     .prepare = wide_trace_of_commands, .once = wide_run,
     .units = events_of_trace, .beside = run,
-    .beside_what = "the narrow run of the same trace" },
+    .beside_what = "the narrow run of the same trace", BY_TWICE },
   { .name = "writes played wide", .unit = "event",
     .prepare = wide_trace_of_writes, .once = wide_run, .units = events_of_trace,
-    .beside = run, .beside_what = "the narrow run of the same trace" },
+    .beside = run, .beside_what = "the narrow run of the same trace",
+    BY_TWICE },
   { .name = "pieces played wide", .unit = "event",
     .prepare = wide_trace_of_pieces, .once = wide_run, .units = events_of_trace,
-    .beside = run, .beside_what = "the narrow run of the same trace" },
+    .beside = run, .beside_what = "the narrow run of the same trace",
+    BY_TWICE },
   { .name = "wide: columns normal", .unit = "frame",
     .prepare = wide_columns_normal, .once = wide_draw, .units = one,
-    .beside = draw_each, .beside_what = "two narrow frames" },
+    .beside = draw_each, .beside_what = "two narrow frames",
+    DRAWN_BY(wide_draw_by_sse2, "SSE2 loop") },
   { .name = "wide: columns mirrored", .unit = "frame",
     .prepare = wide_columns_mirrored, .once = wide_draw, .units = one,
-    .beside = draw_each, .beside_what = "two narrow frames" },
+    .beside = draw_each, .beside_what = "two narrow frames",
+    DRAWN_BY(wide_draw_by_sse2, "SSE2 loop") },
   { .name = "wide: all lit", .unit = "frame", .prepare = wide_all_lit,
     .once = wide_draw, .units = one, .beside = draw_each,
-    .beside_what = "two narrow frames" },
+    .beside_what = "two narrow frames",
+    DRAWN_BY(wide_light_by_memset, "memset of the frame") },
   { .name = "wide: display off", .unit = "frame", .prepare = wide_display_off,
     .once = wide_draw, .units = one, .beside = draw_each,
-    .beside_what = "two narrow frames" },
+    .beside_what = "two narrow frames",
+    DRAWN_BY(wide_darken_by_memset, "memset of the frame") },
   { .name = "wide page", .unit = "page", .prepare = wide_idle,
-    .once = wide_pages, .units = singles },
+    .once = wide_pages, .units = singles,
+    LIMIT(copy_answers, "memcpy of 16 bytes") },
   { .name = "wide listing of letters", .unit = "text", .prepare = wide_drawn,
-    .once = wide_list, .units = one },
+    .once = wide_list, .units = one,
+    LIMIT(copy_wide_text, "memcpy of the text") },
 };
 
 const size_t workload_count = sizeof workloads / sizeof workloads[0];

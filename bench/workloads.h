@@ -1,6 +1,7 @@
 /*
 ** What is measured: frames in each drawing mode, events, pairs compared, and the
-** same of a wide terminal.
+** same of a wide terminal; and for each the limit, memcpy, memset, memcmp or the
+** SSE2 loop of the same bytes.
 */
 #ifndef WORKLOADS_H
 #define WORKLOADS_H
@@ -16,7 +17,9 @@ struct workload {
   void (*once)(const struct model *model);  /* the measured calls */
   size_t (*units)(void);                    /* how many units those are */
   bool compares;                            /* two frames or two memories */
-  void (*by_memcmp)(void);                  /* memcmp of the same, or null */
+  void (*limit)(void);                      /* what no model can be under */
+  const char *limit_what;                   /* what that is */
+  bool limit_leaves_same;                   /* it leaves what a model leaves */
   void (*beside)(const struct model *model); /* narrow calls to hold it beside,
                                              ** or null */
   const char *beside_what;                  /* what those are */

@@ -1,7 +1,8 @@
 /*
-** Starting, with both images as figures of documents 01 and 02; and the calls
-** that the oracle's stream has no cases for: the record at an offset, the
-** power state, and listing a frame on lengths and contents of every kind.
+** Starting, with both images as figures of documents 01 and 02; long records of
+** data, each byte of them; and the calls that the oracle's stream has no cases
+** for: the record at an offset, the power state, and listing a frame on lengths
+** and contents of every kind.
 */
 #include <stdbool.h>
 #include <stdint.h>
@@ -201,6 +202,125 @@ static void starting_and_resetting(void)
     start_anew(&starts[i], state, memory);
     CHECK(ssd1815b_reset(state, 23, memory, 1188) == 0);
     CHECK(memcmp(state, power_on, 23) == 0);
+  }
+}
+
+/* ---- long records of data ---- */
+
+/* Bytes of data in one record, more than two pages have; and the column that it
+** begins at. */
+enum { LONG = 300, FROM = 50 };
+
+/* A trace of one record of so many bytes. */
+static uint8_t long_trace[4 + LONG];
+
+static void put_record(uint8_t kind, const uint8_t *payload, size_t length)
+{
+  long_trace[0] = (uint8_t)(length % 256);
+  long_trace[1] = (uint8_t)(length / 256);
+  long_trace[2] = kind;
+  long_trace[3] = 0;
+  memcpy(long_trace + 4, payload, length);
+}
+
+/* The upright image at a page and column FROM. */
+static void image_at(uint8_t *state, uint8_t page, uint8_t modify,
+                     uint8_t fresh)
+{
+  memcpy(state, power_on, sizeof power_on);
+  state[SSD1815B_PAGE] = page;
+  state[SSD1815B_COLUMN] = FROM;
+  state[SSD1815B_READ_MODIFY_WRITE] = modify;
+  state[SSD1815B_FRESH] = fresh;
+}
+
+/* A record of reads of which that byte is not what is read, or with LONG none:
+** it is refused there, and the column is that of the byte.  With fresh 1 the
+** first byte is of the dummy read, and not as it is read. */
+static void read_long(const uint8_t *memory, const uint8_t *recorded,
+                      size_t wrong, uint8_t page, uint8_t modify, uint8_t fresh)
+{
+  uint8_t state[SSD1815B_STATE_SIZE];
+  uint8_t after[SSD1815B_STATE_SIZE];
+  uint8_t lent[SSD1815B_MEMORY_SIZE];
+  size_t offset;
+  size_t count;
+  image_at(state, page, modify, fresh);
+  image_at(after, page, modify, 0);
+  if (modify == 0) {
+    after[SSD1815B_COLUMN] = (uint8_t)((FROM + wrong - fresh) % 132);
+  }
+  memcpy(lent, memory, sizeof lent);
+  put_record(3, recorded, LONG);
+  if (wrong < LONG) {
+    long_trace[4 + wrong] ^= 0x01;
+  }
+  CHECK(ssd1815b_run(state, 23, lent, 1188, long_trace, sizeof long_trace,
+                     &offset, &count) == (wrong < LONG ? 10 : 0));
+  CHECK(offset == 4 + wrong);
+  CHECK(count == (wrong == LONG));
+  CHECK(memcmp(state, after, sizeof state) == 0);
+  CHECK(memcmp(lent, memory, sizeof lent) == 0);
+}
+
+/* Each byte of a record of reads in turn is the wrong one. */
+static void reads_differ(uint8_t page, uint8_t modify, uint8_t fresh)
+{
+  uint8_t memory[SSD1815B_MEMORY_SIZE];
+  uint8_t recorded[LONG];
+  for (size_t i = 0; i < sizeof memory; i++) {
+    memory[i] = random_byte();
+  }
+  for (size_t i = 0; i < LONG; i++) {
+    size_t column = modify == 1 ? FROM : (FROM + i - fresh) % 132;
+    recorded[i] = memory[132u * page + column] & (page == 8 ? 0x01 : 0xFF);
+  }
+  recorded[0] ^= fresh;
+  for (size_t wrong = fresh; wrong <= LONG; wrong++) {
+    read_long(memory, recorded, wrong, page, modify, fresh);
+  }
+}
+
+/* A record of so many bytes written: the last that comes to a column stays. */
+static void write_long(uint8_t page, size_t length)
+{
+  uint8_t state[SSD1815B_STATE_SIZE];
+  uint8_t after[SSD1815B_STATE_SIZE];
+  uint8_t memory[SSD1815B_MEMORY_SIZE];
+  uint8_t written[SSD1815B_MEMORY_SIZE];
+  uint8_t payload[LONG];
+  size_t offset;
+  size_t count;
+  image_at(state, page, 0, 0);
+  image_at(after, page, 0, length > 0);
+  after[SSD1815B_COLUMN] = (uint8_t)((FROM + length) % 132);
+  for (size_t i = 0; i < sizeof memory; i++) {
+    memory[i] = random_byte();
+    written[i] = memory[i];
+  }
+  for (size_t i = 0; i < length; i++) {
+    payload[i] = random_byte();
+    uint8_t kept = payload[i] & (page == 8 ? 0x01 : 0xFF);
+    written[132u * page + (FROM + i) % 132] = kept;
+  }
+  put_record(2, payload, length);
+  CHECK(ssd1815b_run(state, 23, memory, 1188, long_trace, 4 + length, &offset,
+                     &count) == 0);
+  CHECK(offset == 4 + length && count == 1);
+  CHECK(memcmp(state, after, sizeof state) == 0);
+  CHECK(memcmp(memory, written, sizeof memory) == 0);
+}
+
+static void long_records(void)
+{
+  for (uint8_t page = 0; page <= 8; page++) {
+    for (uint8_t modify = 0; modify <= 1; modify++) {
+      reads_differ(page, modify, 0);
+      reads_differ(page, modify, 1);
+    }
+    for (size_t length = 0; length <= LONG; length++) {
+      write_long(page, length);
+    }
   }
 }
 
@@ -470,6 +590,12 @@ static void listing_contents(void)
   frame[5 * 132 + 9] = 255;
   CHECK(list(10, 65535, frame, sizeof frame, SSD1815B_TEXT_SIZE, &length) == 0);
   CHECK(text_is("refused 10 at 65535\nframe 132 65\n5 7-9\nend\n", length));
+  for (unsigned byte = 1; byte <= 255; byte++) {
+    memset(frame, 0, sizeof frame);
+    frame[5 * 132 + 7] = (uint8_t)byte;
+    CHECK(list(0, 0, frame, sizeof frame, SSD1815B_TEXT_SIZE, &length) == 0);
+    CHECK(text_is("frame 132 65\n5 7-7\nend\n", length));
+  }
 }
 
 /*
@@ -503,6 +629,7 @@ int main(void)
   room_open(&memory_room, LONGEST_MEMORY);
   starting();
   starting_and_resetting();
+  long_records();
 
   room_open(&trace_room, 4 + 65535);
   room_open(&kind_room, sizeof(size_t));

@@ -153,9 +153,11 @@ static void halves(void)
     { 5, 3, 15, 0, 1, 0, 1, 1 }, { 9, 60, 14, 1, 1, 0, 1, 1 },
     { 0, 0, 15, 0, 0, 1, 0, 1 }, { 0, 0, 63, 0, 0, 1, 1, 1 },
     { 0, 0, 63, 0, 0, 0, 1, 0 }, { 0, 0, 63, 0, 0, 1, 0, 0 },
+    { 0, 7, 15, 0, 0, 1, 0, 1 },
   };
-  for (size_t i = 0; i < 8; i++) {
-    for (size_t j = 0; j < 8; j++) {
+  enum { SETTINGS = sizeof settings / sizeof settings[0] };
+  for (size_t i = 0; i < SETTINGS; i++) {
+    for (size_t j = 0; j < SETTINGS; j++) {
       struct chips chips = chips_at_power_on();
       set(chips.bytes[LEFT_STATE], &settings[i]);
       set(chips.bytes[RIGHT_STATE], &settings[j]);
