@@ -1,25 +1,15 @@
 -- For the code: what holds of the places passed.
 -- Assumes nothing.
-use Prim.Native.Nat.{ℕ, _+_, _≤_, _<_}
+use Prim.Native.Nat.{ℕ, _≤_, _<_}
 use mathlib.Core.Path.{_≡_, refl, sym, _∙_}
 use mathlib.Core.Bool.{Bool, true, false, cond}
 use mathlib.Core.List.{List}
 use native.Mathlib.Omega.{arith}
 use borrow.Author.Tests.{ltb-true, ltb-false}
 use lib.Dec.{ltb}
-use lib.Bits.{bitXor, xor-add-and, and-le-l, and-le-r}
 use lib.ListN.{length, getD, take}
 use lib.Seq.{length-take-le, getD-take, ext-getD}
-
--- what holds below x and at x holds below x + 1
-pub one-more : (P : ℕ → Type 0) (x : ℕ) → ((i : ℕ) → i < x → P i) → P x → (i : ℕ) → i < x + 1 → P i
-one-more P x below here i h = by (ltb i x) refl
-  where
-    by : (t : Bool) → ltb i x ≡ t → P i
-    by true e = below i (ltb-true i x e)
-    by false e =
-        let same : i ≡ x = omega (arith, h, ltb-false i x e) in
-        rw same here
+pub use Rattle.bus.proofs.SideBySide.{one-more, xor-zero}
 
 -- where the larger of two bytes is 0, both are
 pub larger-zero : (r a b : ℕ) → r ≡ cond (ltb a b) b a → r ≡ 0 → (a ≡ 0) × (b ≡ 0)
@@ -28,10 +18,6 @@ larger-zero r a b e z = by (ltb a b) refl e
     by : (t : Bool) → ltb a b ≡ t → r ≡ cond t b a → (a ≡ 0) × (b ≡ 0)
     by true d f = (omega (arith, z, f, ltb-true a b d), omega (arith, z, f))
     by false d f = (omega (arith, z, f), omega (arith, z, f, ltb-false a b d))
-
--- bytes that differ in no bit are one
-pub xor-zero : (a b : ℕ) → bitXor a b ≡ 0 → a ≡ b
-xor-zero a b e = omega (arith, e, xor-add-and a b, and-le-l a b, and-le-r a b)
 
 -- lists that are the same below n begin with the same n
 pub first-same : (n : ℕ) (f g : List ℕ) → n ≤ length f → n ≤ length g → ((i : ℕ) → i < n → getD f i 0 ≡ getD g i 0) → take n f ≡ take n g
