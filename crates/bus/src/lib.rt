@@ -4,6 +4,7 @@ pub mod calls;
 pub mod command;
 pub mod data;
 pub mod image;
+mod lent;
 pub mod registers;
 pub mod start;
 pub mod stretch;
