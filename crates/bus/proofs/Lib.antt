@@ -9,6 +9,8 @@ pub mod Asking
 pub mod ThereAndBack
 -- the image's order and the awaited codes, listed twice
 pub mod TablesAgree
+-- the ranges asked in pieces, some of them as one number
+pub mod Ranges
 -- 2. Events.
 -- what it says of registers and memory that a data write or read is taken
 pub mod Access
@@ -27,6 +29,10 @@ pub mod Kept
 pub mod Concluded
 -- a lent state that legal registers were stored in
 pub mod Stored
+-- what is asked first, by its tests, and what a data byte leaves of the registers
+pub mod AskedFirst
+-- bytes set in a lent image are the registers set
+pub mod InPlace
 -- what a call leaves as it was, and the one byte that a write changes
 pub mod Untouched
 -- the reply that a call gives, by number, byte and dummy mark
@@ -46,8 +52,6 @@ pub mod TheStart
 pub mod Replayed
 -- one event more, how many are taken, two stretches in a row
 pub mod StretchLaws
--- a command byte by itself is a stretch of one
-pub mod Alone
 -- 5. Pieces of data.
 -- bytes put and compared side by side
 pub mod SideBySide

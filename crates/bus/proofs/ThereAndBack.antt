@@ -14,11 +14,11 @@ use Rattle.bus.specs.ThereAndBack.{ThereAndBack}
 use Rattle.bus.specs.declared.registers.Registers.{Registers}
 
 -- n bytes of a list from place i, one by one
-abbrev bytesFrom : ℕ → ℕ → List ℕ → List ℕ
+abbrev pub bytesFrom : ℕ → ℕ → List ℕ → List ℕ
 bytesFrom zero i image = []
 bytesFrom (suc n) i image = getD image i 0 ∷ bytesFrom n (suc i) image
 
-bytes-rest : (n i : ℕ) (image : List ℕ) → i + n ≤ length image → bytesFrom n i image ++ drop (i + n) image ≡ drop i image
+pub bytes-rest : (n i : ℕ) (image : List ℕ) → i + n ≤ length image → bytesFrom n i image ++ drop (i + n) image ≡ drop i image
 bytes-rest zero i image h = rw (add-zero i)
 bytes-rest (suc n) i image h =
     rw (add-suc i n, drop-cons image i 0 (omega arith)) (ap (λ rest. getD image i 0 ∷ rest) (rw (suc-add i n) at (bytes-rest n (suc i) image (omega arith))))

@@ -1,15 +1,22 @@
 // The event calls, lent the state image and the display memory.
 ghost use mathlib.Core.Path.{_≡_};
-ghost use Rattle.bus.specs.Chip.{commandByte, dataWritten, dataRead, resetPulse};
-ghost use Rattle.bus.specs.Events.{command};
+ghost use Prim.Native.Nat.{_≤_};
+ghost use lib.ListN.{length};
+ghost use Rattle.constants.specs.Sizes.{imageSize};
+ghost use Rattle.bus.specs.Places.{column, fresh};
+ghost use Rattle.bus.specs.Registers.{registersOf, _with_≔_};
+ghost use Rattle.bus.specs.Chip.{commandByte, dataWritten, dataRead, resetPulse, Leaves};
 ghost use Rattle.bus.specs.Calls.{called, replyOf, stateAfter, call};
-use crate::answer::After;
 use crate::answer::Answer;
-use crate::image::Asked;
-use crate::image::ask;
+use crate::image::legal;
+use crate::image::load;
 use crate::image::short;
+use crate::lent::AWAITED;
+use crate::lent::COLUMN;
+use crate::lent::FRESH;
+use crate::lent::obey;
 use crate::registers::Registers;
-use crate::stretch::commands;
+use constants::refusal::OUT_OF_RANGE;
 use constants::refusal::TAKEN;
 use constants::refusal::TOO_SHORT;
 
@@ -24,47 +31,47 @@ pub struct Reply {
 pub fn command(state: &mut [u8], memory: &[u8], byte: u8) -> Reply
     ensures { λ r. ⌜ called r (now (state .exit)) (now (memory .entry)) ≡ call (commandByte byte) (now (state .entry)) (now (memory .entry)) ⌝ }
 {
-    match ask(state, memory) {
-        Asked::Found(registers) => conclude(alone(registers, byte), state),
-        Asked::Refused(number) => refuse(number),
+    if short(state, memory) {
+        return refuse(TOO_SHORT);
     }
-}
-
-// What a command byte answers: a stretch of one.
-fn alone(registers: Registers, byte: u8) -> Answer
-    ensures { λ r. ⌜ r ≡ command byte registers ⌝ }
-{
-    let bytes = [byte];
-    let stretch = commands(registers, &bytes);
-    let left = stretch.registers;
-    if stretch.number == TAKEN {
-        return Answer::Taken(After {
-            registers: left,
+    if legal(state) {
+        let named = codes::meaning_of(state[AWAITED], byte);
+        let answered = obey(state, named);
+        return Reply {
+            number: answered,
             byte: 0,
             dummy: false,
-        });
+        };
     }
-    Answer::Refused(stretch.number)
+    refuse(OUT_OF_RANGE)
 }
 
 // A data byte written.
 pub fn write(state: &mut [u8], memory: &mut [u8], byte: u8) -> Reply
     ensures { λ r. ⌜ called r (now (state .exit)) (now (memory .exit)) ≡ call (dataWritten byte) (now (state .entry)) (now (memory .entry)) ⌝ }
 {
-    match ask(state, memory) {
-        Asked::Found(registers) => conclude(registers.write(memory, byte), state),
-        Asked::Refused(number) => refuse(number),
+    if short(state, memory) {
+        return refuse(TOO_SHORT);
     }
+    if legal(state) {
+        let registers = load(state);
+        return conclude_data(registers.write(memory, byte), state);
+    }
+    refuse(OUT_OF_RANGE)
 }
 
 // A data byte read.
 pub fn read(state: &mut [u8], memory: &[u8]) -> Reply
     ensures { λ r. ⌜ called r (now (state .exit)) (now (memory .entry)) ≡ call dataRead (now (state .entry)) (now (memory .entry)) ⌝ }
 {
-    match ask(state, memory) {
-        Asked::Found(registers) => conclude(registers.read(memory), state),
-        Asked::Refused(number) => refuse(number),
+    if short(state, memory) {
+        return refuse(TOO_SHORT);
     }
+    if legal(state) {
+        let registers = load(state);
+        return conclude_data(registers.read(memory), state);
+    }
+    refuse(OUT_OF_RANGE)
 }
 
 // A pulse on the reset pin, which is asked for the lengths alone.
@@ -87,6 +94,26 @@ pub fn conclude(answer: Answer, state: &mut [u8]) -> Reply
         Answer::Taken(after) => {
             let registers = after.registers;
             registers.store(state);
+            Reply {
+                number: TAKEN,
+                byte: after.byte,
+                dummy: after.dummy,
+            }
+        }
+        Answer::Refused(number) => refuse(number),
+    }
+}
+
+// The same of a data byte written or read, which changes column and fresh alone: these two bytes are stored.
+fn conclude_data(answer: Answer, state: &mut [u8]) -> Reply
+    requires { ⌜ (imageSize ≤ length (now state)) × Leaves (λ left. left ≡ (registersOf (now state) with column ≔ left .column with fresh ≔ left .fresh)) answer ⌝ }
+    ensures { λ r. ⌜ (r ≡ replyOf answer) × (now (state .exit) ≡ stateAfter answer (now (state .entry))) ⌝ }
+{
+    match answer {
+        Answer::Taken(after) => {
+            let registers = after.registers;
+            state[COLUMN] = registers.column;
+            state[FRESH] = registers.fresh;
             Reply {
                 number: TAKEN,
                 byte: after.byte,

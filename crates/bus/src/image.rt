@@ -1,7 +1,7 @@
 // The image of the registers: its ranges, and the registers loaded from it and stored to it.
 ghost use mathlib.Core.Path.{_≡_};
-ghost use Prim.Native.Nat.{_≤_};
-ghost use lib.ListN.{length};
+ghost use Prim.Native.Nat.{_+_, _*_, _≤_};
+ghost use lib.ListN.{length, take, drop};
 ghost use Rattle.codes.specs.OneOf.{oneOf};
 ghost use Rattle.constants.specs.Sizes.{imageSize};
 ghost use Rattle.bus.specs.Registers.{imageOf, registersOf, largestValues};
@@ -18,39 +18,20 @@ pub enum Asked {
     Refused(u8),
 }
 
-// The places of which more is asked than a largest value: the awaited code, read-modify-write and the saved column.
+// The places that are asked by themselves: those that single events set, since the next call would wait for a wider load of them, and the quarter bias.
+const PAGE: usize = 0;
+
+const START: usize = 2;
+
+const QUARTER: usize = 9;
+
 const AWAITED: usize = 19;
 
 const MODIFY: usize = 20;
 
 const SAVED: usize = 21;
 
-// The largest value of each register, in the image's order.
-const LARGEST: [u8; IMAGE_SIZE] = [
-    8,
-    255,
-    63,
-    63,
-    63,
-    63,
-    7,
-    7,
-    1,
-    1,
-    255,
-    3,
-    1,
-    1,
-    1,
-    1,
-    1,
-    1,
-    3,
-    255,
-    1,
-    255,
-    1,
-];
+const FRESH: usize = 22;
 
 // Asks a lent state and memory first for their lengths and then for the state's ranges.
 pub fn ask(state: &[u8], memory: &[u8]) -> Asked
@@ -94,10 +75,10 @@ pub fn legal(image: &[u8]) -> bool
     }
     if within(image) {
         if awaitable(image[AWAITED]) {
-            if image[MODIFY] == 0 {
-                return image[SAVED] == 0;
+            if image[SAVED] == 0 {
+                return true;
             }
-            return true;
+            return image[MODIFY] != 0;
         }
     }
     false
@@ -108,23 +89,84 @@ fn within(image: &[u8]) -> bool
     requires { ⌜ imageSize ≤ length (now image) ⌝ }
     ensures { λ r. ⌜ r ≡ within largestValues (now (image .entry)) ⌝ }
 {
-    let largest = LARGEST;
-    let mut i = 0;
-    while i < IMAGE_SIZE {
-        if largest[i] < image[i] {
-            return false;
-        }
-        i += 1;
+    if 8 < image[PAGE] {
+        return false;
     }
-    true
+    if 63 < image[START] {
+        return false;
+    }
+    if 1 < image[QUARTER] {
+        return false;
+    }
+    if 1 < image[MODIFY] {
+        return false;
+    }
+    if 1 < image[FRESH] {
+        return false;
+    }
+    if offset_within(image) {
+        if power_within(image) {
+            return phases_within(image);
+        }
+    }
+    false
+}
+
+// The same of offset, multiplex, contrast and resistor ratio.
+fn offset_within(image: &[u8]) -> bool
+    requires { ⌜ imageSize ≤ length (now image) ⌝ }
+    ensures { λ r. ⌜ r ≡ within (take 4 (drop 3 largestValues)) (drop 3 (now (image .entry))) ⌝ }
+{
+    four(image[3], image[4], image[5], image[6]) & 0xF8C0_C0C0 == 0
+}
+
+// The same of power control and bias.
+fn power_within(image: &[u8]) -> bool
+    requires { ⌜ imageSize ≤ length (now image) ⌝ }
+    ensures { λ r. ⌜ r ≡ within (take 2 (drop 7 largestValues)) (drop 7 (now (image .entry))) ⌝ }
+{
+    two(image[7], image[8]) & 0xFEF8 == 0
+}
+
+// The same of the eight from the frame phases to the indicator mode.
+fn phases_within(image: &[u8]) -> bool
+    requires { ⌜ imageSize ≤ length (now image) ⌝ }
+    ensures { λ r. ⌜ r ≡ within (take 8 (drop 11 largestValues)) (drop 11 (now (image .entry))) ⌝ }
+{
+    let low = four(image[11], image[12], image[13], image[14]);
+    let high = four(image[15], image[16], image[17], image[18]);
+    (low + high * 0x1_0000_0000) & 0xFCFE_FEFE_FEFE_FEFC == 0
+}
+
+// Four bytes as one number, the first at its low end.
+fn four(first: u8, second: u8, third: u8, fourth: u8) -> u64
+    ensures { λ r. ⌜ r ≡ ((fourth * 256 + third) * 256 + second) * 256 + first ⌝ }
+{
+    two(first, second) + two(third, fourth) * 0x1_0000
+}
+
+// Two bytes as one number.
+fn two(first: u8, second: u8) -> u64
+    ensures { λ r. ⌜ r ≡ second * 256 + first ⌝ }
+{
+    wide(first) + wide(second) * 0x100
+}
+
+// A byte as a wide number.
+fn wide(byte: u8) -> u64
+    ensures { λ r. ⌜ r ≡ byte ⌝ }
+{
+    byte as u64
 }
 
 // Whether a code is one of the seven that can be awaited, 0 among them.
 fn awaitable(code: u8) -> bool
     ensures { λ r. ⌜ r ≡ oneOf awaitedCodes code ⌝ }
 {
+    if code < 0x81 {
+        return code == 0;
+    }
     match code {
-        0x00 => true,
         0x81 => true,
         0xA8 => true,
         0xA9 => true,
@@ -136,7 +178,7 @@ fn awaitable(code: u8) -> bool
 }
 
 // The registers of an image.
-fn load(image: &[u8]) -> Registers
+pub(crate) fn load(image: &[u8]) -> Registers
     requires { ⌜ imageSize ≤ length (now image) ⌝ }
     ensures { λ r. ⌜ r ≡ registersOf (now (image .entry)) ⌝ }
 {

@@ -4,6 +4,7 @@ pub mod calls;
 pub mod command;
 pub mod data;
 pub mod image;
+mod lent;
 mod pieces;
 mod put;
 pub mod registers;

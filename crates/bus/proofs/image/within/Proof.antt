@@ -1,80 +1,85 @@
--- `bus::image::within` meets its contract: what is left to compare decides.
+-- `bus::image::within` meets its contract: a byte or a piece out of its range decides, and the last piece where all others are in theirs.
 -- Assumes nothing.
+use mathlib.Core.Path.{refl, sym, _∙_}
+use denote.Ref.{now}
+use lib.Dec.{lit≤}
+use native.Mathlib.Omega.{arith}
+use Rattle.bus.specs.Registers.{largestValues}
+use Rattle.bus.proofs.Ranges.{one-outside, piece-outside, last-piece}
+use borrow.Author.Needs.{needs}
 use Rattle.bus.proofs.image.within.Statement.{statement}
 use Rattle.bus.proofs.image.within.Tie as tie
-use mathlib.Core.Path.{_≡_, _∙_, sym}
-use mathlib.Core.List.{List}
-use Prim.Native.Nat.{ℕ, _≤_, _<_, _+_, _-_}
-use native.Mathlib.Omega.{arith}
-use native.Mathlib.Numerals.{add-one}
-use mathlib.Core.Path.{refl}
-use mathlib.Core.Bool.{_&&_}
-use borrow.Author.Tests.{lt-leb, le-leb}
-use lib.Dec.{leb}
-use denote.Ref.{now}
-use lib.ListN.{length, getD, drop}
-use lib.Seq.{drop-cons}
-use Rattle.bus.specs.Image.{within}
-use Rattle.bus.specs.Registers.{largestValues}
 
--- one byte more is compared
-turn : (largest image : List ℕ) (i : ℕ) → i < length largest → i < length image → within (drop i largest) (drop i image) ≡ (leb (getD image i 0) (getD largest i 0) && within (drop (i + 1) largest) (drop (i + 1) image))
-unfolding within
-turn largest image i p q = rw (drop-cons largest i 0 p, drop-cons image i 0 q, add-one)
+shared-slice-read-if1 : tie.Need-shared-slice-read-if1
+shared-slice-read-if1 c = search needs
 
-abbrev Inv-loop : tie.InvT-loop
-Inv-loop image largest i₀ i = (i ≤ 23) × (within largestValues image ≡ within (drop i largestValues) (drop i image))
-
-abbrev μ-loop : tie.MeasureT-loop
-μ-loop image largest i₀ i = 23 - i
-
-loop-holds : tie.Need-loop-holds Inv-loop μ-loop
-loop-holds c = (omega arith, refl)
-
-array-read-if1 : tie.Need-array-read-if1 Inv-loop μ-loop
-array-read-if1 c = omega arith
-
-shared-slice-read-if1 : tie.Need-shared-slice-read-if1 Inv-loop μ-loop
-shared-slice-read-if1 c = omega arith
-
-returns : tie.Need-returns Inv-loop μ-loop
+returns : tie.Need-returns
 unfolding largestValues
-returns c =
-    let image = now (c .before .before .before .before .args .image) in
-    let i = c .before .before .before .loop .i in
-    sym (c .before .before .before .loop .inv .1 ∙ turn largestValues image i (omega arith) (omega arith) ∙ rw (lt-leb (getD image i 0) (getD largestValues i 0) (c .if1 .taken)))
+returns c = one-outside (now (c .before .before .before .args .image)) (c .before .before .before .pre) 0 8 refl (lit≤ tt) (c .if1 .taken)
 
-add-i : tie.Need-add-i Inv-loop μ-loop
-add-i c = omega arith
+shared-slice-read-if2 : tie.Need-shared-slice-read-if2
+shared-slice-read-if2 c = search needs
 
-loop-less : tie.Need-loop-less Inv-loop μ-loop
-loop-less c = omega arith
-
-loop-again : tie.Need-loop-again Inv-loop μ-loop
+returns-2 : tie.Need-returns-2
 unfolding largestValues
-loop-again c =
-    let image = now (c .before .before .before .before .args .image) in
-    let i = c .before .before .before .loop .i in
-    (omega arith, c .before .before .before .loop .inv .1 ∙ turn largestValues image i (omega arith) (omega arith) ∙ rw (le-leb (getD image i 0) (getD largestValues i 0) (c .if1 .left)))
+returns-2 c = one-outside (now (c .before .before .before .before .before .args .image)) (c .before .before .before .before .before .pre) 2 63 refl (lit≤ tt) (c .if2 .taken)
 
-returns-2 : tie.Need-returns-2 Inv-loop μ-loop
-unfolding largestValues within
-returns-2 c =
-    let i = c .before .loop .i in
-    let e : i ≡ 23 = omega arith in
-    sym (c .before .loop .inv .1 ∙ rw e)
+shared-slice-read-if3 : tie.Need-shared-slice-read-if3
+shared-slice-read-if3 c = search needs
+
+returns-3 : tie.Need-returns-3
+unfolding largestValues
+returns-3 c = one-outside (now (c .before .before .before .before .before .before .before .args .image)) (c .before .before .before .before .before .before .before .pre) 9 1 refl (lit≤ tt) (c .if3 .taken)
+
+shared-slice-read-if4 : tie.Need-shared-slice-read-if4
+shared-slice-read-if4 c = search needs
+
+returns-4 : tie.Need-returns-4
+unfolding largestValues
+returns-4 c = one-outside (now (c .before .before .before .before .before .before .before .before .before .args .image)) (c .before .before .before .before .before .before .before .before .before .pre) 20 1 refl (lit≤ tt) (c .if4 .taken)
+
+shared-slice-read-if5 : tie.Need-shared-slice-read-if5
+shared-slice-read-if5 c = search needs
+
+returns-5 : tie.Need-returns-5
+unfolding largestValues
+returns-5 c = one-outside (now (c .before .before .before .before .before .before .before .before .before .before .before .args .image)) (c .before .before .before .before .before .before .before .before .before .before .before .pre) 22 1 refl (lit≤ tt) (c .if5 .taken)
+
+offset-within-requires : tie.Need-offset-within-requires
+offset-within-requires c κs = search needs
+
+power-within-requires : tie.Need-power-within-requires
+power-within-requires c κs = search needs
+
+phases-within-requires : tie.Need-phases-within-requires
+phases-within-requires c κs = search needs
+
+returns-6 : tie.Need-returns-6
+returns-6 c = c .phases-within .ensures ∙ last-piece (now (c .before .before .before .before .before .before .before .before .before .before .before .before .before .before .before .before .args .image)) (c .before .before .before .before .before .before .before .before .before .before .before .before .before .before .before .before .pre) (λ i. omega (arith, c .before .before .before .before .before .before .shared-slice-known6 .given i)) (c .before .before .before .before .before .before .before .before .before .before .before .before .before .if1 .left) (c .before .before .before .before .before .before .before .before .before .before .before .if2 .left) (c .before .before .before .before .before .before .before .before .before .if3 .left) (c .before .before .before .before .before .before .before .if4 .left) (c .before .before .before .before .before .if5 .left) (sym (c .before .before .before .before .offset-within .ensures) ∙ c .before .before .before .if6 .taken) (sym (c .before .before .power-within .ensures) ∙ c .before .if7 .taken)
+
+returns-7 : tie.Need-returns-7
+returns-7 c = piece-outside (now (c .before .before .before .before .before .before .before .before .before .before .before .before .before .before .before .args .image)) (c .before .before .before .before .before .before .before .before .before .before .before .before .before .before .before .pre) 7 2 (lit≤ tt) (sym (c .before .power-within .ensures) ∙ c .if7 .left)
+
+returns-8 : tie.Need-returns-8
+returns-8 c = piece-outside (now (c .before .before .before .before .before .before .before .before .before .before .before .before .before .args .image)) (c .before .before .before .before .before .before .before .before .before .before .before .before .before .pre) 3 4 (lit≤ tt) (sym (c .before .offset-within .ensures) ∙ c .if6 .left)
 
 pub within-spec : {M : Type 1} → statement M
 within-spec =
     tie.close
     (tie.spec
-    Inv-loop
-    μ-loop
-    loop-holds
-    array-read-if1
     shared-slice-read-if1
     returns
-    add-i
-    loop-less
-    loop-again
-    returns-2)
+    shared-slice-read-if2
+    returns-2
+    shared-slice-read-if3
+    returns-3
+    shared-slice-read-if4
+    returns-4
+    shared-slice-read-if5
+    returns-5
+    offset-within-requires
+    power-within-requires
+    phases-within-requires
+    returns-6
+    returns-7
+    returns-8)

@@ -1,0 +1,170 @@
+// Commands obeyed in a lent image itself: only the bytes of the registers that a command sets are stored. A call has asked before that the image is long enough.
+ghost use mathlib.Core.Path.{_≡_};
+ghost use Prim.Native.Nat.{_≤_, _<_};
+ghost use lib.ListN.{length};
+ghost use Rattle.codes.specs.Values.{CommandInRange};
+ghost use Rattle.constants.specs.Sizes.{imageSize};
+ghost use Rattle.constants.specs.Numbers.{taken};
+ghost use Rattle.bus.specs.Registers.{registersOf, _with_≔_};
+ghost use Rattle.bus.specs.Places as places;
+ghost use Rattle.bus.specs.Image.{stored};
+ghost use Rattle.bus.specs.Events.{obeyed, numberOf, enter, leave, softwareReset};
+ghost use Rattle.bus.specs.Calls.{stateAfter};
+use codes::Command;
+use constants::refusal::NO_PAGE;
+use constants::refusal::NOT_ALLOWED;
+use constants::refusal::OUT_OF_RANGE;
+use constants::refusal::OUTSIDE_TABLE;
+use constants::refusal::TAKEN;
+use constants::refusal::TEST_MODE;
+
+// The places of the registers in the image.
+const PAGE: usize = 0;
+
+pub(crate) const COLUMN: usize = 1;
+
+const START: usize = 2;
+
+const OFFSET: usize = 3;
+
+const MULTIPLEX: usize = 4;
+
+const CONTRAST: usize = 5;
+
+const RATIO: usize = 6;
+
+const POWER: usize = 7;
+
+const BIAS: usize = 8;
+
+const QUARTER: usize = 9;
+
+const HELD: usize = 10;
+
+const PHASES: usize = 11;
+
+const COLUMN_DIRECTION: usize = 12;
+
+const ROW_DIRECTION: usize = 13;
+
+const ENTIRE: usize = 14;
+
+const REVERSE: usize = 15;
+
+const ON: usize = 16;
+
+const INDICATOR: usize = 17;
+
+const MODE: usize = 18;
+
+pub(crate) const AWAITED: usize = 19;
+
+const MODIFY: usize = 20;
+
+const SAVED: usize = 21;
+
+pub(crate) const FRESH: usize = 22;
+
+// Obeys a command, as `Registers::obey` does, and says its number.
+pub(crate) fn obey(state: &mut [u8], named: Command) -> u8
+    requires { ⌜ (imageSize ≤ length (now state)) × CommandInRange named ⌝ }
+    ensures { λ r. ⌜ (r ≡ numberOf (obeyed named (registersOf (now (state .entry)) with places.awaited ≔ 0))) × (now (state .exit) ≡ stateAfter (obeyed named (registersOf (now (state .entry)) with places.awaited ≔ 0)) (now (state .entry))) ⌝ }
+{
+    let column = state[COLUMN];
+    match named {
+        Command::ColumnLow(low) => set(state, COLUMN, column / 16 * 16 + low),
+        Command::ColumnHigh(high) => set(state, COLUMN, high * 16 + column % 16),
+        Command::ResistorRatio(ratio) => set(state, RATIO, ratio),
+        Command::PowerControl(power) => set(state, POWER, power),
+        Command::StartLine(line) => set(state, START, line),
+        Command::Contrast(contrast) => set(state, CONTRAST, contrast),
+        Command::ColumnDirection(direction) => set(state, COLUMN_DIRECTION, direction),
+        Command::Bias(bias) => set(state, BIAS, bias),
+        Command::EntireOn(entire) => set(state, ENTIRE, entire),
+        Command::Reverse(reverse) => set(state, REVERSE, reverse),
+        Command::Multiplex(multiplex) => set(state, MULTIPLEX, multiplex),
+        Command::HeldByte(byte) => set(state, HELD, byte),
+        Command::QuarterBias(bias) => set(state, QUARTER, bias),
+        Command::IndicatorOff => indicate(state, 0, 0),
+        Command::IndicatorMode(mode) => indicate(state, 1, mode),
+        Command::DisplayOn(on) => set(state, ON, on),
+        Command::Page(page) => set(state, PAGE, page),
+        Command::NoPage => NO_PAGE,
+        Command::RowDirection(direction) => set(state, ROW_DIRECTION, direction),
+        Command::Offset(offset) => set(state, OFFSET, offset),
+        Command::FramePhases(phases) => set(state, PHASES, phases),
+        Command::EnterReadModifyWrite => enter(state),
+        Command::SoftwareReset => software_reset(state),
+        Command::Nothing => set(state, AWAITED, 0),
+        Command::LeaveReadModifyWrite => leave(state),
+        Command::Await(code) => set(state, AWAITED, code),
+        Command::NotAllowed => NOT_ALLOWED,
+        Command::NotAwaited => OUT_OF_RANGE,
+        Command::TestMode => TEST_MODE,
+        Command::Outside => OUTSIDE_TABLE,
+    }
+}
+
+// Sets one register, and what every command taken sets: no code is awaited, unless that is the register, and fresh is 1.
+fn set(state: &mut [u8], place: usize, value: u8) -> u8
+    requires { ⌜ (imageSize ≤ length (now state)) × (place < imageSize) ⌝ }
+    ensures { λ r. ⌜ (r ≡ taken) × (now (state .exit) ≡ stored (registersOf (now (state .entry)) with places.awaited ≔ 0 with place ≔ value with places.fresh ≔ 1) (now (state .entry))) ⌝ }
+{
+    state[AWAITED] = 0;
+    state[place] = value;
+    state[FRESH] = 1;
+    TAKEN
+}
+
+// AC and AD: the indicator off or on, and its mode.
+fn indicate(state: &mut [u8], indicator: u8, mode: u8) -> u8
+    requires { ⌜ imageSize ≤ length (now state) ⌝ }
+    ensures { λ r. ⌜ (r ≡ taken) × (now (state .exit) ≡ stored (registersOf (now (state .entry)) with places.awaited ≔ 0 with places.indicator ≔ indicator with places.mode ≔ mode with places.fresh ≔ 1) (now (state .entry))) ⌝ }
+{
+    state[INDICATOR] = indicator;
+    set(state, MODE, mode)
+}
+
+// E0: read-modify-write is entered and the column saved, unless it is entered already.
+fn enter(state: &mut [u8]) -> u8
+    requires { ⌜ imageSize ≤ length (now state) ⌝ }
+    ensures { λ r. ⌜ (r ≡ taken) × (now (state .exit) ≡ stored (enter (registersOf (now (state .entry)) with places.awaited ≔ 0) with places.fresh ≔ 1) (now (state .entry))) ⌝ }
+{
+    if state[MODIFY] == 1 {
+        return set(state, AWAITED, 0);
+    }
+    let column = state[COLUMN];
+    state[MODIFY] = 1;
+    set(state, SAVED, column)
+}
+
+// EE: read-modify-write is left and the column put back, unless it is left already.
+fn leave(state: &mut [u8]) -> u8
+    requires { ⌜ imageSize ≤ length (now state) ⌝ }
+    ensures { λ r. ⌜ (r ≡ taken) × (now (state .exit) ≡ stored (leave (registersOf (now (state .entry)) with places.awaited ≔ 0) with places.fresh ≔ 1) (now (state .entry))) ⌝ }
+{
+    if state[MODIFY] == 1 {
+        let saved = state[SAVED];
+        state[MODIFY] = 0;
+        state[COLUMN] = saved;
+        return set(state, SAVED, 0);
+    }
+    set(state, AWAITED, 0)
+}
+
+// E2: the registers that a software reset sets.
+fn software_reset(state: &mut [u8]) -> u8
+    requires { ⌜ imageSize ≤ length (now state) ⌝ }
+    ensures { λ r. ⌜ (r ≡ taken) × (now (state .exit) ≡ stored (softwareReset (registersOf (now (state .entry)) with places.awaited ≔ 0) with places.fresh ≔ 1) (now (state .entry))) ⌝ }
+{
+    state[PAGE] = 0;
+    state[COLUMN] = 0;
+    state[START] = 0;
+    state[ROW_DIRECTION] = 0;
+    state[RATIO] = 4;
+    state[CONTRAST] = 32;
+    state[INDICATOR] = 0;
+    state[MODE] = 0;
+    state[MODIFY] = 0;
+    set(state, SAVED, 0)
+}
