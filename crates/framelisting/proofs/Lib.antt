@@ -18,3 +18,5 @@ pub mod EqualListings
 pub mod Samples
 -- What each call states has one result.
 pub mod Settled
+-- numbers of up to three digits
+pub mod SmallNumbers

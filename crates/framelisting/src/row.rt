@@ -1,12 +1,17 @@
 // A row of the frame as a line of text.
 ghost use mathlib.Core.Path.{_≡_};
-ghost use Prim.Native.Nat.{_+_, _≤_};
+ghost use Prim.Native.Nat.{_+_, _≤_, _<_};
 ghost use lib.ListN.{length, drop};
 ghost use Rattle.framelisting.specs.Put.{Countable, Put};
 ghost use Rattle.framelisting.specs.Runs.{anyLit, leading, runs};
 ghost use Rattle.framelisting.specs.Text.{runText, runsText, line};
 use crate::text::put;
+use crate::text::put_inside;
 use crate::text::put_number;
+use crate::text::put_small;
+
+// The bytes of a run whose places have three digits.
+const RUN_ROOM: usize = 8;
 
 // Puts the line of row p; a row with no lit place has none.
 pub fn put_line(text: &mut [u8], at: usize, p: usize, row: &[u8]) -> usize
@@ -74,8 +79,28 @@ fn put_run(text: &mut [u8], at: usize, first: usize, last: usize) -> usize
     requires { ⌜ Countable at (runText (record { first = first; last = last })) ⌝ }
     ensures { λ r. ⌜ Put (now (text .entry)) at (runText (record { first = first; last = last })) r (now (text .exit)) ⌝ }
 {
+    if last < 1000 {
+        if first <= last {
+            if at < text.len() {
+                if RUN_ROOM <= text.len() - at {
+                    return put_small_run(text, at, first, last);
+                }
+            }
+        }
+    }
     let next = put(text, at, b' ');
     let next = put_number(text, next, first);
     let next = put(text, next, b'-');
     put_number(text, next, last)
+}
+
+// Puts a run of places of up to three digits where the buffer has room for it.
+fn put_small_run(text: &mut [u8], at: usize, first: usize, last: usize) -> usize
+    requires { ⌜ (first < 1000) × (last < 1000) × (at + 8 ≤ length (now text)) ⌝ }
+    ensures { λ r. ⌜ Put (now (text .entry)) at (runText (record { first = first; last = last })) r (now (text .exit)) ⌝ }
+{
+    let next = put_inside(text, at, b' ');
+    let next = put_small(text, next, first);
+    let next = put_inside(text, next, b'-');
+    put_small(text, next, last)
 }

@@ -1,37 +1,52 @@
--- `framelisting::row::put_run` meets its contract: four pieces one after the other.
+-- `framelisting::row::put_run` meets its contract: at once, or four pieces one after the other.
 -- Assumes nothing.
 use borrow.Author.Needs.{needs}
-use Rattle.framelisting.proofs.row.put_run.Statement.{statement}
-use Rattle.framelisting.proofs.row.put_run.Tie as tie
-use Prim.Native.Nat.{ℕ}
 use native.Mathlib.Omega.{arith}
 use Rattle.framelisting.specs.Ascii.{ascii}
-use Rattle.framelisting.specs.Runs.{Run}
 use Rattle.framelisting.specs.Text.{runText}
 use Rattle.framelisting.proofs.PutPieces.{after}
 use Rattle.framelisting.proofs.LengthsOfText.{run-length}
+use Rattle.framelisting.proofs.row.put_run.Statement.{statement}
+use Rattle.framelisting.proofs.row.put_run.Tie as tie
 
-abbrev run : ℕ → ℕ → Run
-run a b = record { first = a; last = b }
+sub-if4 : tie.Need-sub-if4
+sub-if4 c = search needs
 
-put-requires : tie.Need-put-requires
-put-requires c κs = omega (arith, run-length (run (c .before .before .args .first) (c .before .before .args .last)))
-
-put-number-requires : tie.Need-put-number-requires
-put-number-requires c κs = omega (arith, run-length (run (c .before .before .before .before .before .before .args .first) (c .before .before .before .before .before .before .args .last)))
-
-put-requires-2 : tie.Need-put-requires-2
-put-requires-2 c κs = omega (arith, run-length (run (c .before .before .before .before .before .before .before .before .before .before .args .first) (c .before .before .before .before .before .before .before .before .before .before .args .last)))
-
-put-number-requires-2 : tie.Need-put-number-requires-2
-put-number-requires-2 c κs = omega (arith, run-length (run (c .before .before .before .before .before .before .before .before .before .before .before .before .before .before .args .first) (c .before .before .before .before .before .before .before .before .before .before .before .before .before .before .args .last)))
+put-small-run-requires : tie.Need-put-small-run-requires
+put-small-run-requires c κs = search needs
 
 same-length : tie.Need-same-length
 same-length c = search needs
 
 returns : tie.Need-returns
+returns c = search needs
+
+put-requires : tie.Need-put-requires
+put-requires c κs =
+    let a = c .before .before .before .args in
+    omega (arith, run-length (record { first = a .first; last = a .last }))
+
+put-number-requires : tie.Need-put-number-requires
+put-number-requires c κs =
+    let a = c .before .before .before .before .before .before .before .args in
+    omega (arith, run-length (record { first = a .first; last = a .last }))
+
+put-requires-2 : tie.Need-put-requires-2
+put-requires-2 c κs =
+    let a = c .before .before .before .before .before .before .before .before .before .before .before .args in
+    omega (arith, run-length (record { first = a .first; last = a .last }))
+
+put-number-requires-2 : tie.Need-put-number-requires-2
+put-number-requires-2 c κs =
+    let a = c .before .before .before .before .before .before .before .before .before .before .before .before .before .before .before .args in
+    omega (arith, run-length (record { first = a .first; last = a .last }))
+
+same-length-2 : tie.Need-same-length-2
+same-length-2 c = search needs
+
+returns-2 : tie.Need-returns-2
 unfolding runText ascii
-returns c =
+returns-2 c =
     let last = c .before .before in
     let dash = last .before .before .before .before in
     let first = dash .before .before .before .before in
@@ -42,9 +57,13 @@ pub put-run-spec : {M : Type 1} → statement M
 put-run-spec =
     tie.close
     (tie.spec
+    sub-if4
+    put-small-run-requires
+    same-length
+    returns
     put-requires
     put-number-requires
     put-requires-2
     put-number-requires-2
-    same-length
-    returns)
+    same-length-2
+    returns-2)
