@@ -46,7 +46,7 @@ pub fn commands(mut registers: Registers, bytes: &[u8]) -> Stretch
 }
 
 // Data bytes written: awaited code, column and page are asked once, since a write that is taken leaves the next as allowed as it was.
-pub fn writes(registers: Registers, memory: &mut [u8], bytes: &[u8]) -> Stretch
+pub fn writes(mut registers: Registers, memory: &mut [u8], bytes: &[u8]) -> Stretch
     ensures { λ r. ⌜ stretchOf r (now (memory .exit)) ≡ stretch replay (map recordedWrite (now (bytes .entry))) (chipOf registers (now (memory .entry))) ⌝ }
 {
     if bytes.len() == 0 {
@@ -55,17 +55,17 @@ pub fn writes(registers: Registers, memory: &mut [u8], bytes: &[u8]) -> Stretch
     let number = registers.access(memory.len());
     if number == TAKEN {
         if bytes.len() <= WIDTH - (registers.column as usize) {
-            let left = write_piece(registers, memory, bytes);
-            return halted(TAKEN, bytes.len(), left);
+            registers = write_piece(registers, memory, bytes);
+            return halted(TAKEN, bytes.len(), registers);
         }
-        let left = write_round(registers, memory, bytes);
-        return halted(TAKEN, bytes.len(), left);
+        registers = write_round(registers, memory, bytes);
+        return halted(TAKEN, bytes.len(), registers);
     }
     halted(number, 0, registers)
 }
 
 // Data bytes read, compared with the bytes that the firmware read: pieces that are the same are passed over, and the rest is read one by one.
-pub fn reads(registers: Registers, memory: &[u8], bytes: &[u8]) -> Stretch
+pub fn reads(mut registers: Registers, memory: &[u8], bytes: &[u8]) -> Stretch
     ensures { λ r. ⌜ stretchOf r (now (memory .entry)) ≡ stretch replay (map readAs (now (bytes .entry))) (chipOf registers (now (memory .entry))) ⌝ }
 {
     let passed = pass(registers, memory, bytes);
