@@ -1,7 +1,7 @@
 // Commands obeyed in a lent image itself: only the bytes of the registers that a command sets are stored. A call has asked before that the image is long enough.
 ghost use mathlib.Core.Path.{_≡_};
-ghost use Prim.Native.Nat.{_≤_, _<_};
-ghost use lib.ListN.{length};
+ghost use Prim.Native.Nat.{_+_, _*_, _/_, _%_, _≤_, _<_};
+ghost use lib.ListN.{length, getD};
 ghost use Rattle.codes.specs.Values.{CommandInRange};
 ghost use Rattle.constants.specs.Sizes.{imageSize};
 ghost use Rattle.constants.specs.Numbers.{taken};
@@ -70,10 +70,9 @@ pub(crate) fn obey(state: &mut [u8], named: Command) -> u8
     requires { ⌜ (imageSize ≤ length (now state)) × CommandInRange named ⌝ }
     ensures { λ r. ⌜ (r ≡ numberOf (obeyed named (registersOf (now (state .entry)) with places.awaited ≔ 0))) × (now (state .exit) ≡ stateAfter (obeyed named (registersOf (now (state .entry)) with places.awaited ≔ 0)) (now (state .entry))) ⌝ }
 {
-    let column = state[COLUMN];
     match named {
-        Command::ColumnLow(low) => set(state, COLUMN, column / 16 * 16 + low),
-        Command::ColumnHigh(high) => set(state, COLUMN, high * 16 + column % 16),
+        Command::ColumnLow(low) => set_low(state, low),
+        Command::ColumnHigh(high) => set_high(state, high),
         Command::ResistorRatio(ratio) => set(state, RATIO, ratio),
         Command::PowerControl(power) => set(state, POWER, power),
         Command::StartLine(line) => set(state, START, line),
@@ -114,6 +113,24 @@ fn set(state: &mut [u8], place: usize, value: u8) -> u8
     state[place] = value;
     state[FRESH] = 1;
     TAKEN
+}
+
+// 00 to 0F: the low half of the column.
+fn set_low(state: &mut [u8], low: u8) -> u8
+    requires { ⌜ (imageSize ≤ length (now state)) × (low < 16) ⌝ }
+    ensures { λ r. ⌜ (r ≡ taken) × (now (state .exit) ≡ stored (registersOf (now (state .entry)) with places.awaited ≔ 0 with places.column ≔ getD (now (state .entry)) places.column 0 / 16 * 16 + low with places.fresh ≔ 1) (now (state .entry))) ⌝ }
+{
+    let column = state[COLUMN];
+    set(state, COLUMN, column / 16 * 16 + low)
+}
+
+// 10 to 1F: the high half of the column.
+fn set_high(state: &mut [u8], high: u8) -> u8
+    requires { ⌜ (imageSize ≤ length (now state)) × (high < 16) ⌝ }
+    ensures { λ r. ⌜ (r ≡ taken) × (now (state .exit) ≡ stored (registersOf (now (state .entry)) with places.awaited ≔ 0 with places.column ≔ high * 16 + getD (now (state .entry)) places.column 0 % 16 with places.fresh ≔ 1) (now (state .entry))) ⌝ }
+{
+    let column = state[COLUMN];
+    set(state, COLUMN, high * 16 + column % 16)
 }
 
 // AC and AD: the indicator off or on, and its mode.
