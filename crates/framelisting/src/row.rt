@@ -1,6 +1,6 @@
 // A row of the frame as a line of text.
 ghost use mathlib.Core.Path.{_≡_};
-ghost use Prim.Native.Nat.{_+_, _≤_, _<_};
+ghost use Prim.Native.Nat.{_+_, _^_, _≤_, _<_};
 ghost use lib.ListN.{length, drop};
 ghost use Rattle.framelisting.specs.Put.{Countable, Put};
 ghost use Rattle.framelisting.specs.Runs.{anyLit, leading, runs};
@@ -15,6 +15,7 @@ const RUN_ROOM: usize = 8;
 
 // Puts the line of row p; a row with no lit place has none.
 pub fn put_line(text: &mut [u8], at: usize, p: usize, row: &[u8]) -> usize
+    requires { ⌜ length (now row) + 1 < 2 ^ 64 ⌝ }
     requires { ⌜ Countable at (line p (now row)) ⌝ }
     ensures { λ r. ⌜ Put (now (text .entry)) at (line p (now (row .entry))) r (now (text .exit)) ⌝ }
 {
@@ -30,18 +31,21 @@ pub fn put_line(text: &mut [u8], at: usize, p: usize, row: &[u8]) -> usize
 fn any_lit(row: &[u8]) -> bool
     ensures { λ r. ⌜ r ≡ anyLit (now (row .entry)) ⌝ }
 {
+    let mut seen = 0;
     let mut x = 0;
     while x < row.len() {
-        if row[x] != 0 {
-            return true;
-        }
+        seen |= row[x];
         x += 1;
     }
-    false
+    if seen == 0 {
+        return false;
+    }
+    true
 }
 
-// Puts the runs of a row, left to right.
+// Puts the runs of a row, left to right. The place after a run is dark, and is passed over with it.
 fn put_runs(text: &mut [u8], at: usize, row: &[u8]) -> usize
+    requires { ⌜ length (now row) + 1 < 2 ^ 64 ⌝ }
     requires { ⌜ Countable at (runsText (runs (now row))) ⌝ }
     ensures { λ r. ⌜ Put (now (text .entry)) at (runsText (runs (now (row .entry)))) r (now (text .exit)) ⌝ }
 {
@@ -53,7 +57,7 @@ fn put_runs(text: &mut [u8], at: usize, row: &[u8]) -> usize
         } else {
             let end = run_end(row, x + 1);
             next = put_run(text, next, x, end - 1);
-            x = end;
+            x = end + 1;
         }
     }
     next

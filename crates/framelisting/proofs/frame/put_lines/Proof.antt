@@ -9,7 +9,7 @@ use native.Mathlib.Nat.{suc-mul, mul-le-mul-right}
 use native.Mathlib.Numerals.{add-one}
 use native.Mathlib.Omega.{arith}
 use denote.Ref.{now}
-use lib.ListN.{take, drop}
+use lib.ListN.{take, drop, length-take, length-drop}
 use Rattle.constants.specs.Sizes.{frameRows}
 use Rattle.framelisting.specs.Put.{Countable}
 use Rattle.framelisting.specs.Text.{line, rowOf, lines}
@@ -64,7 +64,7 @@ put-line-requires c κs =
     let frame = now (start .args .frame) in
     let w = start .args .width in
     let p = at .loop .p in
-    subst⁻¹ (λ row. Countable (at .loop .next) (line p row)) (part w frame p) (room (at .loop .next) (line p (rowOf w frame p)) _ (rw (lines-on w frame frameRows p (c .before .before .loop-test .taken)) at (room-left (at .loop .inv .1) (start .pre .1))))
+    (rw (length-take, length-drop) (omega arith), subst⁻¹ (λ row. Countable (at .loop .next) (line p row)) (part w frame p) (room (at .loop .next) (line p (rowOf w frame p)) _ (rw (lines-on w frame frameRows p (c .before .before .loop-test .taken)) at (room-left (at .loop .inv .1) (start .pre .1)))))
 
 add-p : tie.Need-add-p Inv-loop μ-loop
 add-p c = omega arith

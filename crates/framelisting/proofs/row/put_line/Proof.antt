@@ -24,7 +24,7 @@ put-runs-requires : tie.Need-put-runs-requires
 put-runs-requires c κs =
     let test = c .before .before .before .before .before in
     let start = test .before .before .before .before in
-    omega (arith, line-length (start .args .p) (now (start .args .row)) (sym (test .before .any-lit .ensures) ∙ test .if1 .taken))
+    (start .pre .0, omega (arith, line-length (start .args .p) (now (start .args .row)) (sym (test .before .any-lit .ensures) ∙ test .if1 .taken)))
 
 put-requires : tie.Need-put-requires
 put-requires c κs =

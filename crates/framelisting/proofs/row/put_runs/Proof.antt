@@ -2,20 +2,20 @@
 -- Assumes nothing.
 use Rattle.framelisting.proofs.row.put_runs.Statement.{statement}
 use Rattle.framelisting.proofs.row.put_runs.Tie as tie
-use Prim.Native.Nat.{_≤_, _-_}
+use Prim.Native.Nat.{_+_, _≤_, _-_}
 use native.Mathlib.Omega.{arith}
 use denote.Ref.{now}
 use lib.ListN.{length, drop}
 use Rattle.framelisting.specs.Runs.{runs, runsFrom}
 use Rattle.framelisting.specs.Text.{runText, runsText}
 use Rattle.framelisting.proofs.PutPieces.{Rest, begin, turn, done, room, room-left, rest-length}
-use Rattle.framelisting.proofs.AlongRow.{runs-on, runs-end, run-text, run-within}
+use Rattle.framelisting.proofs.AlongRow.{runs-on, runs-end, run-text, run-text-on, run-within}
 
 abbrev Inv-loop : tie.InvT-loop
-Inv-loop text₀ at row next₀ x₀ text next x = (x ≤ length row) × Rest text₀ at (runsText (runs row)) text next (runsText (runsFrom x 0 (drop x row)))
+Inv-loop text₀ at row next₀ x₀ text next x = (x ≤ length row + 1) × Rest text₀ at (runsText (runs row)) text next (runsText (runsFrom x 0 (drop x row)))
 
 abbrev μ-loop : tie.MeasureT-loop
-μ-loop text₀ at row next₀ x₀ text next x = length row - x
+μ-loop text₀ at row next₀ x₀ text next x = length row + 1 - x
 
 loop-holds : tie.Need-loop-holds Inv-loop μ-loop
 unfolding runs
@@ -49,7 +49,14 @@ put-run-requires c κs =
     let test = c .before .before in
     let at = test .before .before .before in
     let start = at .before .before .before in
-    room (at .loop .next) (runText (record { first = at .loop .x; last = c .before .run-end .result - 1 })) _ (rw (run-text (now (start .args .row)) (at .loop .x) (c .before .run-end .result) (test .before .before .loop-test .taken) (test .if1 .left) (c .before .run-end .ensures)) at (room-left (at .loop .inv .1) (start .pre)))
+    room (at .loop .next) (runText (record { first = at .loop .x; last = c .before .run-end .result - 1 })) _ (rw (run-text (now (start .args .row)) (at .loop .x) (c .before .run-end .result) (test .before .before .loop-test .taken) (test .if1 .left) (c .before .run-end .ensures)) at (room-left (at .loop .inv .1) (start .pre .1)))
+
+add-x-2 : tie.Need-add-x-2 Inv-loop μ-loop
+add-x-2 c =
+    let end = c .before .before .before .before in
+    let at = end .before .before .before .before in
+    let start = at .before .before .before in
+    omega (arith, start .pre .0, run-within (now (start .args .row)) (at .loop .x) (end .run-end .result) (end .before .before .before .loop-test .taken) (end .run-end .ensures))
 
 loop-less-2 : tie.Need-loop-less-2 Inv-loop μ-loop
 loop-less-2 c = omega arith
@@ -60,8 +67,8 @@ loop-again-2 c =
     let at = end .before .before .before .before in
     let row = now (at .before .before .before .args .row) in
     let inside = end .before .before .before .loop-test .taken in (
-      run-within row (at .loop .x) (end .run-end .result) inside (end .run-end .ensures),
-      turn (rw (run-text row (at .loop .x) (end .run-end .result) inside (end .before .if1 .left) (end .run-end .ensures)) at (at .loop .inv .1)) (c .before .before .put-run .ensures),
+      omega (arith, run-within row (at .loop .x) (end .run-end .result) inside (end .run-end .ensures)),
+      turn (rw (run-text-on row (at .loop .x) (end .run-end .result) inside (end .before .if1 .left) (end .run-end .ensures)) at (at .loop .inv .1)) (c .before .before .put-run .ensures),
     )
 
 same-length : tie.Need-same-length Inv-loop μ-loop
@@ -86,6 +93,7 @@ put-runs-spec =
     run-end-requires
     sub-put-run
     put-run-requires
+    add-x-2
     loop-less-2
     loop-again-2
     same-length
