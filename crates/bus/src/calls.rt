@@ -9,12 +9,12 @@ ghost use Rattle.bus.specs.Chip.{commandByte, dataWritten, dataRead, res
 ghost use Rattle.bus.specs.Calls.{called, replyOf, stateAfter, call};
 use crate::answer::Answer;
 use crate::image::legal;
-use crate::image::load;
 use crate::image::short;
-use crate::lent::AWAITED;
-use crate::lent::COLUMN;
-use crate::lent::FRESH;
 use crate::lent::obey;
+use crate::places::AWAITED;
+use crate::places::COLUMN;
+use crate::places::FRESH;
+use crate::places::load;
 use crate::registers::Registers;
 use constants::refusal::OUT_OF_RANGE;
 use constants::refusal::TAKEN;

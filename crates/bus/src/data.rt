@@ -96,7 +96,7 @@ impl Registers {
 }
 
 // Where page and column lie in the display memory.
-pub fn address(page: u8, column: u8) -> usize
+pub(crate) fn address(page: u8, column: u8) -> usize
     ensures { λ r. ⌜ r ≡ address page column ⌝ }
 {
     (page as usize) * WIDTH + (column as usize)

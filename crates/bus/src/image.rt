@@ -6,6 +6,14 @@ ghost use Rattle.codes.specs.OneOf.{oneOf};
 ghost use Rattle.constants.specs.Sizes.{imageSize};
 ghost use Rattle.bus.specs.Registers.{imageOf, registersOf, largestValues};
 ghost use Rattle.bus.specs.Image.{within, awaitedCodes, legal, short, askedState, asked, stored};
+use crate::places::AWAITED;
+use crate::places::FRESH;
+use crate::places::MODIFY;
+use crate::places::PAGE;
+use crate::places::QUARTER;
+use crate::places::SAVED;
+use crate::places::START;
+use crate::places::load;
 use crate::registers::Registers;
 use constants::refusal::OUT_OF_RANGE;
 use constants::refusal::TOO_SHORT;
@@ -17,21 +25,6 @@ pub enum Asked {
     Found(Registers),
     Refused(u8),
 }
-
-// The places that are asked by themselves: those that single events set, since the next call would wait for a wider load of them, and the quarter bias.
-const PAGE: usize = 0;
-
-const START: usize = 2;
-
-const QUARTER: usize = 9;
-
-const AWAITED: usize = 19;
-
-const MODIFY: usize = 20;
-
-const SAVED: usize = 21;
-
-const FRESH: usize = 22;
 
 // Asks a lent state and memory first for their lengths and then for the state's ranges.
 pub fn ask(state: &[u8], memory: &[u8]) -> Asked
@@ -174,38 +167,6 @@ fn awaitable(code: u8) -> bool
         0xD3 => true,
         0xD4 => true,
         _ => false,
-    }
-}
-
-// The registers of an image.
-pub(crate) fn load(image: &[u8]) -> Registers
-    requires { ⌜ imageSize ≤ length (now image) ⌝ }
-    ensures { λ r. ⌜ r ≡ registersOf (now (image .entry)) ⌝ }
-{
-    Registers {
-        page: image[0],
-        column: image[1],
-        start: image[2],
-        offset: image[3],
-        multiplex: image[4],
-        contrast: image[5],
-        ratio: image[6],
-        power: image[7],
-        bias: image[8],
-        quarter: image[9],
-        held: image[10],
-        phases: image[11],
-        column_direction: image[12],
-        row_direction: image[13],
-        entire: image[14],
-        reverse: image[15],
-        on: image[16],
-        indicator: image[17],
-        mode: image[18],
-        awaited: image[AWAITED],
-        modify: image[MODIFY],
-        saved: image[SAVED],
-        fresh: image[22],
     }
 }
 

@@ -10,6 +10,29 @@ ghost use Rattle.bus.specs.Places as places;
 ghost use Rattle.bus.specs.Image.{stored};
 ghost use Rattle.bus.specs.Events.{obeyed, numberOf, enter, leave, softwareReset};
 ghost use Rattle.bus.specs.Calls.{stateAfter};
+use crate::places::AWAITED;
+use crate::places::BIAS;
+use crate::places::COLUMN;
+use crate::places::COLUMN_DIRECTION;
+use crate::places::CONTRAST;
+use crate::places::ENTIRE;
+use crate::places::FRESH;
+use crate::places::HELD;
+use crate::places::INDICATOR;
+use crate::places::MODE;
+use crate::places::MODIFY;
+use crate::places::MULTIPLEX;
+use crate::places::OFFSET;
+use crate::places::ON;
+use crate::places::PAGE;
+use crate::places::PHASES;
+use crate::places::POWER;
+use crate::places::QUARTER;
+use crate::places::RATIO;
+use crate::places::REVERSE;
+use crate::places::ROW_DIRECTION;
+use crate::places::SAVED;
+use crate::places::START;
 use codes::Command;
 use constants::refusal::NO_PAGE;
 use constants::refusal::NOT_ALLOWED;
@@ -17,53 +40,6 @@ use constants::refusal::OUT_OF_RANGE;
 use constants::refusal::OUTSIDE_TABLE;
 use constants::refusal::TAKEN;
 use constants::refusal::TEST_MODE;
-
-// The places of the registers in the image.
-const PAGE: usize = 0;
-
-pub(crate) const COLUMN: usize = 1;
-
-const START: usize = 2;
-
-const OFFSET: usize = 3;
-
-const MULTIPLEX: usize = 4;
-
-const CONTRAST: usize = 5;
-
-const RATIO: usize = 6;
-
-const POWER: usize = 7;
-
-const BIAS: usize = 8;
-
-const QUARTER: usize = 9;
-
-const HELD: usize = 10;
-
-const PHASES: usize = 11;
-
-const COLUMN_DIRECTION: usize = 12;
-
-const ROW_DIRECTION: usize = 13;
-
-const ENTIRE: usize = 14;
-
-const REVERSE: usize = 15;
-
-const ON: usize = 16;
-
-const INDICATOR: usize = 17;
-
-const MODE: usize = 18;
-
-pub(crate) const AWAITED: usize = 19;
-
-const MODIFY: usize = 20;
-
-const SAVED: usize = 21;
-
-pub(crate) const FRESH: usize = 22;
 
 // Obeys a command, as `Registers::obey` does, and says its number.
 pub(crate) fn obey(state: &mut [u8], named: Command) -> u8

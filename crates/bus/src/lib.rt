@@ -6,6 +6,7 @@ pub mod data;
 pub mod image;
 mod lent;
 mod pieces;
+mod places;
 mod put;
 pub mod registers;
 mod same;
