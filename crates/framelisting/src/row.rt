@@ -87,6 +87,9 @@ fn put_run(text: &mut [u8], at: usize, first: usize, last: usize) -> usize
         if first <= last {
             if at < text.len() {
                 if RUN_ROOM <= text.len() - at {
+                    if first == last {
+                        return put_place(text, at, first);
+                    }
                     return put_small_run(text, at, first, last);
                 }
             }
@@ -107,4 +110,15 @@ fn put_small_run(text: &mut [u8], at: usize, first: usize, last: usize) -> usize
     let next = put_small(text, next, first);
     let next = put_inside(text, next, b'-');
     put_small(text, next, last)
+}
+
+// Puts a run of one place: its digits are worked out once.
+fn put_place(text: &mut [u8], at: usize, place: usize) -> usize
+    requires { ⌜ (place < 1000) × (at + 8 ≤ length (now text)) ⌝ }
+    ensures { λ r. ⌜ Put (now (text .entry)) at (runText (record { first = place; last = place })) r (now (text .exit)) ⌝ }
+{
+    let next = put_inside(text, at, b' ');
+    let next = put_small(text, next, place);
+    let next = put_inside(text, next, b'-');
+    put_small(text, next, place)
 }

@@ -1,4 +1,4 @@
--- `framelisting::row::put_run` meets its contract: at once, or four pieces one after the other.
+-- `framelisting::row::put_run` meets its contract: one place, two at once, or four pieces one after the other.
 -- Assumes nothing.
 use borrow.Author.Needs.{needs}
 use native.Mathlib.Omega.{arith}
@@ -12,14 +12,23 @@ use Rattle.framelisting.proofs.row.put_run.Tie as tie
 sub-if4 : tie.Need-sub-if4
 sub-if4 c = search needs
 
-put-small-run-requires : tie.Need-put-small-run-requires
-put-small-run-requires c κs = search needs
+put-place-requires : tie.Need-put-place-requires
+put-place-requires c κs = search needs
 
 same-length : tie.Need-same-length
 same-length c = search needs
 
 returns : tie.Need-returns
-returns c = search needs
+returns c = rw (← (c .before .before .before .before .if5 .taken)) (c .before .before .put-place .ensures)
+
+put-small-run-requires : tie.Need-put-small-run-requires
+put-small-run-requires c κs = search needs
+
+same-length-2 : tie.Need-same-length-2
+same-length-2 c = search needs
+
+returns-2 : tie.Need-returns-2
+returns-2 c = search needs
 
 put-requires : tie.Need-put-requires
 put-requires c κs =
@@ -41,12 +50,12 @@ put-number-requires-2 c κs =
     let a = c .before .before .before .before .before .before .before .before .before .before .before .before .before .before .before .args in
     omega (arith, run-length (record { first = a .first; last = a .last }))
 
-same-length-2 : tie.Need-same-length-2
-same-length-2 c = search needs
+same-length-3 : tie.Need-same-length-3
+same-length-3 c = search needs
 
-returns-2 : tie.Need-returns-2
+returns-3 : tie.Need-returns-3
 unfolding runText ascii
-returns-2 c =
+returns-3 c =
     let last = c .before .before in
     let dash = last .before .before .before .before in
     let first = dash .before .before .before .before in
@@ -58,12 +67,15 @@ put-run-spec =
     tie.close
     (tie.spec
     sub-if4
-    put-small-run-requires
+    put-place-requires
     same-length
     returns
+    put-small-run-requires
+    same-length-2
+    returns-2
     put-requires
     put-number-requires
     put-requires-2
     put-number-requires-2
-    same-length-2
-    returns-2)
+    same-length-3
+    returns-3)
