@@ -21,6 +21,10 @@ pub mod Result
 pub mod Recorded
 -- a stretch of events over any step: how far it came
 pub mod Stretch
+-- for functions inside the crate: bytes put and compared side by side
+pub mod Pieces
+-- for them too: a stretch of reads, from an offset on
+pub mod Reads
 -- 2. Laws, each proved in the file of that name in proofs/.
 -- why some of them take bytes below 256
 pub mod Bytes
@@ -46,10 +50,6 @@ pub mod CallsOnChip
 pub mod TheStart
 -- the directions are for drawing alone
 pub mod Directions
--- bytes put and compared side by side
-pub mod Pieces
--- a stretch of reads, from an offset on
-pub mod Reads
 -- a stretch event by event
 pub mod StretchLaws
 -- one result for each statement
