@@ -3,7 +3,7 @@ ghost use Rattle.std.specs.Prelude.{◌≡◌};
 ghost use Rattle.bus.specs.Registers.{power_on, power_state, ◌with◌≔◌};
 ghost use Rattle.bus.specs.Places.{column, fresh};
 
-#[derive(Drop)]
+#[derive(Clone, Copy)]
 pub struct Registers {
     pub page: u8,
     pub column: u8,

@@ -1,4 +1,5 @@
 // The listing program: a trace from standard input, the frame that it leaves on the glass to standard output.
+#![tactic(auto)]
 mod arguments;
 
 use arguments::{Asked, start_asked};

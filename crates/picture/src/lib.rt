@@ -1,4 +1,5 @@
 // Layer 3, the picture: three countings of rows, one row drawn, and the frame.
+#![tactic(auto)]
 mod band;
 pub mod draw;
 mod page;

@@ -8,15 +8,15 @@ use bus::registers::Registers;
 use constants::sizes::HEIGHT;
 
 // A panel row, counted from the top of the glass; the icon line comes after the last.
-#[derive(Drop)]
+#[derive(Clone, Copy)]
 pub struct PanelRow(pub u8);
 
 // A COM number.
-#[derive(Drop)]
+#[derive(Clone, Copy)]
 pub struct Com(pub u8);
 
 // A row of the display memory.
-#[derive(Drop)]
+#[derive(Clone, Copy)]
 pub struct RamRow(pub u8);
 
 // What a row of the frame shows: nothing, or the bits of a RAM row.

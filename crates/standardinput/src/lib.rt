@@ -1,4 +1,5 @@
 // Standard input, read so that a read that fails is not taken for its end.
+#![tactic(auto)]
 ghost use Rattle.io.specs.Counts.{IsPrefixLen};
 ghost use Rattle.standardinput.specs.Input.{count_of};
 

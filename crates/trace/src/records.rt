@@ -6,7 +6,7 @@ ghost use Rattle.trace.specs.Front.{front_of};
 use constants::sizes::HEADER_SIZE;
 
 // What a record's header says: its kind, and the length of its payload.
-#[derive(Drop)]
+#[derive(Clone, Copy)]
 pub struct Header {
     pub kind: usize,
     pub length: usize,

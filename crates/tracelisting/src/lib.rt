@@ -1,4 +1,5 @@
 // From a trace's bytes to the text that the listing program prints for it.
+#![tactic(auto)]
 pub mod word;
 
 ghost use Rattle.std.specs.Prelude.{◌≡◌, ◌≤◌, length};

@@ -8,7 +8,7 @@ use bus::registers::Registers;
 use constants::refusal::TOO_SHORT;
 
 // The registers of both chips.
-#[derive(Drop)]
+#[derive(Clone, Copy)]
 pub struct Both {
     pub left: Registers,
     pub right: Registers,

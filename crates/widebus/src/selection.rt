@@ -5,14 +5,14 @@ ghost use Rattle.widebus.specs.Selection.{selection_of, result_of};
 use constants::refusal::NO_SELECTION;
 
 // One of the two chips.
-#[derive(Drop)]
+#[derive(Clone, Copy)]
 pub enum Side {
     Left,
     Right,
 }
 
 // Left, right or both.
-#[derive(Drop)]
+#[derive(Clone, Copy)]
 pub enum Selection {
     Left,
     Right,

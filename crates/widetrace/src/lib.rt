@@ -1,4 +1,5 @@
 // The run of a recorded trace over the wide terminal.
+#![tactic(auto)]
 mod heed;
 mod kept;
 pub mod run;
