@@ -1,5 +1,6 @@
 // Layer 1, command codes: which command of document 01's table a command byte is, and what the byte after an awaiting code gives.
 #![tactic(auto)]
+
 ghost use Rattle.std.specs.Prelude.{◌≡◌};
 ghost use Rattle.codes.specs.Table.{meaning_of, command_of, operand_of, offset_of, frame_phases_of};
 

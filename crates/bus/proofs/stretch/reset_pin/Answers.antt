@@ -1,0 +1,10 @@
+-- `bus::stretch::reset_pin` meets its contract: one event, which is taken and gives the power-on state.
+use Rattle.bus.specs.Events.{reset_pin}
+use Rattle.bus.specs.Chip.{step}
+use Rattle.bus.specs.Recorded.{happened, replay}
+use Rattle.bus.specs.Stretch.{stretch}
+use Rattle.bus.proofs.stretch.reset_pin.Goals as goal
+
+pub returns : goal.returns
+unfolding stretch replay happened step reset_pin
+returns c = λ memory. rw c.power_on-registers.ensures

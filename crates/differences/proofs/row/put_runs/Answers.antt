@@ -1,0 +1,64 @@
+-- `differences::row::put_runs` meets its contract: the runs from here on are put from here on.
+use Prim.Native.Nat.{◌-◌}
+use native.Mathlib.Omega.{arith}
+use Rattle.constants.specs.Sizes.{width}
+use Rattle.differences.specs.Entries.{run_entry}
+use Rattle.differences.proofs.PutEntries.{begin, turn, done, rest_length, not_all, room_for_one}
+use Rattle.differences.proofs.AlongRow.{open_first, open_same, open_after, run_within, runs_on, runs_here, runs_end}
+use Rattle.differences.proofs.Entries.{runs_few}
+use Rattle.differences.proofs.row.put_runs.Goals as goal
+
+pub loop-x-init : goal.loop-x-init
+loop-x-init c = (omega arith, open_first width _ _, begin _ _ _ _ _ _)
+
+pub loop-x-preserved-then-first-x : goal.loop-x-preserved-then-first-x
+loop-x-preserved-then-first-x c =
+    let a = c.args in
+    (omega arith, open_same width _ _ c.loop-x.x c.if-first-x.true, rw (runs_on width a.p a.first.now a.second.now c.loop-x.x (omega arith) c.if-first-x.true) (goal.at.loop-x-preserved-then-first-x c).At-loop-x c.loop-x.invariant.2)
+
+pub run_last-last-requires : goal.run_last-last-requires
+run_last-last-requires c = (omega arith, c.requires.0.1, c.requires.0.2)
+
+pub overflow_cast-last : goal.overflow_cast-last
+overflow_cast-last c =
+    let a = c.args in
+    omega (arith, run_within width a.first.now a.second.now c.loop-x.x c.run_last-last.result (omega arith) c.run_last-last.ensures)
+
+pub put_run-requires : goal.put_run-requires
+put_run-requires c =
+    let a = c.args in
+    let still = rw (runs_here width a.p a.first.now a.second.now c.loop-x.x c.run_last-last.result (omega arith) c.if-first-x.false c.loop-x.invariant.1 c.run_last-last.ensures) (goal.at.put_run-requires c).At-loop-x c.loop-x.invariant.2 in
+    (omega (arith, c.requires.0.0, runs_few a.p a.first.now a.second.now width 0, not_all _ _ _ still), room_for_one _ _ _ still c.requires.1)
+
+pub overflow_add-next : goal.overflow_add-next
+overflow_add-next c =
+    let a = c.args in
+    omega (arith, c.requires.0.0, runs_few a.p a.first.now a.second.now width 0, not_all _ _ _ (rw (runs_here width a.p a.first.now a.second.now c.loop-x.x c.run_last-last.result (omega arith) c.if-first-x.false c.loop-x.invariant.1 c.run_last-last.ensures) (goal.at.overflow_add-next c).At-loop-x c.loop-x.invariant.2))
+
+pub overflow_add-x-else-first-x : goal.overflow_add-x-else-first-x
+overflow_add-x-else-first-x c =
+    let a = c.args in
+    omega (arith, run_within width a.first.now a.second.now c.loop-x.x c.run_last-last.result (omega arith) c.run_last-last.ensures)
+
+pub loop-x-smaller : goal.loop-x-smaller
+loop-x-smaller c =
+    omega (arith, c.run_last-last.ensures)
+
+pub loop-x-preserved : goal.loop-x-preserved
+unfolding run_entry
+loop-x-preserved c =
+    let a = c.args in
+    let inside = c.loop-x-test.true in
+    let last = c.run_last-last.result in (
+      omega (arith, run_within width a.first.now a.second.now c.loop-x.x last inside c.run_last-last.ensures),
+      open_after width a.first.now a.second.now c.loop-x.x last inside c.run_last-last.ensures,
+      turn _ _ _ (rw (runs_here width a.p a.first.now a.second.now c.loop-x.x last inside c.if-first-x.false c.loop-x.invariant.1 c.run_last-last.ensures) (goal.at.loop-x-preserved c).At-loop-x c.loop-x.invariant.2) c.put_run.ensures,
+    )
+
+pub shape_of-list : goal.shape_of-list
+shape_of-list c = rest_length _ _ _ c.loop-x.invariant.2
+
+pub returns : goal.returns
+returns c =
+    let a = c.args in
+    done _ _ _ (rw (runs_end width a.p a.first.now a.second.now c.loop-x.x c.loop-x-test.false) at c.loop-x.invariant.2)

@@ -1,0 +1,47 @@
+-- `framelisting::frame::put_refused` meets its contract: five pieces one after the other, or none.
+use borrow.Author.Rules.{rules}
+use native.Mathlib.Omega.{arith}
+use borrow.Author.Tests.{ne_eqb}
+use Rattle.framelisting.specs.Ascii.{ascii}
+use Rattle.framelisting.specs.Text.{refused_text}
+use Rattle.framelisting.proofs.PutPieces.{none, after}
+use Rattle.framelisting.proofs.LengthsOfText.{taken_nothing, refused_length}
+use Rattle.framelisting.proofs.frame.put_refused.Goals as goal
+
+pub returns-then-number-eq-TAKEN : goal.returns-then-number-eq-TAKEN
+returns-then-number-eq-TAKEN c =
+    let args = c.args in
+    rw (taken_nothing args.number args.offset c.if-number-eq-TAKEN.true) (none _ _)
+
+-- LEFT
+slice-aggregate-put-bytes : tie.Need-slice-aggregate-put-bytes
+slice-aggregate-put-bytes c = search rules
+
+pub put_bytes-next-requires : goal.put_bytes-next-requires
+put_bytes-next-requires c =
+    omega (arith, refused_length c.args.number c.args.offset c.if-number-eq-TAKEN.false)
+
+pub put_digits-next-requires : goal.put_digits-next-requires
+put_digits-next-requires c =
+    omega (arith, refused_length c.args.number c.args.offset c.if-number-eq-TAKEN.false)
+
+-- LEFT
+slice-aggregate-put-bytes-2 : tie.Need-slice-aggregate-put-bytes-2
+slice-aggregate-put-bytes-2 c = search rules
+
+pub put_bytes-next-requires-2 : goal.put_bytes-next-requires-2
+put_bytes-next-requires-2 c =
+    omega (arith, refused_length c.args.number c.args.offset c.if-number-eq-TAKEN.false)
+
+pub put_digits-next-requires-2 : goal.put_digits-next-requires-2
+put_digits-next-requires-2 c =
+    omega (arith, refused_length c.args.number c.args.offset c.if-number-eq-TAKEN.false)
+
+pub put-requires : goal.put-requires
+put-requires c =
+    omega (arith, refused_length c.args.number c.args.offset c.if-number-eq-TAKEN.false)
+
+pub returns : goal.returns
+unfolding refused_text ascii
+returns c =
+    rw (ne_eqb _ _ c.if-number-eq-TAKEN.false) (after (after (after (after c.put_bytes-next.ensures c.put_digits-next.ensures) c.put_bytes-next-2.ensures) c.put_digits-next-2.ensures) c.put.ensures)

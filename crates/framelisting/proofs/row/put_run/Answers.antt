@@ -1,0 +1,35 @@
+-- `framelisting::row::put_run` meets its contract: one place, two at once, or four pieces one after the other.
+use native.Mathlib.Omega.{arith}
+use Rattle.framelisting.specs.Ascii.{ascii}
+use Rattle.framelisting.specs.Text.{run_text}
+use Rattle.framelisting.proofs.PutPieces.{after}
+use Rattle.framelisting.proofs.LengthsOfText.{run_length}
+use Rattle.framelisting.proofs.row.put_run.Goals as goal
+
+pub returns-then-first-last : goal.returns-then-first-last
+returns-then-first-last c = rw (← c.if-first-last.true) c.put_place.ensures
+
+pub put-next-requires : goal.put-next-requires
+put-next-requires c =
+    let a = c.args in
+    omega (arith, run_length (record { first = a.first; last = a.last }))
+
+pub put_number-next-requires : goal.put_number-next-requires
+put_number-next-requires c =
+    let a = c.args in
+    (omega (arith, run_length (record { first = a.first; last = a.last })), c.requires.1.1)
+
+pub put-next-requires-2 : goal.put-next-requires-2
+put-next-requires-2 c =
+    let a = c.args in
+    omega (arith, run_length (record { first = a.first; last = a.last }))
+
+pub put_number-requires : goal.put_number-requires
+put_number-requires c =
+    let a = c.args in
+    (omega (arith, run_length (record { first = a.first; last = a.last })), c.requires.1.1)
+
+pub returns : goal.returns
+unfolding run_text ascii
+returns c =
+    after (after (after c.put-next.ensures c.put_number-next.ensures) c.put-next-2.ensures) c.put_number.ensures

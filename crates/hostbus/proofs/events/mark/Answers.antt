@@ -1,0 +1,11 @@
+-- `hostbus::events::mark` meets its contract: the test is the definition's.
+use Rattle.hostbus.specs.Events.{flag}
+use Rattle.hostbus.proofs.events.mark.Goals as goal
+
+pub returns-then-dummy : goal.returns-then-dummy
+unfolding flag
+returns-then-dummy c = rw c.if-dummy.true
+
+pub returns-else-dummy : goal.returns-else-dummy
+unfolding flag
+returns-else-dummy c = rw c.if-dummy.false

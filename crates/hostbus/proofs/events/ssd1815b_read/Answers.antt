@@ -1,0 +1,7 @@
+-- `hostbus::events::ssd1815b_read` meets its contract by that of the call below it.
+use mathlib.Core.Path.{ap}
+use Rattle.hostbus.specs.Events.{of_read}
+use Rattle.hostbus.proofs.events.ssd1815b_read.Goals as goal
+
+pub returns : goal.returns
+returns c = rw c.mark.ensures (ap of_read c.read-reply.ensures)

@@ -1,0 +1,5 @@
+-- `hostbus::start::ssd1815b_start` meets its contract by that of the call below it.
+use Rattle.hostbus.proofs.start.ssd1815b_start.Goals as goal
+
+pub returns : goal.returns
+returns c = c.start.ensures
