@@ -41,21 +41,26 @@ class Function:
         p = self.places[i][1]
         return None if p is None else self.index[norm(p)]
 
-    def resolve(self, place, toks):
-        """The new text of the path toks from a place: (is_place, place or text)."""
-        i = 0
-        while i < len(toks) and toks[i] == "before":
+    def chain(self, place):
+        out = []
+        while place is not None:
+            out.append(place)
             place = self.parent(place)
+        return out
+
+    def resolve(self, place, toks, whole=None):
+        """The new text of the path toks from a place, in a goal at the place 'whole': ("place", place) or ("text", text)."""
+        i, start = 0, place
+        while i < len(toks) and toks[i] == "before":
+            place = self.parent(place) if place is not None else None
             i += 1
-            if place is None:
-                return None
         rest = toks[i:]
         if not rest:
             return ("place", place)
         step = rest[0]
-        at = place
-        while at is not None and norm(self.places[at][2][0]) != norm(step):
-            at = self.parent(at)
+        # The step's own place, else the nearest above it, else wherever the goal's path has it: an older kit counted some steps otherwise.
+        ways = self.chain(place) + self.chain(whole if whole is not None else start)
+        at = next((p for p in ways if norm(self.places[p][2][0]) == norm(step)), None)
         if at is None:
             return ("text", ".".join([norm_step(rest[0])] + rest[1:]))
         new, path = self.places[at][2][1], rest[1:]
@@ -114,6 +119,7 @@ def cur_is_open(cur, line):
 class Body:
     def __init__(self, f, goal, roots):
         self.f, self.goal, self.env = f, goal, dict(roots)
+        self.whole = next(iter(roots.values()))[1] if roots else None
 
     def path(self, m):
         if m.group(1) is None:
@@ -122,8 +128,8 @@ class Body:
         if root not in self.env:
             return m.group(0)
         var, place = self.env[root]
-        got = self.f.resolve(place, toks)
-        if got is None:
+        got = self.f.resolve(place, toks, self.whole)
+        if got[0] == "place" and got[1] is None:
             self.f.left.append("no place: " + m.group(0))
             return m.group(0)
         if got[0] == "text":
@@ -144,8 +150,8 @@ class Body:
             root, toks = m.group(2), [t for t in m.group(3).split(".") if t]
             if root in self.env:
                 var, place = self.env[root]
-                got = self.f.resolve(place, toks)
-                if got and got[0] == "place":
+                got = self.f.resolve(place, toks, self.whole)
+                if got[0] == "place":
                     self.env[m.group(1)] = (var, got[1])
                     pos = m.end()
                     continue

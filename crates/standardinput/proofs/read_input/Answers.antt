@@ -15,19 +15,19 @@ pub returns-then-got-lt0 : goal.returns-then-got-lt0
 returns-then-got-lt0 c = (omega arith, refl)
 
 pub shape_of-buffer-then-more-eq0 : goal.shape_of-buffer-then-more-eq0
-shape_of-buffer-then-more-eq0 c = c.buffer.given.1 ∙ c.loop.invariant.1
+shape_of-buffer-then-more-eq0 c = c.buffer-1.given.1 ∙ c.loop-done.invariant.1
 
 pub returns-then-more-eq0 : goal.returns-then-more-eq0
-returns-then-more-eq0 c = prefix_len_of_le _ _ (omega (arith, c.buffer.given.1))
+returns-then-more-eq0 c = prefix_len_of_le _ _ (omega (arith, c.buffer-1.given.1))
 
 pub overflow_add-done : goal.overflow_add-done
 overflow_add-done c = omega (arith, c.count-more.ensures.0.0)
 
 pub loop-done-smaller : goal.loop-done-smaller
-loop-done-smaller c = omega (arith, c.buffer.given.1, c.count-more.ensures.0.0)
+loop-done-smaller c = omega (arith, c.buffer-1.given.1, c.count-more.ensures.0.0)
 
 pub loop-done-preserved : goal.loop-done-preserved
-loop-done-preserved c = (omega (arith, c.buffer.given.1, c.count-more.ensures.0.0), c.buffer.given.1 ∙ c.loop.invariant.1)
+loop-done-preserved c = (omega (arith, c.buffer-1.given.1, c.count-more.ensures.0.0), c.buffer-1.given.1 ∙ c.loop-done.invariant.1)
 
 pub shape_of-buffer : goal.shape_of-buffer
 shape_of-buffer c = c.loop-done.invariant.1

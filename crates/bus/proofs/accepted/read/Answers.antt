@@ -12,4 +12,4 @@ pub conclude_data-requires : goal.conclude_data-requires
 conclude_data-requires c = (search rules, rw (c.read.ensures, c.load-registers.ensures) (read_leaves _ _))
 
 pub returns : goal.returns
-returns c = read_answers _ _ c.if1.false c.load-registers.ensures c.read.ensures c.conclude_data.ensures
+returns c = read_answers _ _ c.if-state-lt-IMAGE_SIZE.false c.load-registers.ensures c.read.ensures c.conclude_data.ensures

@@ -12,4 +12,4 @@ pub conclude_data-reply-requires : goal.conclude_data-reply-requires
 conclude_data-reply-requires c = (search rules, rw (c.write.ensures.0, c.load-registers.ensures) (write_leaves _ _))
 
 pub returns : goal.returns
-returns c = write_answers _ _ _ c.if1.false c.load-registers.ensures c.write.ensures c.conclude_data-reply.ensures
+returns c = write_answers _ _ _ c.if-state-lt-IMAGE_SIZE.false c.load-registers.ensures c.write.ensures c.conclude_data-reply.ensures

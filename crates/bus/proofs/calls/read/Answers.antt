@@ -12,8 +12,8 @@ unfolding asked_before
 returns-then-short c = refuses data_read _ _ refl (short_first _ _ (sym c.short.ensures ∙ c.if-short.true)) c.refuse.ensures
 
 pub returns-then-legal : goal.returns-then-legal
-returns-then-legal c = c.read.ensures ∙ on_accepted_lem data_read _ _ (sym c.short.ensures ∙ c.if1.false) (sym c.legal.ensures ∙ c.if-legal.true)
+returns-then-legal c = c.read.ensures ∙ on_accepted_lem data_read _ _ (sym c.short.ensures ∙ c.if-short.false) (sym c.legal.ensures ∙ c.if-legal.true)
 
 pub returns : goal.returns
 unfolding asked_before
-returns c = refuses data_read _ _ refl (ranges_next _ _ (sym c.short.ensures ∙ c.if1.false) (sym c.legal.ensures ∙ c.if-legal.false)) c.refuse-2.ensures
+returns c = refuses data_read _ _ refl (ranges_next _ _ (sym c.short.ensures ∙ c.if-short.false) (sym c.legal.ensures ∙ c.if-legal.false)) c.refuse-2.ensures

@@ -36,9 +36,8 @@ slice_bounds-reads-end c = let d = c.before.before.before.before in within_trace
 
 pub ended-requires-in-3 : goal.ended-requires-in-3
 ended-requires-in-3 c =
-    let d = c.before.before.before.before.before.before in
-    let fits = within_trace d.args.trace.now d.args.at d.args.header d.requires in
-    omega (arith, fits, reaches read_as d.args.trace.now _ _ (omega arith) fits _ _ _ c.reads.ensures)
+    let fits = within_trace c.args.trace.now c.args.at c.args.header c.requires in
+    omega (arith, fits, reaches read_as c.args.trace.now _ _ (omega arith) fits _ _ _ c.reads.ensures)
 
 pub ended-requires-then-length-eq0 : goal.ended-requires-then-length-eq0
 ended-requires-then-length-eq0 c =
@@ -60,9 +59,8 @@ returns-in-2 c =
 
 pub returns-in-3 : goal.returns-in-3
 returns-in-3 c =
-    let d = c.before.before.before.before.before.before.before in
-    let fits = within_trace d.args.trace.now d.args.at d.args.header d.requires in
-    rw c.ended-in-3.ensures (ends_there read_as d.args.trace.now _ _ (omega arith) fits _ _ _ c.reads.ensures ∙ sym (kind_3 d.args.trace.now d.args.at d.args.header d.requires _ c.match.keys3))
+    let fits = within_trace c.args.trace.now c.args.at c.args.header c.requires in
+    rw c.ended-in-3.ensures (ends_there read_as c.args.trace.now _ _ (omega arith) fits _ _ _ c.reads.ensures ∙ sym (kind_3 c.args.trace.now c.args.at c.args.header c.requires _ c.in-3.is))
 
 pub returns-else-length-eq0 : goal.returns-else-length-eq0
 unfolding endingOf

@@ -7,18 +7,18 @@ use Rattle.widetrace.proofs.run.run.Goals as goal
 
 pub play-played-requires : goal.play-played-requires
 play-played-requires c =
-    let a = c.before.before.before.before.before.before.before.before.before.before.before.before.before.before.before.args in
+    let a = c.args in
     let all = both_lent a.left-state.now a.left-memory.now a.right-state.now a.right-memory.now in
     (memories_long all (sym c.ask.ensures ∙ c.in-Found.is)).0
 
 pub returns-in-Found : goal.returns-in-Found
 returns-in-Found c =
-    let a = c.before.before.before.before.before.before.before.before.before.before.before.before.before.before.before.before.before.before.before.before.before.before.before.before.before.before.before.before.before.before.before.before.args in
+    let a = c.args in
     let all = both_lent a.left-state.now a.left-memory.now a.right-state.now a.right-memory.now in
     plays all a.trace.now c.ask.ensures c.in-Found.is c.play-played.result _ _ c.play-played.ensures c.store.ensures c.store-in-Found.ensures
 
 pub returns-in-Refused : goal.returns-in-Refused
 returns-in-Refused c =
-    let a = c.before.before.before.before.before.before.before.before.before.before.before.before.before.args in
+    let a = c.args in
     let all = both_lent a.left-state.now a.left-memory.now a.right-state.now a.right-memory.now in
     refuses all a.trace.now c.ask.ensures c.in-Refused.is

@@ -6,7 +6,7 @@ pub returns-in-2 : goal.returns-in-2
 returns-in-2 c = let a = c.args in rw (brings_writes a.kind a.bytes.now c.in-2.is) c.writes.ensures
 
 pub returns-in-3 : goal.returns-in-3
-returns-in-3 c = let a = c.before.before.before.before.before.args in rw (brings_reads a.kind a.bytes.now c.match.keys2) c.reads.ensures
+returns-in-3 c = let a = c.args in rw (brings_reads a.kind a.bytes.now c.in-3.is) c.reads.ensures
 
 pub returns-in-1 : goal.returns-in-1
 returns-in-1 c = let a = c.args in rw (brings_commands a.kind a.bytes.now c.in-1.is) (c.commands.ensures a.memory.now)
