@@ -36,12 +36,12 @@ loop-at-preserved c =
     let w = c.write_piece-registers in
     let n = at + size - at in
     let long = length_part bytes at n (omega arith) in
-    let same : length w.new.1.0 ≡ length loop.memory = w.auto.1.0 in
+    let same : length w.new.memory ≡ length loop.memory = w.auto.1.0 in
     let next : at + n ≡ at + size = omega arith in (
       omega arith,
       same ∙ loop.invariant.1,
       ap (λ k. access w.result k) same ∙ w.ensures.0,
-      loop.invariant.3 ∙ part_given replay recorded_write bytes at n (omega arith) _ _ (w.ensures.1 ∙ ap (λ k. stretched (chip_of w.result w.new.1.0) k taken) long) ∙ ap (λ k. stretch_from replay recorded_write bytes k (chip_of w.result w.new.1.0)) next,
+      loop.invariant.3 ∙ part_given replay recorded_write bytes at n (omega arith) _ _ (w.ensures.1 ∙ ap (λ k. stretched (chip_of w.result w.new.memory) k taken) long) ∙ ap (λ k. stretch_from replay recorded_write bytes k (chip_of w.result w.new.memory)) next,
     )
 
 pub shape_of-memory : goal.shape_of-memory

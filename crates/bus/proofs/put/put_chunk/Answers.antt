@@ -12,7 +12,7 @@ loop-i-init c = (omega arith, omega arith, refl)
 pub loop-i-preserved : goal.loop-i-preserved
 loop-i-preserved c =
     let i = c.loop-i.i in
-    (omega arith, length-set c.loop-i.places i _ ∙ c.loop-i.invariant.1, ap (λ l. set l i (get_or c.args.t2 i 0)) c.loop-i.invariant.2 ∙ over_more c.args.t2 c.args.places.now (omega arith) i (omega arith))
+    (omega arith, length-set c.loop-i.places i _ ∙ c.loop-i.invariant.1, ap (λ l. set l i (get_or c.args.held i 0)) c.loop-i.invariant.2 ∙ over_more c.args.held c.args.places.now (omega arith) i (omega arith))
 
 pub returns : goal.returns
-returns c = c.loop-i.invariant.2 ∙ over_all c.args.t2 c.args.places.now (omega arith) c.loop-i.i (omega arith)
+returns c = c.loop-i.invariant.2 ∙ over_all c.args.held c.args.places.now (omega arith) c.loop-i.i (omega arith)

@@ -18,7 +18,7 @@ put_chunk-requires c =
     let from = c.chunk_start-from.result in
     let parted = length_part c.loop-at.places from (from + 32 - from) (omega arith) in
     let held = length_part c.args.bytes.now from (from + 32 - from) (omega arith) in
-    (omega (arith, parted), omega (arith, held, ap length c.Chunk-of.ensures))
+    (omega (arith, parted), omega (arith, held, ap length c.chunk_of-held.ensures))
 
 pub loop-at-preserved : goal.loop-at-preserved
 loop-at-preserved c =
@@ -27,7 +27,7 @@ loop-at-preserved c =
     let a = c.args in
     let size = from + 32 - from in
     let to : from + size ≡ from + 32 = omega arith in
-    let put : put_mid from size c.loop-at.places c.put_chunk.new.places ≡ over (from + 32) a.bytes.now a.places.now = rw (c.loop-at.invariant.3, c.put_chunk.ensures, c.Chunk-of.ensures) (over_chunk a.bytes.now a.places.now (omega arith) from at size (omega arith) (omega arith) (omega arith) ∙ ap (λ i. over i a.bytes.now a.places.now) to) in
+    let put : put_mid from size c.loop-at.places c.put_chunk.new.places ≡ over (from + 32) a.bytes.now a.places.now = rw (c.loop-at.invariant.3, c.put_chunk.ensures, c.chunk_of-held.ensures) (over_chunk a.bytes.now a.places.now (omega arith) from at size (omega arith) (omega arith) (omega arith) ∙ ap (λ i. over i a.bytes.now a.places.now) to) in
     (omega arith, omega arith, ap length put ∙ length_over a.bytes.now a.places.now (omega arith) (from + 32) (omega arith), put)
 
 pub shape_of-places : goal.shape_of-places

@@ -6,8 +6,6 @@ use Rattle.bus.specs.Events.{write, written}
 use Rattle.bus.proofs.Access.{opened, address_inside}
 use Rattle.bus.proofs.registers.Registers.write.Goals as goal
 
-)
-
 pub bounds-memory-at : goal.bounds-memory-at
 bounds-memory-at c =
     let e = sym c.access-number.ensures ∙ c.if-number-eq-TAKEN.true in
@@ -21,6 +19,7 @@ unfolding write written
 returns-then-number-eq-TAKEN c = (
   rw (c.with_fresh-registers.ensures, c.with_column.ensures, c.onward-column.ensures, ← c.access-number.ensures, eq-eqb _ _ c.if-number-eq-TAKEN.true),
   rw (c.kept-bits.ensures, c.address-at.ensures, ← c.access-number.ensures, eq-eqb _ _ c.if-number-eq-TAKEN.true),
+  )
 
 pub returns : goal.returns
 unfolding write written
