@@ -36,7 +36,7 @@ loop-at-preserved c =
     let w = c.write_piece-registers in
     let n = at + size - at in
     let long = length_part bytes at n (omega arith) in
-    let same : length w.new.memory ≡ length loop.memory = w.auto.1.0 in
+    let same : length w.new.memory ≡ length loop.memory = w.auto.memory in
     let next : at + n ≡ at + size = omega arith in (
       omega arith,
       same ∙ loop.invariant.1,
