@@ -55,7 +55,7 @@ class File:
         for path, alias, names in USE.findall(code):
             words = path.rstrip(".").split(".")
             is_own = words[0] == "Rattle" and len(words) > 1 and words[1] in crates
-            made = is_own and words[-1] in ("Tie", "Statement", "Symbol", "Met", "Code", "Key", "TheLaws", "Link") or "contracts" in words
+            made = is_own and ("contracts" in words or "specs" not in words and words[-1] in ("Tie", "Statement", "Symbol", "Met", "Code", "Key", "TheLaws"))
             if alias:
                 self.aliases[alias] = is_own and not made
             for name in filter(None, (it.strip() for it in names.split(","))):

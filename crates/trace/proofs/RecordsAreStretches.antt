@@ -15,7 +15,7 @@ use Rattle.bus.specs.declared.stretch.Stretch.{Stretch}
 use Rattle.bus.proofs.StretchLaws.{stretches, the_chip_never_zero}
 use Rattle.trace.specs.Play.{Result, refuses, gives, on_result, Machine, stopped, play_events}
 use Rattle.trace.specs.Kinds.{Recorded, replay, the_chip}
-use Rattle.trace.specs.Code.{endingOf}
+use Rattle.trace.specs.Code.{ending_of}
 use Rattle.trace.specs.RecordsAreStretches.{ending_at, RecordsAreStretches}
 
 module _ {S E : Type 0} (machine : Machine S E) where
@@ -33,8 +33,8 @@ module _ {S E : Type 0} (machine : Machine S E) where
           rw on (later t)
 
 -- the code's stretch of a record's events ends as the record does
-pub ends : (events : List Recorded) (c : Chip) (s : Stretch) (memory : List ℕ) → stretch_of s memory ≡ stretch replay events c → (offset : ℕ) → endingOf (record { registers = s.registers; number = s.number; offset = offset + s.count }) memory ≡ play_events the_chip events offset c
-unfolding endingOf
+pub ends : (events : List Recorded) (c : Chip) (s : Stretch) (memory : List ℕ) → stretch_of s memory ≡ stretch replay events c → (offset : ℕ) → ending_of (record { registers = s.registers; number = s.number; offset = offset + s.count }) memory ≡ play_events the_chip events offset c
+unfolding ending_of
 ends events c s memory h offset = ap (λ r. ending_at offset r) h ∙ sym (are_stretches the_chip the_chip_never_zero events offset c)
 
 -- and takes no more events than there are
@@ -56,5 +56,5 @@ module _ (means : ℕ → Recorded) (trace : List ℕ) (from to : ℕ) (order : 
       let size : length part ≡ to - from = length-take-le (to - from) (drop from trace) (omega (arith, length-drop from trace)) in
       omega (arith, takes (map means part) c s memory h, length-map part means, size)
 
-  pub ends_there : endingOf (record { registers = s.registers; number = s.number; offset = from + s.count }) memory ≡ play_events the_chip (map means (slice from to trace)) from c
+  pub ends_there : ending_of (record { registers = s.registers; number = s.number; offset = from + s.count }) memory ≡ play_events the_chip (map means (slice from to trace)) from c
   ends_there = rw (sym (part_slice trace from to order fits)) (ends _ c s memory h from)

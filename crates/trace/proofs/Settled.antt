@@ -7,14 +7,14 @@ use denote.Ref.{Bor}
 use Rattle.constants.proofs.Settles.{equation}
 use Rattle.bus.specs.Chip.{Chip}
 use Rattle.trace.specs.Play.{Played}
-use Rattle.trace.specs.Code.{playedOf}
+use Rattle.trace.specs.Code.{played_of}
 use Rattle.trace.specs.Run.{Ran}
 use Rattle.trace.specs.Settled.{Settled}
 use Rattle.trace.specs.declared.reader.Reader.{Reader}
 use Rattle.trace.specs.declared.run.Played as code
 
-same_play : {stated : Played Chip} (f f' : code.Played) (left left' : List ℕ) → playedOf f left ≡ stated → playedOf f' left' ≡ stated → (f ≡ f') × (left ≡ left')
-unfolding playedOf
+same_play : {stated : Played Chip} (f f' : code.Played) (left left' : List ℕ) → played_of f left ≡ stated → played_of f' left' ≡ stated → (f ≡ f') × (left ≡ left')
+unfolding played_of
 same_play f f' left left' p q =
     let e = p ∙ sym q in
     (rw (ap (λ r. r.number) e, ap (λ r. r.offset) e, ap (λ r. r.count) e, ap (λ r. r.state.registers) e), ap (λ r. r.state.memory) e)

@@ -5,7 +5,7 @@ ghost use Rattle.trace.specs.Records.{record_at};
 ghost use Rattle.trace.specs.Front.{front_of};
 ghost use Rattle.trace.specs.Play.{play_record};
 ghost use Rattle.trace.specs.Kinds.{the_chip, chip_of};
-ghost use Rattle.trace.specs.Code.{endingOf};
+ghost use Rattle.trace.specs.Code.{ending_of};
 
 use crate::records::{Front, Header};
 use bus::registers::Registers;
@@ -30,7 +30,7 @@ pub fn obey(
     at: usize,
 ) -> Ending
     requires { front_of (drop at trace.now) ≡ Front.Whole header }
-    ensures { endingOf result memory.new ≡ play_record the_chip (record_at at (drop at trace.now)) (chip_of registers memory.old) }
+    ensures { ending_of result memory.new ≡ play_record the_chip (record_at at (drop at trace.now)) (chip_of registers memory.old) }
 {
     let kind = header.kind;
     let length = header.length;

@@ -3,7 +3,7 @@ ghost use Rattle.std.specs.Prelude.{◌≡◌};
 ghost use Rattle.trace.specs.Records.{split};
 ghost use Rattle.trace.specs.Play.{play};
 ghost use Rattle.trace.specs.Kinds.{the_chip, chip_of};
-ghost use Rattle.trace.specs.Code.{playedOf};
+ghost use Rattle.trace.specs.Code.{played_of};
 ghost use Rattle.trace.specs.Run.{ran, run};
 
 use crate::reader::read_at;
@@ -50,7 +50,7 @@ pub fn run(state: &mut [u8], memory: &mut [u8], trace: &[u8]) -> Stop
 
 // Plays the records of a trace from given registers and memory.
 pub fn play(mut registers: Registers, memory: &mut [u8], trace: &[u8]) -> Played
-    ensures { playedOf result memory.new ≡ play the_chip (split trace.now) (chip_of registers memory.old) }
+    ensures { played_of result memory.new ≡ play the_chip (split trace.now) (chip_of registers memory.old) }
 {
     let mut at = 0;
     let mut count = 0;

@@ -19,7 +19,7 @@ use Rattle.widebus.specs.declared.selection.Selection.{Selection}
 use Rattle.widebus.specs.declared.selection.Side.{Side}
 use Rattle.widetrace.specs.Terminal.{Terminal, terminal, the_terminal}
 use Rattle.widetrace.specs.Sides.{OneSide, one_side, the_side, up_to, side_played_of}
-use Rattle.widetrace.specs.Code.{widePlayed, widePlayedOf}
+use Rattle.widetrace.specs.Code.{wide_played, wide_played_of}
 use Rattle.widetrace.specs.declared.side.SidePlayed.{SidePlayed}
 use Rattle.widetrace.proofs.SidesOfTrace.{WellPlaced, split_placed, TakenSo, StoppedSo, sides}
 use Rattle.widetrace.proofs.SideKeeps.{left_aside, put_back, up_to_end}
@@ -64,8 +64,8 @@ module _ (both : Both) (trace left right : List ℕ) (first : SidePlayed) (lm : 
     unfolding split
     by_sides = sides (split_from 0 0 trace) 0 (subst (λ (n : ℕ). WellPlaced n (split_from 0 0 trace)) (zero-add 0) (split_placed 0 0 trace (omega arith))) 0 (chip_of both.left left) (chip_of both.right right) Selection.Both
 
-    pub taken_by_both : second.stop.number ≡ taken → widePlayedOf (widePlayed first.stop first.registers second.registers first.selection) lm rm ≡ play the_terminal (split trace) (terminal (chips_of both left right) Selection.Both)
-    unfolding widePlayedOf side_played_of
+    pub taken_by_both : second.stop.number ≡ taken → wide_played_of (wide_played first.stop first.registers second.registers first.selection) lm rm ≡ play the_terminal (split trace) (terminal (chips_of both left right) Selection.Both)
+    unfolding wide_played_of side_played_of
     taken_by_both number =
         ap (λ (x : Played OneSide). joined x x (side_played_of second rm)) p_whole
         ∙ ap (λ (y : Played OneSide). joined whole whole y) q_whole
@@ -77,8 +77,8 @@ module _ (both : Both) (trace left right : List ℕ) (first : SidePlayed) (lm : 
       z_whole : side_played_of again later ≡ play (the_side Side.Left) (up_to second.stop.offset (split trace)) (starting both Side.Left left)
       z_whole = z ∙ rw (b ∙ put_back left lm aside.past)
 
-      pub stopped_by_right : second.stop.number ≢ taken → widePlayedOf (widePlayed second.stop again.registers second.registers second.selection) later rm ≡ play the_terminal (split trace) (terminal (chips_of both left right) Selection.Both)
-      unfolding widePlayedOf side_played_of
+      pub stopped_by_right : second.stop.number ≢ taken → wide_played_of (wide_played second.stop again.registers second.registers second.selection) later rm ≡ play the_terminal (split trace) (terminal (chips_of both left right) Selection.Both)
+      unfolding wide_played_of side_played_of
       stopped_by_right number =
           ap (λ (x : Played OneSide). joined (side_played_of second rm) x (side_played_of second rm)) z_whole
           ∙ ap (λ (y : Played OneSide). joined y (play (the_side Side.Left) (up_to y.offset (split trace)) (starting both Side.Left left)) y) q_whole

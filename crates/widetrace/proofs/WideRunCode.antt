@@ -14,7 +14,7 @@ use Rattle.widebus.specs.declared.both.BothAsked.{BothAsked}
 use Rattle.widebus.specs.declared.selection.Selection.{Selection}
 use Rattle.widetrace.specs.Terminal.{Terminal, terminal, the_terminal}
 use Rattle.widetrace.specs.WideRun.{wide_ran, wide_ran_of, wide_run_on, wide_run}
-use Rattle.widetrace.specs.Code.{widePlayedOf}
+use Rattle.widetrace.specs.Code.{wide_played_of}
 use Rattle.widetrace.specs.declared.run.WidePlayed.{WidePlayed}
 
 module _ (all : Pair Lent) (trace : List ℕ) {asking : BothAsked} (a : asking ≡ asked_both all) where
@@ -23,10 +23,10 @@ module _ (all : Pair Lent) (trace : List ℕ) {asking : BothAsked} (a : asking �
   as_asked l = ap (λ found. wide_run_on found all trace) (sym l ∙ a)
 
   pub plays : {both : Both} → asking ≡ BothAsked.Found both → (p : WidePlayed) (lm rm : List ℕ)
-      → widePlayedOf p lm rm ≡ play the_terminal (split trace) (terminal (chips_of both all.left.memory all.right.memory) Selection.Both)
+      → wide_played_of p lm rm ≡ play the_terminal (split trace) (terminal (chips_of both all.left.memory all.right.memory) Selection.Both)
       → {ls rs : List ℕ} → ls ≡ stored p.registers.left all.left.state → rs ≡ stored p.registers.right all.right.state
       → wide_ran p.stop (lent ls lm beside lent rs rm) ≡ wide_run all trace
-  unfolding wide_run_on wide_ran_of widePlayedOf
+  unfolding wide_run_on wide_ran_of wide_played_of
   plays l p lm rm e q r = rw (q, r) (ap (λ (p : Played Terminal). wide_ran_of p all) e ∙ as_asked l)
 
   pub refuses : {number : ℕ} → asking ≡ BothAsked.Refused number → wide_ran (stop_of number 0 0) all ≡ wide_run all trace

@@ -5,7 +5,7 @@ ghost use Rattle.trace.specs.Records.{split};
 ghost use Rattle.trace.specs.Play.{play};
 ghost use Rattle.widebus.specs.Pair.{both_lent, chips_of};
 ghost use Rattle.widetrace.specs.Terminal.{terminal, the_terminal};
-ghost use Rattle.widetrace.specs.Code.{widePlayed, widePlayedOf};
+ghost use Rattle.widetrace.specs.Code.{wide_played, wide_played_of};
 ghost use Rattle.widetrace.specs.WideRun.{wide_ran, wide_run};
 ghost use Rattle.widebus.specs.declared.selection.Selection.{Selection};
 
@@ -61,7 +61,7 @@ fn play(
     trace: &[u8],
 ) -> WidePlayed
     requires { memory_size ≤ length left_memory.old }
-    ensures { widePlayedOf result left_memory.new right_memory.new ≡ play the_terminal (split trace.now) (terminal (chips_of registers left_memory.old right_memory.old) Selection.Both) }
+    ensures { wide_played_of result left_memory.new right_memory.new ≡ play the_terminal (split trace.now) (terminal (chips_of registers left_memory.old right_memory.old) Selection.Both) }
 {
     let kept = copied(left_memory);
     let first = play_side(Side::Left, registers.left, left_memory, trace, trace.len());
@@ -86,7 +86,7 @@ fn play(
 
 // The end of a played trace.
 fn ended(stop: Stop, selection: Selection, left: Registers, right: Registers) -> WidePlayed
-    ensures { result ≡ widePlayed stop left right selection }
+    ensures { result ≡ wide_played stop left right selection }
 {
     WidePlayed {
         stop,

@@ -17,7 +17,7 @@ slice_bounds-text-end c = within_text _ _ _ _ c.list_input-length.ensures
 
 -- LEFT
 slice-aggregate-write-all-2 : tie.Need-slice-aggregate-write-all-2
-slice-aggregate-write-all-2 c = sym (length-take-le _ _ (within_text _ _ _ _ c.before.before.list-input.ensures))
+slice-aggregate-write-all-2 c = sym (length-take-le _ _ (within_text _ _ _ _ c.before.before.list_input.ensures))
 
 -- LEFT
 slice-aggregate-write-all-3 : tie.Need-slice-aggregate-write-all-3

@@ -28,26 +28,26 @@ starting d = (running d).before.before.before.before.before
 abbrev tested : After-list → Else-text-lt-LONGEST_LISTING
 tested d = (starting d).before.before.before
 
-abbrev hungOf : After-list → Hung
-hungOf d = (tested d).before.before.before.args.hung
+abbrev hung_of : After-list → Hung
+hung_of d = (tested d).before.before.before.args.hung
 
-abbrev traceOf : After-list → List ℕ
-traceOf d = (tested d).before.before.before.args.trace.now
+abbrev trace_of : After-list → List ℕ
+trace_of d = (tested d).before.before.before.args.trace.now
 
 abbrev text_of : After-list → List ℕ
 text_of d = (tested d).before.before.before.args.text.now
 
 -- what the listing leaves
-left : («d at After-list» : After-list) → outcome d.list.result d.list.new.text ≡ written (listing_of_trace (hungOf «d at After-list») (traceOf «d at After-list»)) (text_of «d at After-list»)
+left : («d at After-list» : After-list) → outcome d.list.result d.list.new.text ≡ written (listing_of_trace (hung_of «d at After-list») (trace_of «d at After-list»)) (text_of «d at After-list»)
 left «d at After-list» =
     let drawn = drawing «d at After-list» in
     let ran = running «d at After-list» in
     let begun = starting «d at After-list» in
-    whole (hungOf «d at After-list») (traceOf «d at After-list») (text_of «d at After-list») begun.start.last.1.0 begun.start.last.1.1.0 begun.start.result ran.run.result ran.run.last.0 ran.run.last.1.0 drawn.draw.last.1.1.0 d.list.new.text drawn.draw.result d.list.result begun.start.ensures ran.run.ensures drawn.draw.ensures d.list.ensures (omega (arith, ran)) (omega (arith, ran)) (omega (arith, drawn)) (tested «d at After-list»).if1.false
+    whole (hung_of «d at After-list») (trace_of «d at After-list») (text_of «d at After-list») begun.start.last.1.0 begun.start.last.1.1.0 begun.start.result ran.run.result ran.run.last.0 ran.run.last.1.0 drawn.draw.last.1.1.0 d.list.new.text drawn.draw.result d.list.result begun.start.ensures ran.run.ensures drawn.draw.ensures d.list.ensures (omega (arith, ran)) (omega (arith, ran)) (omega (arith, drawn)) (tested «d at After-list»).if1.false
 
 pub returns-in-Written : goal.returns-in-Written
 returns-in-Written c =
-    finished (hungOf (goal.at.returns-in-Written c).After-list) (traceOf (goal.at.returns-in-Written c).After-list) (text_of (goal.at.returns-in-Written c).After-list) _ _ _ (tested (goal.at.returns-in-Written c).After-list).if1.false (left (goal.at.returns-in-Written c).After-list) c.in-Written.is
+    finished (hung_of (goal.at.returns-in-Written c).After-list) (trace_of (goal.at.returns-in-Written c).After-list) (text_of (goal.at.returns-in-Written c).After-list) _ _ _ (tested (goal.at.returns-in-Written c).After-list).if1.false (left (goal.at.returns-in-Written c).After-list) c.in-Written.is
 
 pub returns-in-Refused : goal.returns-in-Refused
 returns-in-Refused c = absurd (never_refused _ _ _ _ _ (left (goal.at.returns-in-Refused c).After-list) c.in-Refused.is)

@@ -30,4 +30,4 @@ put_bytes-requires c =
 pub returns : goal.returns
 unfolding frame_text ascii
 returns c =
-    after c.Put-refused.ensures (after (after c.put_header-next.ensures c.put_lines-next.ensures) c.put_bytes.ensures)
+    after c.put_refused.ensures (after (after c.put_header-next.ensures c.put_lines-next.ensures) c.put_bytes.ensures)

@@ -7,20 +7,20 @@ use Rattle.host.proofs.record.ssd1815b_record.Goals as goal
 
 pub overflow_add-next : goal.overflow_add-next
 overflow_add-next c =
-    omega (arith, within_trace c.args.bytes.now c.args.at c.in-Whole.header (sym c.Front-at.ensures ∙ c.in-Whole.is))
+    omega (arith, within_trace c.args.bytes.now c.args.at c.in-Whole.header (sym c.front_at.ensures ∙ c.in-Whole.is))
 
 pub overflow_add-next-in-Whole : goal.overflow_add-next-in-Whole
 overflow_add-next-in-Whole c =
-    omega (arith, within_trace c.args.bytes.now c.args.at c.in-Whole.header (sym c.Front-at.ensures ∙ c.in-Whole.is))
+    omega (arith, within_trace c.args.bytes.now c.args.at c.in-Whole.header (sym c.front_at.ensures ∙ c.in-Whole.is))
 
 pub returns-in-Nothing : goal.returns-in-Nothing
 unfolding record_of
-returns-in-Nothing c = rw (← c.Front-at.ensures, c.in-Nothing.is)
+returns-in-Nothing c = rw (← c.front_at.ensures, c.in-Nothing.is)
 
 pub returns-in-Cut : goal.returns-in-Cut
 unfolding record_of
-returns-in-Cut c = rw (← c.Front-at.ensures, c.in-Cut.is)
+returns-in-Cut c = rw (← c.front_at.ensures, c.in-Cut.is)
 
 pub returns-in-Whole : goal.returns-in-Whole
 unfolding record_of
-returns-in-Whole c = rw (← c.Front-at.ensures, c.in-Whole.is)
+returns-in-Whole c = rw (← c.front_at.ensures, c.in-Whole.is)

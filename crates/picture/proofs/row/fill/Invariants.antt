@@ -8,7 +8,7 @@ use Rattle.picture.specs.Frame.{line}
 use Rattle.picture.proofs.row.fill.Given as goal
 
 abbrev pub invariant-loop-x : goal.invariant-loop-x
-invariant-loop-x l = (l.x ≤ width) × (l.places ≡ line l.x (λ l.x. l.value) ++ drop l.x l.initial.places)
+invariant-loop-x l = (l.x ≤ width) × (l.places ≡ line l.x (λ x. l.value) ++ drop l.x l.initial.places)
 
 abbrev pub decreases-loop-x : goal.decreases-loop-x
 decreases-loop-x l = width - l.x

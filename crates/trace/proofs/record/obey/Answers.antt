@@ -3,7 +3,7 @@ use mathlib.Core.Path.{sym, ◌∙◌}
 use mathlib.Core.List.{[]}
 use native.Mathlib.Omega.{arith}
 use Rattle.trace.specs.Kinds.{recorded_command, recorded_write, read_as}
-use Rattle.trace.specs.Code.{endingOf}
+use Rattle.trace.specs.Code.{ending_of}
 use Rattle.trace.proofs.WhatStands.{within_trace}
 use Rattle.trace.proofs.RecordsAreStretches.{ends, takes, reaches, ends_there}
 use Rattle.trace.proofs.ChipKinds.{kind_1, kind_2, kind_3, kind_4, kind_4_loaded, kind_unknown_lem}
@@ -63,12 +63,12 @@ returns-in-3 c =
     rw c.ended-in-3.ensures (ends_there read_as c.args.trace.now _ _ (omega arith) fits _ _ _ c.reads.ensures ∙ sym (kind_3 c.args.trace.now c.args.at c.args.header c.requires _ c.in-3.is))
 
 pub returns-else-length-eq0 : goal.returns-else-length-eq0
-unfolding endingOf
+unfolding ending_of
 returns-else-length-eq0 c =
     rw c.unknown.ensures (sym (kind_4_loaded c.args.trace.now c.args.at c.args.header c.requires _ c.in-4.is c.if-length-eq0.false))
 
 pub returns-in_default : goal.returns-in_default
-unfolding endingOf
+unfolding ending_of
 returns-in_default c =
     let other = c.in_default.in_default-own.rest in
     rw c.unknown-in_default.ensures (sym (kind_unknown_lem c.args.trace.now c.args.at c.args.header c.requires _ other.0.0.0.1 other.0.0.1 other.0.1 other.1))

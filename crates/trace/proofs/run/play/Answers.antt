@@ -8,7 +8,7 @@ use Rattle.constants.specs.Sizes.{header_size}
 use Rattle.trace.specs.Records.{split}
 use Rattle.trace.specs.Front.{front_of}
 use Rattle.trace.specs.Kinds.{the_chip}
-use Rattle.trace.specs.Code.{endingOf, playedOf}
+use Rattle.trace.specs.Code.{ending_of, played_of}
 use Rattle.trace.proofs.WhatStands.{within_trace}
 use Rattle.trace.proofs.PlayedFurther.{plays_nothing, plays_cut, plays_on, plays_stop}
 use Rattle.trace.specs.declared.records.Front.{Front}
@@ -30,7 +30,7 @@ pub shape_of-memory-in-Nothing : goal.shape_of-memory-in-Nothing
 shape_of-memory-in-Nothing c = c.loop-header.invariant.2
 
 pub returns-in-Nothing : goal.returns-in-Nothing
-unfolding playedOf
+unfolding played_of
 returns-in-Nothing c =
     let loop = c.loop-header in
     rw c.end.ensures
@@ -40,7 +40,7 @@ pub shape_of-memory-in-Cut : goal.shape_of-memory-in-Cut
 shape_of-memory-in-Cut c = c.loop-header.invariant.2
 
 pub returns-in-Cut : goal.returns-in-Cut
-unfolding playedOf
+unfolding played_of
 returns-in-Cut c =
     let loop = c.loop-header in
     rw c.end-in-Cut.ensures
@@ -62,7 +62,7 @@ pub loop-header-smaller : goal.loop-header-smaller
 loop-header-smaller c = omega (arith, fits (goal.at.loop-header-smaller c).In-Whole)
 
 pub loop-header-preserved : goal.loop-header-preserved
-unfolding endingOf
+unfolding ending_of
 loop-header-preserved c =
     let loop = c.loop-header in
     let obeyed = c.obey-ending in (
@@ -76,7 +76,7 @@ pub shape_of-memory-else-ending-eq-TAKEN : goal.shape_of-memory-else-ending-eq-T
 shape_of-memory-else-ending-eq-TAKEN c = c.obey-ending.auto.1.1.0 ∙ c.loop-header.invariant.2
 
 pub returns-else-ending-eq-TAKEN : goal.returns-else-ending-eq-TAKEN
-unfolding endingOf playedOf
+unfolding ending_of played_of
 returns-else-ending-eq-TAKEN c =
     let loop = c.loop-header in
     let obeyed = c.obey-ending in

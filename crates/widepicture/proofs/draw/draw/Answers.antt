@@ -10,7 +10,7 @@ returns-then-frame-lt-WIDE_FRAME_SIZE c = search (rules, frame_short)
 pub draw_both-requires : goal.draw_both-requires
 draw_both-requires c =
     let a = c.args in
-    both_long (both_lent a.left-state.now a.left-memory.now a.right-state.now a.right-memory.now) a.frame.now c.if-frame-lt-WIDE_FRAME_SIZE.false c.ask.ensures c.in-Found.is
+    both_long (both_lent a.left_state.now a.left_memory.now a.right_state.now a.right_memory.now) a.frame.now c.if-frame-lt-WIDE_FRAME_SIZE.false c.ask.ensures c.in-Found.is
 
 pub returns-in-Found : goal.returns-in-Found
 returns-in-Found c = search (rules, both_drawn)

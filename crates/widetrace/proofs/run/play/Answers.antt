@@ -8,12 +8,12 @@ pub returns-then-stop-eq-TAKEN : goal.returns-then-stop-eq-TAKEN
 returns-then-stop-eq-TAKEN c =
     let a = c.args in
     rw c.ended.ensures
-    (taken_by_both a.registers a.trace.now a.left-memory.now a.right-memory.now c.play_side-first.result _ c.play_side-first.ensures c.play_side-second.result _ c.play_side-second.ensures c.if-stop-eq-TAKEN.true)
+    (taken_by_both a.registers a.trace.now a.left_memory.now a.right_memory.now c.play_side-first.result _ c.play_side-first.ensures c.play_side-second.result _ c.play_side-second.ensures c.if-stop-eq-TAKEN.true)
 
 pub put_back-requires : goal.put_back-requires
 put_back-requires c =
     let a = c.args in
-    (search rules, still_long a.registers a.trace.now a.left-memory.now a.right-memory.now c.play_side-first.result _ c.play_side-first.ensures c.requires)
+    (search rules, still_long a.registers a.trace.now a.left_memory.now a.right_memory.now c.play_side-first.result _ c.play_side-first.ensures c.requires)
 
 pub shape_of-left_memory : goal.shape_of-left_memory
 shape_of-left_memory c = c.play_side-again.auto.1.1.0 ∙ c.put_back.auto.1.0 ∙ c.play_side-first.auto.1.1.0
@@ -25,4 +25,4 @@ pub returns : goal.returns
 returns c =
     let a = c.args in
     rw c.ended-2.ensures
-    (stopped_by_right a.registers a.trace.now a.left-memory.now a.right-memory.now c.play_side-first.result _ c.play_side-first.ensures c.play_side-second.result _ c.play_side-second.ensures _ (c.put_back.ensures ∙ rw c.copied-kept.ensures) c.play_side-again.result _ c.play_side-again.ensures c.if-stop-eq-TAKEN.false)
+    (stopped_by_right a.registers a.trace.now a.left_memory.now a.right_memory.now c.play_side-first.result _ c.play_side-first.ensures c.play_side-second.result _ c.play_side-second.ensures _ (c.put_back.ensures ∙ rw c.copied-kept.ensures) c.play_side-again.result _ c.play_side-again.ensures c.if-stop-eq-TAKEN.false)

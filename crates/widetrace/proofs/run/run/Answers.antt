@@ -8,17 +8,17 @@ use Rattle.widetrace.proofs.run.run.Goals as goal
 pub play-played-requires : goal.play-played-requires
 play-played-requires c =
     let a = c.args in
-    let all = both_lent a.left-state.now a.left-memory.now a.right-state.now a.right-memory.now in
+    let all = both_lent a.left_state.now a.left_memory.now a.right_state.now a.right_memory.now in
     (memories_long all (sym c.ask.ensures ∙ c.in-Found.is)).0
 
 pub returns-in-Found : goal.returns-in-Found
 returns-in-Found c =
     let a = c.args in
-    let all = both_lent a.left-state.now a.left-memory.now a.right-state.now a.right-memory.now in
+    let all = both_lent a.left_state.now a.left_memory.now a.right_state.now a.right_memory.now in
     plays all a.trace.now c.ask.ensures c.in-Found.is c.play-played.result _ _ c.play-played.ensures c.store.ensures c.store-in-Found.ensures
 
 pub returns-in-Refused : goal.returns-in-Refused
 returns-in-Refused c =
     let a = c.args in
-    let all = both_lent a.left-state.now a.left-memory.now a.right-state.now a.right-memory.now in
+    let all = both_lent a.left_state.now a.left_memory.now a.right_state.now a.right_memory.now in
     refuses all a.trace.now c.ask.ensures c.in-Refused.is
