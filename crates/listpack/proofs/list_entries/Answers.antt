@@ -9,8 +9,8 @@ use Rattle.listpack.proofs.list_entries.Goals as goal
 use Rattle.listpack.proofs.list_entries.Goals.{In-Whole}
 
 -- the entry at the loop's offset is within the pack
-fits : («d at In-Whole» : In-Whole → d.loop-sizes.at + header_size + d.in-Whole.sizes.name + d.in-Whole.sizes.trace ≤ length d.args.pack.now
-fits «d at In-Whole» = within d.args.pack.now d.loop-sizes.at d.in-Whole.sizes (sym d.entry_at.ensures ∙ d.in-Whole.is)
+fits : (d : In-Whole) → d.loop-sizes.at + header_size + d.in-Whole.sizes.name + d.in-Whole.sizes.trace ≤ length d.args.pack.now
+fits d = within d.args.pack.now d.loop-sizes.at d.in-Whole.sizes (sym d.entry_at.ensures ∙ d.in-Whole.is)
 
 pub loop-sizes-init : goal.loop-sizes-init
 loop-sizes-init c = (omega arith, omega arith)

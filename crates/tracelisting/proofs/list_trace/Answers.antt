@@ -38,12 +38,12 @@ abbrev text_of : After-list → List ℕ
 text_of d = (tested d).before.before.before.args.text.now
 
 -- what the listing leaves
-left : («d at After-list» : After-list) → outcome d.list.result d.list.new.text ≡ written (listing_of_trace (hung_of «d at After-list») (trace_of «d at After-list»)) (text_of «d at After-list»)
-left «d at After-list» =
-    let drawn = drawing «d at After-list» in
-    let ran = running «d at After-list» in
-    let begun = starting «d at After-list» in
-    whole (hung_of «d at After-list») (trace_of «d at After-list») (text_of «d at After-list») begun.start.last.1.0 begun.start.last.1.1.0 begun.start.result ran.run.result ran.run.last.0 ran.run.last.1.0 drawn.draw.last.1.1.0 d.list.new.text drawn.draw.result d.list.result begun.start.ensures ran.run.ensures drawn.draw.ensures d.list.ensures (omega (arith, ran)) (omega (arith, ran)) (omega (arith, drawn)) (tested «d at After-list»).if1.false
+left : (d : After-list) → outcome d.list.result d.list.new.text ≡ written (listing_of_trace (hung_of d) (trace_of d)) (text_of d)
+left d =
+    let drawn = drawing d in
+    let ran = running d in
+    let begun = starting d in
+    whole (hung_of d) (trace_of d) (text_of d) begun.start.last.1.0 begun.start.last.1.1.0 begun.start.result ran.run.result ran.run.last.0 ran.run.last.1.0 drawn.draw.last.1.1.0 d.list.new.text drawn.draw.result d.list.result begun.start.ensures ran.run.ensures drawn.draw.ensures d.list.ensures (omega (arith, ran)) (omega (arith, ran)) (omega (arith, drawn)) (tested d).if1.false
 
 pub returns-in-Written : goal.returns-in-Written
 returns-in-Written c =

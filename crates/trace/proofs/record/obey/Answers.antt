@@ -16,7 +16,7 @@ pub overflow_add-to : goal.overflow_add-to
 overflow_add-to c = let args = c.args in omega (arith, within_trace args.trace.now args.at args.header c.requires)
 
 pub slice_bounds-commands-end : goal.slice_bounds-commands-end
-slice_bounds-commands-end c = let d = (goal.at.slice_bounds-commands-end c).Start in within_trace d.args.trace.now d.args.at d.args.header d.requires
+slice_bounds-commands-end c = within_trace c.args.trace.now c.args.at c.args.header c.requires
 
 pub ended-requires : goal.ended-requires
 ended-requires c =
@@ -24,7 +24,7 @@ ended-requires c =
     omega (arith, fits, reaches recorded_command c.args.trace.now _ _ (omega arith) fits _ _ [] (c.commands.ensures []))
 
 pub slice_bounds-writes-end : goal.slice_bounds-writes-end
-slice_bounds-writes-end c = let d = (goal.at.slice_bounds-writes-end c).Start in within_trace d.args.trace.now d.args.at d.args.header d.requires
+slice_bounds-writes-end c = within_trace c.args.trace.now c.args.at c.args.header c.requires
 
 pub ended-requires-in-2 : goal.ended-requires-in-2
 ended-requires-in-2 c =
@@ -32,7 +32,7 @@ ended-requires-in-2 c =
     omega (arith, fits, reaches recorded_write c.args.trace.now _ _ (omega arith) fits _ _ _ c.writes.ensures)
 
 pub slice_bounds-reads-end : goal.slice_bounds-reads-end
-slice_bounds-reads-end c = let d = c.before.before.before.before in within_trace d.args.trace.now d.args.at d.args.header d.requires
+slice_bounds-reads-end c = within_trace c.args.trace.now c.args.at c.args.header c.requires
 
 pub ended-requires-in-3 : goal.ended-requires-in-3
 ended-requires-in-3 c =

@@ -16,11 +16,11 @@ use Rattle.trace.proofs.run.play.Goals as goal
 use Rattle.trace.proofs.run.play.Goals.{In-Whole}
 
 -- the record that stands at the loop's offset
-standing : («d at In-Whole» : In-Whole → front_of (drop d.loop-header.at d.args.trace.now) ≡ Front.Whole d.in-Whole.header
-standing «d at In-Whole» = sym d.read_at.ensures ∙ d.in-Whole.is
+standing : (d : In-Whole) → front_of (drop d.loop-header.at d.args.trace.now) ≡ Front.Whole d.in-Whole.header
+standing d = sym d.read_at.ensures ∙ d.in-Whole.is
 
-fits : («d at In-Whole» : In-Whole → d.loop-header.at + header_size + d.in-Whole.header.length ≤ length d.args.trace.now
-fits «d at In-Whole» = within_trace d.args.trace.now d.loop-header.at d.in-Whole.header (standing «d at In-Whole»)
+fits : (d : In-Whole) → d.loop-header.at + header_size + d.in-Whole.header.length ≤ length d.args.trace.now
+fits d = within_trace d.args.trace.now d.loop-header.at d.in-Whole.header (standing d)
 
 pub loop-header-init : goal.loop-header-init
 unfolding split
@@ -68,12 +68,12 @@ loop-header-preserved c =
     let obeyed = c.obey-ending in (
       omega (arith, fits (goal.at.loop-header-preserved c).In-Whole),
       omega (arith, fits (goal.at.loop-header-preserved c).In-Whole),
-      obeyed.auto.1.1.0 ∙ loop.invariant.2,
+      obeyed.auto.memory ∙ loop.invariant.2,
       loop.invariant.3 ∙ plays_on c.args.trace.now loop.at the_chip loop.count _ _ (standing (goal.at.loop-header-preserved c).In-Whole) _ (sym (rw c.if-ending-eq-TAKEN.true at obeyed.ensures)),
     )
 
 pub shape_of-memory-else-ending-eq-TAKEN : goal.shape_of-memory-else-ending-eq-TAKEN
-shape_of-memory-else-ending-eq-TAKEN c = c.obey-ending.auto.1.1.0 ∙ c.loop-header.invariant.2
+shape_of-memory-else-ending-eq-TAKEN c = c.obey-ending.auto.memory ∙ c.loop-header.invariant.2
 
 pub returns-else-ending-eq-TAKEN : goal.returns-else-ending-eq-TAKEN
 unfolding ending_of played_of

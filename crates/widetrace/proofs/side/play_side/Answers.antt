@@ -17,16 +17,16 @@ use Rattle.widetrace.proofs.side.play_side.Goals as goal
 use Rattle.widetrace.proofs.side.play_side.Goals.{After-size_before-size, In-Whole}
 
 -- the record that stands at the loop's offset
-standing : («d at In-Whole» : In-Whole → front_of (drop d.loop-at.at d.args.trace.now) ≡ Front.Whole d.in-Whole.header
-standing «d at In-Whole» = sym d.read_at.ensures ∙ d.in-Whole.is
+standing : (d : In-Whole) → front_of (drop d.loop-at.at d.args.trace.now) ≡ Front.Whole d.in-Whole.header
+standing d = sym d.read_at.ensures ∙ d.in-Whole.is
 
-fits : («d at In-Whole» : In-Whole → d.loop-at.at + header_size + d.in-Whole.header.length ≤ length d.args.trace.now
-fits «d at In-Whole» = within_trace d.args.trace.now d.loop-at.at d.in-Whole.header (standing «d at In-Whole»)
+fits : (d : In-Whole) → d.loop-at.at + header_size + d.in-Whole.header.length ≤ length d.args.trace.now
+fits d = within_trace d.args.trace.now d.loop-at.at d.in-Whole.header (standing d)
 
 -- the bytes before the limit lie in the trace
-part_fits : («z at After-size_before-size» : After-size_before-size → z.loop-at.at + header_size + z.size_before-size.result ≤ length z.args.trace.now
-part_fits «z at After-size_before-size» =
-    turns.fits z.args.trace.now z.loop-at.at z.in-Whole.header (standing «z at In-Whole») z.args.limit z.size_before-size.ensures
+part_fits : (z : After-size_before-size) → z.loop-at.at + header_size + z.size_before-size.result ≤ length z.args.trace.now
+part_fits z =
+    turns.fits z.args.trace.now z.loop-at.at z.in-Whole.header (standing z) z.args.limit z.size_before-size.ensures
 
 pub loop-at-init : goal.loop-at-init
 unfolding split
