@@ -4,4 +4,4 @@ use Rattle.hostbus.specs.Events.{of_read}
 use Rattle.hostbus.proofs.events.ssd1815b_read.Goals as goal
 
 pub returns : goal.returns
-returns c = rw c.mark.ensures (ap of_read c.read_reply.ensures)
+returns c = rw c.mark.ensures (ap of_read c.read-reply.ensures)

@@ -8,4 +8,4 @@ pub returns-then-shade-other : goal.returns-then-shade-other
 returns-then-shade-other c = search (rules, both_told)
 
 pub returns : goal.returns
-returns c = search (rules, halves_drawn)
+returns c = halves_drawn c.args.registers c.args.left_memory.now c.args.right_memory.now c.args.frame.now c.requires.2 c.draw_half.ensures c.draw_half-2.ensures

@@ -16,10 +16,10 @@ put_back-requires c =
     (search rules, still_long a.registers a.trace.now a.left_memory.now a.right_memory.now c.play_side-first.result _ c.play_side-first.ensures c.requires)
 
 pub shape_of-left_memory : goal.shape_of-left_memory
-shape_of-left_memory c = c.play_side-again.auto.1.1.0 ∙ c.put_back.auto.1.0 ∙ c.play_side-first.auto.1.1.0
+shape_of-left_memory c = c.play_side-again.auto.memory ∙ c.put_back.auto.memory ∙ c.play_side-first.auto.memory
 
 pub shape_of-right_memory : goal.shape_of-right_memory
-shape_of-right_memory c = c.play_side-second.auto.1.1.0
+shape_of-right_memory c = c.play_side-second.auto.memory
 
 pub returns : goal.returns
 returns c =
