@@ -13,11 +13,13 @@ module _ {A : Type 0} (P Q : A → Type 0) where
   all_map f (a ∷ l) all = (f a all.0, all_map f l all.1)
 
   pub some_map : ((a : A) → P a → Q a) → (l : List A) → Some P l → Some Q l
+  some_map f [] s = elim s [ ]
   some_map f (a ∷ l) (inl p) = inl (f a p)
   some_map f (a ∷ l) (inr s) = inr (some_map f l s)
 
   -- what holds of all holds of the one that is spoken of
   pub all_some : (l : List A) → All P l → Some Q l → Some (λ a. P a × Q a) l
+  all_some [] all s = elim s [ ]
   all_some (a ∷ l) all (inl q) = inl (all.0, q)
   all_some (a ∷ l) all (inr s) = inr (all_some l all.1 s)
 
@@ -31,6 +33,7 @@ module _ {A : Type 0} (P : A → Type 0) where
   all_append (a ∷ l) m all all' = (all.0, all_append l m all.1 all')
 
   pub some_first : (l m : List A) → Some P l → Some P (l ++ m)
+  some_first [] m s = elim s [ ]
   some_first (a ∷ l) m (inl p) = inl p
   some_first (a ∷ l) m (inr s) = inr (some_first l m s)
 
@@ -44,6 +47,7 @@ Among l e = Some (λ d. d ≡ e) l
 
 -- what holds of all holds of a member
 all_is : {A : Type 0} (P : A → Type 0) (l : List A) (e : A) → All P l → Among l e → P e
+all_is P [] e all s = elim s [ ]
 all_is P (a ∷ l) e all (inl i) = subst P i all.0
 all_is P (a ∷ l) e all (inr s) = all_is P l e all.1 s
 

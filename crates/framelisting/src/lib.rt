@@ -1,5 +1,6 @@
 // A frame, one chip's or the wide one, and a stopped run's number and offset, as text into a lent buffer.
 #![tactic(auto)]
+
 ghost use Rattle.std.specs.Prelude.{◌≡◌, ◌*◌, ◌^◌, ◌<◌};
 ghost use Rattle.constants.specs.Sizes.{frame_rows};
 ghost use Rattle.framelisting.specs.Listing.{outcome, listed_across, listed, listed_wide};

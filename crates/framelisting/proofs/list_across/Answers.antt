@@ -27,7 +27,10 @@ returns-then-frame-size c = sym (frame_short _ _ _ _ _ c.if-frame-size.true)
 
 pub put_listing-written-requires : goal.put_listing-written-requires
 put_listing-written-requires c =
-    (c.if-frame-size.false, omega (arith, c.requires.1 c.args.number c.args.offset c.args.frame.now c.ranges.number.fits c.ranges.offset.fits))
+    record {
+      width_in_bounds = c.if-frame-size.false;
+      countable = omega (arith, c.requires.at_most c.args.number c.args.offset c.args.frame.now c.ranges.number.fits c.ranges.offset.fits);
+    }
 
 pub returns-then-longest-text : goal.returns-then-longest-text
 unfolding written
@@ -35,12 +38,15 @@ returns-then-longest-text c =
     let text = c.args.text.now in
     let listing = listing_across c.args.width c.args.number c.args.offset c.args.frame.now in
     let size : c.put_listing-written.result ≡ length listing = c.put_listing-written.ensures.counted ∙ zero-add (length listing) in
-    let room : length listing ≤ length text = omega (arith, c.if-longest-text.true, c.requires.1 c.args.number c.args.offset c.args.frame.now c.ranges.number.fits c.ranges.offset.fits) in
+    let room : length listing ≤ length text = omega (arith, c.if-longest-text.true, c.requires.at_most c.args.number c.args.offset c.args.frame.now c.ranges.number.fits c.ranges.offset.fits) in
     rw (size, c.put_listing-written.ensures.stored, at_start text listing room) (sym (both_long _ _ _ _ _ c.if-frame-size.false room))
 
 pub put_listing-length-requires : goal.put_listing-length-requires
 put_listing-length-requires c =
-    (c.if-frame-size.false, omega (arith, c.requires.1 c.args.number c.args.offset c.args.frame.now c.ranges.number.fits c.ranges.offset.fits))
+    record {
+      width_in_bounds = c.if-frame-size.false;
+      countable = omega (arith, c.requires.at_most c.args.number c.args.offset c.args.frame.now c.ranges.number.fits c.ranges.offset.fits);
+    }
 
 pub returns-then-text-length : goal.returns-then-text-length
 returns-then-text-length c =

@@ -4,4 +4,4 @@ use Rattle.framelisting.proofs.LongestListing.{longest_listing_lem}
 use Rattle.framelisting.proofs.list_wide.Goals as goal
 
 pub list_across-requires : goal.list_across-requires
-list_across-requires c = (lit< tt, longest_listing_lem.wide.at_most)
+list_across-requires c = record { width_bound = lit< tt; at_most = longest_listing_lem.wide.at_most }

@@ -38,5 +38,5 @@ loop-column-preserved c =
 pub returns : goal.returns
 returns c =
     let a = c.args in
-    let none = rw (bytes_end width a.page a.first.now a.second.now c.loop-column.column c.loop-column-test.false) (goal.at.returns c).At-loop-column c.loop-column.invariant.1 in
+    let none = rw (bytes_end width a.page a.first.now a.second.now c.loop-column.column c.loop-column-test.false) at c.loop-column.invariant.1 in
     omega (arith, none)

@@ -23,7 +23,7 @@ overflow_add-count c =
     let a = c.args in
     let f = a.first.now in
     let g = a.second.now in
-    let found = rw (part f c.loop-page.page, part g c.loop-page.page) (goal.at.overflow_add-count c).At-loop-page c.count_bytes.ensures in
+    let found = rw (part f c.loop-page.page, part g c.loop-page.page) at c.count_bytes.ensures in
     let next = rows_next width page_bytes f g pages c.loop-page.page c.loop-page.count c.count_bytes.result _ (omega arith) c.loop-page.invariant.1 found in
     omega (arith, next, bytes_at_most f g)
 
@@ -32,12 +32,12 @@ loop-page-preserved c =
     let a = c.args in
     let f = a.first.now in
     let g = a.second.now in
-    let found = rw (part f c.loop-page.page, part g c.loop-page.page) (goal.at.loop-page-preserved c).At-loop-page c.count_bytes.ensures in
+    let found = rw (part f c.loop-page.page, part g c.loop-page.page) at c.count_bytes.ensures in
     let next = rows_next width page_bytes f g pages c.loop-page.page c.loop-page.count c.count_bytes.result _ (omega arith) c.loop-page.invariant.1 found in
     (omega arith, next)
 
 pub returns : goal.returns
 returns c =
     let a = c.args in
-    let none = rw (rows_end width page_bytes a.first.now a.second.now pages c.loop-page.page c.loop-page-test.false) (goal.at.returns c).At-loop-page c.loop-page.invariant.1 in
+    let none = rw (rows_end width page_bytes a.first.now a.second.now pages c.loop-page.page c.loop-page-test.false) at c.loop-page.invariant.1 in
     omega (arith, none)

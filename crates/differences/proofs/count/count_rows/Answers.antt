@@ -25,7 +25,7 @@ overflow_add-count c =
     let a = c.args in
     let f = a.first.now in
     let g = a.second.now in
-    let found = rw (part f c.loop-p.p, part g c.loop-p.p) (goal.at.overflow_add-count c).At-loop-p c.count_row.ensures in
+    let found = rw (part f c.loop-p.p, part g c.loop-p.p) at c.count_row.ensures in
     let next = rows_next width (row_runs width) f g frame_rows c.loop-p.p c.loop-p.count c.count_row.result _ (omega arith) c.loop-p.invariant.1 (found ∙ sym (any_row c.loop-p.p (row_of width c.loop-p.p f) (row_of width c.loop-p.p g) width 0)) in
     omega (arith, next, runs_at_most width frame_rows f g)
 
@@ -34,12 +34,12 @@ loop-p-preserved c =
     let a = c.args in
     let f = a.first.now in
     let g = a.second.now in
-    let found = rw (part f c.loop-p.p, part g c.loop-p.p) (goal.at.loop-p-preserved c).At-loop-p c.count_row.ensures in
+    let found = rw (part f c.loop-p.p, part g c.loop-p.p) at c.count_row.ensures in
     let next = rows_next width (row_runs width) f g frame_rows c.loop-p.p c.loop-p.count c.count_row.result _ (omega arith) c.loop-p.invariant.1 (found ∙ sym (any_row c.loop-p.p (row_of width c.loop-p.p f) (row_of width c.loop-p.p g) width 0)) in
     (omega arith, next)
 
 pub returns : goal.returns
 returns c =
     let a = c.args in
-    let none = rw (rows_end width (row_runs width) a.first.now a.second.now frame_rows c.loop-p.p c.loop-p-test.false) (goal.at.returns c).At-loop-p c.loop-p.invariant.1 in
+    let none = rw (rows_end width (row_runs width) a.first.now a.second.now frame_rows c.loop-p.p c.loop-p-test.false) at c.loop-p.invariant.1 in
     omega (arith, none)

@@ -7,35 +7,11 @@ use Rattle.differences.proofs.AlongRow.{runs_end}
 use Rattle.differences.proofs.Counting.{runs_first, runs_next}
 use Rattle.differences.proofs.count.count_runs.Goals as goal
 
-shared_slice_read_one_where_differing :
-    tie.Need-shared-slice-read-one-where-differing invariant-loop decreases-loop
-shared_slice_read_one_where_differing c = omega arith
-
-shared_slice_read_one_where_differing_2 :
-    tie.Need-shared-slice-read-one-where-differing-2 invariant-loop decreases-loop
-shared_slice_read_one_where_differing_2 c = omega arith
-
 pub one_where_differing-count-requires : goal.one_where_differing-count-requires
 one_where_differing-count-requires c = tt
 
 pub loop-x-init : goal.loop-x-init
 loop-x-init c = (omega arith, omega arith, runs_first width _ _ _ (omega arith) c.one_where_differing-count.ensures)
-
-shared_slice_read_one_where_beginning :
-    tie.Need-shared-slice-read-one-where-beginning invariant-loop decreases-loop
-shared_slice_read_one_where_beginning c = omega arith
-
-shared_slice_read_one_where_beginning_2 :
-    tie.Need-shared-slice-read-one-where-beginning-2 invariant-loop decreases-loop
-shared_slice_read_one_where_beginning_2 c = omega arith
-
-shared_slice_read_one_where_beginning_3 :
-    tie.Need-shared-slice-read-one-where-beginning-3 invariant-loop decreases-loop
-shared_slice_read_one_where_beginning_3 c = omega arith
-
-shared_slice_read_one_where_beginning_4 :
-    tie.Need-shared-slice-read-one-where-beginning-4 invariant-loop decreases-loop
-shared_slice_read_one_where_beginning_4 c = omega arith
 
 pub one_where_beginning-count-requires : goal.one_where_beginning-count-requires
 one_where_beginning-count-requires c = tt
@@ -53,5 +29,5 @@ loop-x-preserved c =
 pub returns : goal.returns
 returns c =
     let a = c.args in
-    let none = rw (runs_end width 0 a.first.now a.second.now c.loop-x.x c.loop-x-test.false) (goal.at.returns c).At-loop-x c.loop-x.invariant.2 in
+    let none = rw (runs_end width 0 a.first.now a.second.now c.loop-x.x c.loop-x-test.false) at c.loop-x.invariant.2 in
     omega (arith, none)

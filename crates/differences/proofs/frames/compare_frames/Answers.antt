@@ -66,7 +66,10 @@ pub put_rows-requires : goal.put_rows-requires
 put_rows-requires c =
     let a = c.args in
     let room : length (runs_of a.first.now a.second.now) * frame_entry_size ≤ length a.list.now = ltb-false _ _ (sym c.too_small.ensures ∙ c.if-too_small.false) in
-    ((c.if-first-lt-FRAME_SIZE.false, c.if-second-lt-FRAME_SIZE.false), omega (arith, room))
+    record {
+      frame_size_in_bounds = (c.if-first-lt-FRAME_SIZE.false, c.if-second-lt-FRAME_SIZE.false);
+      room = omega (arith, room);
+    }
 
 pub returns-else-too_small : goal.returns-else-too_small
 returns-else-too_small c =

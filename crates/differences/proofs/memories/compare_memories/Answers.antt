@@ -41,7 +41,10 @@ pub put_pages-requires : goal.put_pages-requires
 put_pages-requires c =
     let a = c.args in
     let room : length (bytes_of a.first.now a.second.now) * memory_entry_size ≤ length a.list.now = ltb-false _ _ (sym c.too_small.ensures ∙ c.if-too_small.false) in
-    ((c.if-first-lt-MEMORY_SIZE.false, c.if-second-lt-MEMORY_SIZE.false), omega (arith, room))
+    record {
+      memory_size_in_bounds = (c.if-first-lt-MEMORY_SIZE.false, c.if-second-lt-MEMORY_SIZE.false);
+      room = omega (arith, room);
+    }
 
 pub returns : goal.returns
 returns c = put_listed memory_entry_size byte_entry byte_sized c.put_pages.ensures (ltb-false _ _ (sym c.too_small.ensures ∙ c.if-too_small.false)) ∙ sym (all_in_order _ _ _ c.if-first-lt-MEMORY_SIZE.false c.if-second-lt-MEMORY_SIZE.false)

@@ -19,18 +19,21 @@ put_page-next-requires c =
     let f = a.first.now in
     let g = a.second.now in
     let page = c.loop-page.page in
-    let room = room_for _ _ _ (page_bytes page (row_of width page f) (row_of width page g)) _ (rw (rows_on width page_bytes f g pages page (omega arith)) (goal.at.put_page-next-requires c).At-loop-page c.loop-page.invariant.2) c.requires.1 in
-    ((omega arith, omega arith, part_length f page (omega arith), part_length g page (omega arith)), rw (part f page, part g page) room)
+    let room = room_for _ _ _ (page_bytes page (row_of width page f) (row_of width page g)) _ (rw (rows_on width page_bytes f g pages page (omega arith)) at c.loop-page.invariant.2) c.requires.room in
+    record {
+      width_bound = (omega arith, omega arith, part_length f page (omega arith), part_length g page (omega arith));
+      room = rw (part f page, part g page) room;
+    }
 
 pub loop-page-preserved : goal.loop-page-preserved
 loop-page-preserved c =
     let a = c.args in
     let f = a.first.now in
     let g = a.second.now in
-    let put = rw (part f c.loop-page.page, part g c.loop-page.page) (goal.at.loop-page-preserved c).At-loop-page c.put_page-next.ensures in (
+    let put = rw (part f c.loop-page.page, part g c.loop-page.page) at c.put_page-next.ensures in (
       omega arith,
       omega (arith, put.counted, bytes_few c.loop-page.page (row_of width c.loop-page.page f) (row_of width c.loop-page.page g) width 0),
-      turns _ _ _ (rw (rows_on width page_bytes f g pages c.loop-page.page (omega arith)) (goal.at.loop-page-preserved c).At-loop-page c.loop-page.invariant.2) put,
+      turns _ _ _ (rw (rows_on width page_bytes f g pages c.loop-page.page (omega arith)) at c.loop-page.invariant.2) put,
     )
 
 pub shape_of-list : goal.shape_of-list

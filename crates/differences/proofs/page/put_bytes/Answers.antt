@@ -23,21 +23,21 @@ pub loop-column-preserved-then-was-is : goal.loop-column-preserved-then-was-is
 loop-column-preserved-then-was-is c =
     let a = c.args in
     let same : held a.page a.first.now c.loop-column.column ≡ held a.page a.second.now c.loop-column.column = sym c.kept-was.ensures ∙ c.if-was-is.true ∙ c.kept-is.ensures in
-    (omega arith, rw (bytes_on width a.page a.first.now a.second.now c.loop-column.column (omega arith) same) (goal.at.loop-column-preserved-then-was-is c).At-loop-column c.loop-column.invariant.1)
+    (omega arith, rw (bytes_on width a.page a.first.now a.second.now c.loop-column.column (omega arith) same) at c.loop-column.invariant.1)
 
 pub put_byte-requires : goal.put_byte-requires
 put_byte-requires c =
     let a = c.args in
     let inside = c.loop-column-test.true in
     let differs : held a.page a.first.now c.loop-column.column ≡ held a.page a.second.now c.loop-column.column → ⊥ = λ same. c.if-was-is.false (c.kept-was.ensures ∙ same ∙ sym c.kept-is.ensures) in
-    (omega (arith, c.requires.0.0, bytes_few a.page a.first.now a.second.now width 0, not_all _ _ _ (rw (bytes_here width a.page a.first.now a.second.now c.loop-column.column inside differs) (goal.at.put_byte-requires c).At-loop-column c.loop-column.invariant.1)), omega (arith, c.requires.0.1), room_for_one _ _ _ (rw (bytes_here width a.page a.first.now a.second.now c.loop-column.column inside differs) (goal.at.put_byte-requires c).At-loop-column c.loop-column.invariant.1) c.requires.1)
+    (omega (arith, c.requires.width_bound.0, bytes_few a.page a.first.now a.second.now width 0, not_all _ _ _ (rw (bytes_here width a.page a.first.now a.second.now c.loop-column.column inside differs) at c.loop-column.invariant.1)), omega (arith, c.requires.width_bound.1), room_for_one _ _ _ (rw (bytes_here width a.page a.first.now a.second.now c.loop-column.column inside differs) at c.loop-column.invariant.1) c.requires.room)
 
 pub overflow_add-next : goal.overflow_add-next
 overflow_add-next c =
     let a = c.args in
     let inside = c.loop-column-test.true in
     let differs : held a.page a.first.now c.loop-column.column ≡ held a.page a.second.now c.loop-column.column → ⊥ = λ same. c.if-was-is.false (c.kept-was.ensures ∙ same ∙ sym c.kept-is.ensures) in
-    omega (arith, c.requires.0.0, bytes_few a.page a.first.now a.second.now width 0, not_all _ _ _ (rw (bytes_here width a.page a.first.now a.second.now c.loop-column.column inside differs) (goal.at.overflow_add-next c).At-loop-column c.loop-column.invariant.1))
+    omega (arith, c.requires.width_bound.0, bytes_few a.page a.first.now a.second.now width 0, not_all _ _ _ (rw (bytes_here width a.page a.first.now a.second.now c.loop-column.column inside differs) at c.loop-column.invariant.1))
 
 pub loop-column-preserved : goal.loop-column-preserved
 unfolding byte_entry
@@ -45,7 +45,7 @@ loop-column-preserved c =
     let a = c.args in
     let inside = c.loop-column-test.true in
     let differs : held a.page a.first.now c.loop-column.column ≡ held a.page a.second.now c.loop-column.column → ⊥ = λ same. c.if-was-is.false (c.kept-was.ensures ∙ same ∙ sym c.kept-is.ensures) in
-    (omega arith, turn _ _ _ (rw (bytes_here width a.page a.first.now a.second.now c.loop-column.column inside differs) (goal.at.loop-column-preserved c).At-loop-column c.loop-column.invariant.1) (c.put_byte.ensures ∙ rw (c.kept-was.ensures, c.kept-is.ensures)))
+    (omega arith, turn _ _ _ (rw (bytes_here width a.page a.first.now a.second.now c.loop-column.column inside differs) at c.loop-column.invariant.1) (c.put_byte.ensures ∙ rw (c.kept-was.ensures, c.kept-is.ensures)))
 
 pub shape_of-list : goal.shape_of-list
 shape_of-list c = rest_length _ _ _ c.loop-column.invariant.1

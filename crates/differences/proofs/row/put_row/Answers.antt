@@ -18,7 +18,7 @@ pub put_run-requires : goal.put_run-requires
 put_run-requires c =
     let a = c.args in
     let one = runs_one last_column a.p a.first.now a.second.now (c.one_run.ensures c.if-one_run.true) in
-    (omega (arith, c.requires.0.0), omega (arith, rw one at c.requires.1))
+    (omega (arith, c.requires.width_bound.0), omega (arith, rw one at c.requires.room))
 
 pub returns-then-one_run : goal.returns-then-one_run
 unfolding run_entry

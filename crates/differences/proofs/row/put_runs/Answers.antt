@@ -14,10 +14,10 @@ loop-x-init c = (omega arith, open_first width _ _, begin _ _ _ _ _ _)
 pub loop-x-preserved-then-first-x : goal.loop-x-preserved-then-first-x
 loop-x-preserved-then-first-x c =
     let a = c.args in
-    (omega arith, open_same width _ _ c.loop-x.x c.if-first-x.true, rw (runs_on width a.p a.first.now a.second.now c.loop-x.x (omega arith) c.if-first-x.true) (goal.at.loop-x-preserved-then-first-x c).At-loop-x c.loop-x.invariant.2)
+    (omega arith, open_same width _ _ c.loop-x.x c.if-first-x.true, rw (runs_on width a.p a.first.now a.second.now c.loop-x.x (omega arith) c.if-first-x.true) at c.loop-x.invariant.2)
 
 pub run_last-last-requires : goal.run_last-last-requires
-run_last-last-requires c = (omega arith, c.requires.0.1, c.requires.0.2)
+run_last-last-requires c = (omega arith, c.requires.width_bound.1, c.requires.width_bound.2)
 
 pub overflow_cast-last : goal.overflow_cast-last
 overflow_cast-last c =
@@ -27,13 +27,13 @@ overflow_cast-last c =
 pub put_run-requires : goal.put_run-requires
 put_run-requires c =
     let a = c.args in
-    let still = rw (runs_here width a.p a.first.now a.second.now c.loop-x.x c.run_last-last.result (omega arith) c.if-first-x.false c.loop-x.invariant.1 c.run_last-last.ensures) (goal.at.put_run-requires c).At-loop-x c.loop-x.invariant.2 in
-    (omega (arith, c.requires.0.0, runs_few a.p a.first.now a.second.now width 0, not_all _ _ _ still), room_for_one _ _ _ still c.requires.1)
+    let still = rw (runs_here width a.p a.first.now a.second.now c.loop-x.x c.run_last-last.result (omega arith) c.if-first-x.false c.loop-x.invariant.1 c.run_last-last.ensures) at c.loop-x.invariant.2 in
+    (omega (arith, c.requires.width_bound.0, runs_few a.p a.first.now a.second.now width 0, not_all _ _ _ still), room_for_one _ _ _ still c.requires.room)
 
 pub overflow_add-next : goal.overflow_add-next
 overflow_add-next c =
     let a = c.args in
-    omega (arith, c.requires.0.0, runs_few a.p a.first.now a.second.now width 0, not_all _ _ _ (rw (runs_here width a.p a.first.now a.second.now c.loop-x.x c.run_last-last.result (omega arith) c.if-first-x.false c.loop-x.invariant.1 c.run_last-last.ensures) (goal.at.overflow_add-next c).At-loop-x c.loop-x.invariant.2))
+    omega (arith, c.requires.width_bound.0, runs_few a.p a.first.now a.second.now width 0, not_all _ _ _ (rw (runs_here width a.p a.first.now a.second.now c.loop-x.x c.run_last-last.result (omega arith) c.if-first-x.false c.loop-x.invariant.1 c.run_last-last.ensures) at c.loop-x.invariant.2))
 
 pub overflow_add-x-else-first-x : goal.overflow_add-x-else-first-x
 overflow_add-x-else-first-x c =
@@ -52,7 +52,7 @@ loop-x-preserved c =
     let last = c.run_last-last.result in (
       omega (arith, run_within width a.first.now a.second.now c.loop-x.x last inside c.run_last-last.ensures),
       open_after width a.first.now a.second.now c.loop-x.x last inside c.run_last-last.ensures,
-      turn _ _ _ (rw (runs_here width a.p a.first.now a.second.now c.loop-x.x last inside c.if-first-x.false c.loop-x.invariant.1 c.run_last-last.ensures) (goal.at.loop-x-preserved c).At-loop-x c.loop-x.invariant.2) c.put_run.ensures,
+      turn _ _ _ (rw (runs_here width a.p a.first.now a.second.now c.loop-x.x last inside c.if-first-x.false c.loop-x.invariant.1 c.run_last-last.ensures) at c.loop-x.invariant.2) c.put_run.ensures,
     )
 
 pub shape_of-list : goal.shape_of-list

@@ -29,4 +29,4 @@ returns c =
     let f = c.args.first.now in
     let g = c.args.second.now in
     let e : c.loop-i.i ≡ frame_size = omega arith in
-    (rw e (goal.at.returns c).At-loop-i c.loop-i.invariant.1, λ t. first_same frame_size f g c.requires.0 c.requires.1 (λ j h. c.loop-i.invariant.2 (eqb-true _ _ t) j (omega (arith, e, h))))
+    (rw e at c.loop-i.invariant.1, λ t. first_same frame_size f g c.requires.0 c.requires.1 (λ j h. c.loop-i.invariant.2 (eqb-true _ _ t) j (omega (arith, e, h))))

@@ -1,24 +1,15 @@
 -- `framelisting::frame::put_header` meets its contract: three pieces one after the other.
-use borrow.Author.Rules.{rules}
 use native.Mathlib.Omega.{arith}
 use Rattle.framelisting.specs.Ascii.{ascii}
 use Rattle.framelisting.proofs.PutPieces.{after}
 use Rattle.framelisting.proofs.LengthsOfText.{header_pieces, header_length}
 use Rattle.framelisting.proofs.frame.put_header.Goals as goal
 
--- LEFT
-slice-aggregate-put-bytes : tie.Need-slice-aggregate-put-bytes
-slice-aggregate-put-bytes c = search rules
-
 pub put_bytes-next-requires : goal.put_bytes-next-requires
 put_bytes-next-requires c = omega (arith, header_length c.args.width)
 
 pub put_digits-next-requires : goal.put_digits-next-requires
 put_digits-next-requires c = omega (arith, header_length c.args.width)
-
--- LEFT
-slice-aggregate-put-bytes-2 : tie.Need-slice-aggregate-put-bytes-2
-slice-aggregate-put-bytes-2 c = search rules
 
 pub put_bytes-requires : goal.put_bytes-requires
 put_bytes-requires c = omega (arith, header_length c.args.width)

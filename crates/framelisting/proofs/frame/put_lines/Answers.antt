@@ -55,14 +55,18 @@ put_line-next-requires c =
     let frame = c.args.frame.now in
     let w = c.args.width in
     let p = c.loop-p.p in
-    (rw (length-take, length-drop) (omega arith), (subst⁻¹ (λ row. Countable c.loop-p.next (line p row)) (part w frame p) (room c.loop-p.next (line p (row_of w frame p)) _ (rw (lines_on w frame frame_rows p c.loop-p-test.true) (goal.at.put_line-next-requires c).At-loop-p (room_left c.loop-p.invariant.1 c.requires.1))), refl))
+    record {
+      row_len_bound = rw (length-take, length-drop) (omega arith);
+      countable = subst⁻¹ (λ row. Countable c.loop-p.next (line p row)) (part w frame p) (room c.loop-p.next (line p (row_of w frame p)) _ (rw (lines_on w frame frame_rows p c.loop-p-test.true) at (room_left c.loop-p.invariant.1 c.requires.countable)));
+      pairs_value = refl;
+    }
 
 pub loop-p-preserved : goal.loop-p-preserved
 loop-p-preserved c =
     let frame = c.args.frame.now in
     let w = c.args.width in
     let p = c.loop-p.p in
-    (omega arith, turn (rw (lines_on w frame frame_rows p c.loop-p-test.true) (goal.at.loop-p-preserved c).At-loop-p c.loop-p.invariant.1) (rw (part w frame p) (goal.at.loop-p-preserved c).At-loop-p c.put_line-next.ensures))
+    (omega arith, turn (rw (lines_on w frame frame_rows p c.loop-p-test.true) at c.loop-p.invariant.1) (rw (part w frame p) at c.put_line-next.ensures))
 
 pub shape_of-text : goal.shape_of-text
 shape_of-text c = rest_length c.loop-p.invariant.1

@@ -1,5 +1,4 @@
 -- `framelisting::frame::put_listing` meets its contract: four pieces one after the other.
-use borrow.Author.Rules.{rules}
 use native.Mathlib.Omega.{arith}
 use Rattle.framelisting.specs.Ascii.{ascii}
 use Rattle.framelisting.specs.Text.{frame_text}
@@ -17,11 +16,10 @@ put_header-next-requires c =
 
 pub put_lines-next-requires : goal.put_lines-next-requires
 put_lines-next-requires c =
-    (c.requires.0, omega (arith, listing_length c.args.width c.args.number c.args.offset c.args.frame.now))
-
--- LEFT
-slice-aggregate-put-bytes : tie.Need-slice-aggregate-put-bytes
-slice-aggregate-put-bytes c = search rules
+    record {
+      width_in_bounds = c.requires.width_in_bounds;
+      countable = omega (arith, listing_length c.args.width c.args.number c.args.offset c.args.frame.now);
+    }
 
 pub put_bytes-requires : goal.put_bytes-requires
 put_bytes-requires c =
@@ -30,4 +28,4 @@ put_bytes-requires c =
 pub returns : goal.returns
 unfolding frame_text ascii
 returns c =
-    after c.put_refused.ensures (after (after c.put_header-next.ensures c.put_lines-next.ensures) c.put_bytes.ensures)
+    after c.put_refused-next.ensures (after (after c.put_header-next.ensures c.put_lines-next.ensures) c.put_bytes.ensures)

@@ -1,5 +1,4 @@
 -- `framelisting::frame::put_refused` meets its contract: five pieces one after the other, or none.
-use borrow.Author.Rules.{rules}
 use native.Mathlib.Omega.{arith}
 use borrow.Author.Tests.{ne_eqb}
 use Rattle.framelisting.specs.Ascii.{ascii}
@@ -13,10 +12,6 @@ returns-then-number-eq-TAKEN c =
     let args = c.args in
     rw (taken_nothing args.number args.offset c.if-number-eq-TAKEN.true) (none _ _)
 
--- LEFT
-slice-aggregate-put-bytes : tie.Need-slice-aggregate-put-bytes
-slice-aggregate-put-bytes c = search rules
-
 pub put_bytes-next-requires : goal.put_bytes-next-requires
 put_bytes-next-requires c =
     omega (arith, refused_length c.args.number c.args.offset c.if-number-eq-TAKEN.false)
@@ -24,10 +19,6 @@ put_bytes-next-requires c =
 pub put_digits-next-requires : goal.put_digits-next-requires
 put_digits-next-requires c =
     omega (arith, refused_length c.args.number c.args.offset c.if-number-eq-TAKEN.false)
-
--- LEFT
-slice-aggregate-put-bytes-2 : tie.Need-slice-aggregate-put-bytes-2
-slice-aggregate-put-bytes-2 c = search rules
 
 pub put_bytes-next-requires-2 : goal.put_bytes-next-requires-2
 put_bytes-next-requires-2 c =

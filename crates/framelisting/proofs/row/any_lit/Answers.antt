@@ -1,5 +1,4 @@
 -- `framelisting::row::any_lit` meets its contract: the bytes passed are seen together.
-use Prim.Native.Nat.{◌-◌}
 use mathlib.Core.Path.{refl}
 use native.Mathlib.Omega.{arith}
 use Rattle.framelisting.specs.Runs.{lit, any_lit}

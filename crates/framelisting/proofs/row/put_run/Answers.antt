@@ -17,7 +17,10 @@ put-next-requires c =
 pub put_number-next-requires : goal.put_number-next-requires
 put_number-next-requires c =
     let a = c.args in
-    (omega (arith, run_length (record { first = a.first; last = a.last })), c.requires.1.1)
+    record {
+      countable = omega (arith, run_length (record { first = a.first; last = a.last }));
+      pairs_value = c.requires.pairs_value;
+    }
 
 pub put-next-requires-2 : goal.put-next-requires-2
 put-next-requires-2 c =
@@ -27,7 +30,10 @@ put-next-requires-2 c =
 pub put_number-requires : goal.put_number-requires
 put_number-requires c =
     let a = c.args in
-    (omega (arith, run_length (record { first = a.first; last = a.last })), c.requires.1.1)
+    record {
+      countable = omega (arith, run_length (record { first = a.first; last = a.last }));
+      pairs_value = c.requires.pairs_value;
+    }
 
 pub returns : goal.returns
 unfolding run_text ascii

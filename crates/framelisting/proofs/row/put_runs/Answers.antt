@@ -14,22 +14,26 @@ loop-x-init c = (omega arith, begin _ _ _, c.room_of-room.ensures)
 
 pub loop-x-preserved-then-row-x-eq0 : goal.loop-x-preserved-then-row-x-eq0
 loop-x-preserved-then-row-x-eq0 c =
-    (omega arith, rw (runs_on c.args.row.now c.loop-x.x c.loop-x-test.true c.if-row-x-eq0.true) (goal.at.loop-x-preserved-then-row-x-eq0 c).At-loop-x c.loop-x.invariant.1, c.loop-x.invariant.2)
+    (omega arith, rw (runs_on c.args.row.now c.loop-x.x c.loop-x-test.true c.if-row-x-eq0.true) at c.loop-x.invariant.1, c.loop-x.invariant.2)
 
 pub put_run-next-requires : goal.put_run-next-requires
 put_run-next-requires c =
-    ((c.loop-x.invariant.2, omega (arith, c.run_end-end.ensures)), (room c.loop-x.next (run_text (record { first = c.loop-x.x; last = c.run_end-end.result - 1 })) _ (rw (run_text_lem c.args.row.now c.loop-x.x c.run_end-end.result c.loop-x-test.true c.if-row-x-eq0.false c.run_end-end.ensures) (goal.at.put_run-next-requires c).At-loop-x (room_left c.loop-x.invariant.1 c.requires.1.0)), c.requires.1.1))
+    record {
+      room_value = (c.loop-x.invariant.2, omega (arith, c.run_end-end.ensures));
+      countable = room c.loop-x.next (run_text (record { first = c.loop-x.x; last = c.run_end-end.result - 1 })) _ (rw (run_text_lem c.args.row.now c.loop-x.x c.run_end-end.result c.loop-x-test.true c.if-row-x-eq0.false c.run_end-end.ensures) at (room_left c.loop-x.invariant.1 c.requires.countable));
+      pairs_value = c.requires.pairs_value;
+    }
 
 pub overflow_add-x-else-row-x-eq0-2 : goal.overflow_add-x-else-row-x-eq0-2
 overflow_add-x-else-row-x-eq0-2 c =
-    omega (arith, c.requires.0, run_within c.args.row.now c.loop-x.x c.run_end-end.result c.loop-x-test.true c.run_end-end.ensures)
+    omega (arith, c.requires.row_len_bound, run_within c.args.row.now c.loop-x.x c.run_end-end.result c.loop-x-test.true c.run_end-end.ensures)
 
 pub loop-x-preserved : goal.loop-x-preserved
 loop-x-preserved c =
     let row = c.args.row.now in
     let inside = c.loop-x-test.true in (
       omega (arith, run_within row c.loop-x.x c.run_end-end.result inside c.run_end-end.ensures),
-      turn (rw (run_text_on row c.loop-x.x c.run_end-end.result inside c.if-row-x-eq0.false c.run_end-end.ensures) (goal.at.loop-x-preserved c).At-loop-x c.loop-x.invariant.1) c.put_run-next.ensures,
+      turn (rw (run_text_on row c.loop-x.x c.run_end-end.result inside c.if-row-x-eq0.false c.run_end-end.ensures) at c.loop-x.invariant.1) c.put_run-next.ensures,
       c.loop-x.invariant.2 ∙ rw (put_length c.put_run-next.ensures),
     )
 

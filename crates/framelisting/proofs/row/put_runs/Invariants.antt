@@ -4,7 +4,7 @@ use mathlib.Core.Path.{◌≡◌}
 use lib.ListN.{length, drop}
 use Rattle.framelisting.specs.Runs.{runs, runs_from}
 use Rattle.framelisting.specs.Text.{runs_text}
-use Rattle.framelisting.proofs.PutPieces.{Rest, room}
+use Rattle.framelisting.proofs.PutPieces.{Rest}
 use Rattle.framelisting.proofs.row.put_runs.Given as goal
 
 abbrev pub invariant-loop-x : goal.invariant-loop-x

@@ -1,5 +1,4 @@
 -- `framelisting::row::run_end` meets its contract: the places passed lead the row from the first one on.
-use Prim.Native.Nat.{◌-◌}
 use mathlib.Core.Path.{refl}
 use native.Mathlib.Omega.{arith}
 use Rattle.framelisting.proofs.AlongRow.{leading_here, leading_on, leading_end}

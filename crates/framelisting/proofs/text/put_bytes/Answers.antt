@@ -1,5 +1,4 @@
 -- `framelisting::text::put_bytes` meets its contract: what is left of the bytes is put from here on.
-use Prim.Native.Nat.{◌-◌}
 use native.Mathlib.Omega.{arith}
 use lib.ListN.{length-drop, drop_of_length-le}
 use Rattle.framelisting.proofs.PutPieces.{from, begin, turn, done, room_left, rest_length}
