@@ -8,10 +8,6 @@ use Rattle.framelisting.specs.Ascii.{ascii}
 use Rattle.tracelisting.specs.TraceListing.{text_for}
 use Rattle.tracelisting.proofs.list_input.Goals as goal
 
--- LEFT
-slice-aggregate-put-notice : tie.Need-slice-aggregate-put-notice
-slice-aggregate-put-notice c = search rules
-
 pub returns-then-input-gt-LONGEST_TRACE : goal.returns-then-input-gt-LONGEST_TRACE
 unfolding text_for ascii
 returns-then-input-gt-LONGEST_TRACE c =
