@@ -1,9 +1,9 @@
 -- For the code: runs and bytes counted place by place, and row by row.
 -- Assumes nothing.
 use Prim.Native.Nat.{ℕ, zero, suc, ◌+◌, ◌-◌, ◌≤◌, ◌<◌}
-use mathlib.Core.Path.{◌≡◌, refl, sym, ◌∙◌, ap}
+use mathlib.Core.Path.{◌≡◌, refl, sym, ◌∙◌}
 use mathlib.Core.Bool.{Bool, true, false, ◌&&◌, not, cond}
-use mathlib.Core.List.{List, [], ◌∷◌, ◌++◌}
+use mathlib.Core.List.{List, ◌∷◌}
 use native.Mathlib.Nat.{not-suc-le-zero}
 use native.Mathlib.Numerals.{add-one}
 use native.Mathlib.Omega.{arith}
@@ -11,7 +11,7 @@ use lib.Dec.{eqb}
 use lib.ListN.{length, length-append, get_or}
 use Rattle.picture.specs.Frame.{row_of}
 use Rattle.differences.specs.ByRows.{by_rows}
-use Rattle.differences.specs.Runs.{Run, alike, goes_on, begins, more, run_at, runs_from}
+use Rattle.differences.specs.Runs.{alike, goes_on, begins, run_at, runs_from}
 use Rattle.differences.specs.Bytes.{held, byte_at, bytes_from}
 use Rattle.differences.proofs.ByRows.{rows_on}
 

@@ -1,5 +1,4 @@
 -- `differences::count::count_bytes` meets its contract: the bytes counted and those from here on are all.
-use Prim.Native.Nat.{◌-◌}
 use mathlib.Core.Path.{◌≡◌, ◌∙◌}
 use mathlib.Core.Bool.{not, cond}
 use native.Mathlib.Nat.{zero-add}

@@ -1,5 +1,4 @@
 -- `differences::count::count_pages` meets its contract: the bytes counted and those of the pages from here on are all.
-use Prim.Native.Nat.{◌-◌}
 use native.Mathlib.Nat.{zero-add}
 use native.Mathlib.Omega.{arith}
 use Rattle.constants.specs.Sizes.{width, pages}

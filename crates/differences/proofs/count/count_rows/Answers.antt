@@ -1,5 +1,4 @@
 -- `differences::count::count_rows` meets its contract: the runs counted and those of the rows from here on are all.
-use Prim.Native.Nat.{◌-◌}
 use mathlib.Core.Path.{◌∙◌, sym}
 use native.Mathlib.Nat.{zero-add}
 use native.Mathlib.Omega.{arith}

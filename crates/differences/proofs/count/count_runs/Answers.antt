@@ -1,5 +1,4 @@
 -- `differences::count::count_runs` meets its contract: the runs counted and those from here on are all.
-use Prim.Native.Nat.{◌-◌}
 use native.Mathlib.Omega.{arith}
 use Rattle.constants.specs.Sizes.{width}
 use Rattle.differences.proofs.Entries.{runs_few}

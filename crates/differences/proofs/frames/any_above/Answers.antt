@@ -1,5 +1,4 @@
 -- `differences::frames::any_above` meets its contract: the largest of the bytes passed is above 1 exactly where one of them is.
-use Prim.Native.Nat.{◌-◌}
 use mathlib.Core.Path.{◌≡◌, refl}
 use native.Mathlib.Omega.{arith}
 use Rattle.constants.specs.Sizes.{frame_size}

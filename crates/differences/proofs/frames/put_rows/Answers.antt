@@ -1,5 +1,4 @@
 -- `differences::frames::put_rows` meets its contract: the runs of the rows from here on are put from here on.
-use Prim.Native.Nat.{◌-◌}
 use native.Mathlib.Omega.{arith}
 use Rattle.constants.specs.Sizes.{width, frame_rows}
 use Rattle.differences.specs.Runs.{row_runs, runs_in}

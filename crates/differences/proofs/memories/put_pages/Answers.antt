@@ -1,5 +1,4 @@
 -- `differences::memories::put_pages` meets its contract: the differing bytes of the pages from here on are put from here on.
-use Prim.Native.Nat.{◌-◌}
 use native.Mathlib.Omega.{arith}
 use Rattle.constants.specs.Sizes.{width, pages}
 use Rattle.picture.specs.Frame.{row_of}

@@ -1,5 +1,4 @@
 -- `differences::page::put_bytes` meets its contract: the differing bytes from here on are put from here on.
-use Prim.Native.Nat.{◌-◌}
 use mathlib.Core.Path.{◌≡◌, sym, ◌∙◌}
 use native.Mathlib.Omega.{arith}
 use Rattle.constants.specs.Sizes.{width}

@@ -1,5 +1,5 @@
 -- `differences::row::one_run` meets its contract.
-use mathlib.Core.Bool.{true, false, false≢true}
+use mathlib.Core.Bool.{false≢true}
 use Rattle.differences.proofs.row.one_run.Goals as goal
 
 pub returns-then-first-second : goal.returns-then-first-second

@@ -1,5 +1,4 @@
 -- `differences::row::put_runs` meets its contract: the runs from here on are put from here on.
-use Prim.Native.Nat.{◌-◌}
 use native.Mathlib.Omega.{arith}
 use Rattle.constants.specs.Sizes.{width}
 use Rattle.differences.specs.Entries.{run_entry}

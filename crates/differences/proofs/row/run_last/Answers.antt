@@ -1,5 +1,4 @@
 -- `differences::row::run_last` meets its contract: the places passed go on with the first one.
-use Prim.Native.Nat.{◌-◌}
 use mathlib.Core.Path.{refl, sym, ◌∙◌}
 use native.Mathlib.Nat.{add-zero, add-suc, suc-add}
 use native.Mathlib.Numerals.{add-one}

@@ -1,6 +1,5 @@
 -- `differences::row::uniform` meets its contract: the places passed hold what the first does, or it is known that some do not.
-use Prim.Native.Nat.{◌-◌}
-use mathlib.Core.Bool.{true, false≢true}
+use mathlib.Core.Bool.{false≢true}
 use native.Mathlib.Nat.{not-suc-le-zero}
 use native.Mathlib.Omega.{arith}
 use Rattle.differences.proofs.Below.{one_more}

@@ -1,5 +1,4 @@
 -- `differences::same::look` meets its contract: the largest byte passed, and the largest of the differences.
-use Prim.Native.Nat.{◌-◌}
 use mathlib.Core.Path.{◌≡◌, refl}
 use native.Mathlib.Nat.{not-suc-le-zero}
 use native.Mathlib.Omega.{arith}

@@ -1,5 +1,4 @@
 -- `differences::same::same` meets its contract: where the largest of the differences is 0, the places passed are the same.
-use Prim.Native.Nat.{◌-◌}
 use native.Mathlib.Nat.{not-suc-le-zero}
 use native.Mathlib.Omega.{arith}
 use lib.Seq.{ext_get_or}
