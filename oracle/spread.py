@@ -222,7 +222,7 @@ class Oracle:
 
 def event_text(event):
     kind, *byte = event.split()
-    name = {"command": "commandByte", "write": "dataWritten", "read": "dataRead", "reset": "resetPulse"}[kind]
+    name = {"command": "command_byte", "write": "data_written", "read": "data_read", "reset": "reset_pulse"}[kind]
     return f"({name} 0x{byte[0]})" if byte else name
 
 
@@ -496,56 +496,56 @@ HEAD = '''\
 -- Made by oracle/spread.py, which chose the cases and asked the second program for every value that is expected: `make spread` makes it again.
 -- The definitions of specs/ beside that program: what they compute to on a spread of states, memories, events, traces and settings is what it answers.
 -- Assumes nothing.
-use mathlib.Core.Path.{_≡_, refl, _∙_}
+use mathlib.Core.Path.{◌≡◌, refl, ◌∙◌}
 use mathlib.Core.Bool.{Bool, true, false}
-use mathlib.Core.List.{List, [], _∷_, _++_, map}
-use Prim.Native.Nat.{ℕ, zero, suc, _/_, _%_}
+use mathlib.Core.List.{List, [], ◌∷◌, ◌++◌, map}
+use Prim.Native.Nat.{ℕ, zero, suc, ◌/◌, ◌%◌}
 use lib.Dec.{ltb}
 use lib.ListN.{set, replicate}
 use borrow.Author.Tests.{ltb-true}
-use Rattle·codes.specs.Table.{table, offsetOf, framePhasesOf, commandBy, operandBy, commandOf, operandOf, meaningOf}
-use Rattle·constants.specs.Sizes.{width, memorySize, frameRows, frameSize}
-use Rattle·bus.specs.Registers.{largestValues, powerOn, registersOf}
-use Rattle·bus.specs.Memory.{kept, onward}
-use Rattle·bus.specs.Events.{numberOf, byteOf, dummyOf, obeyed, command, access, write, written, read, resetPin}
-use Rattle·bus.specs.Chip.{Event, commandByte, dataWritten, dataRead, resetPulse, step}
-use Rattle·bus.specs.Image.{within, awaitedCodes, legal, short, asked, stored}
-use Rattle·bus.specs.Calls.{Called, called, replyOf, refused, stateAfter, concluded, askedBefore, callOn, call}
-use Rattle·trace.specs.Records.{splitFrom, split}
-use Rattle·trace.specs.Play.{playEvents, playRecord, playFrom}
-use Rattle·trace.specs.Kinds.{eventsOf, happened, compared, replay}
-use Rattle·trace.specs.Run.{Ran, ran, stopOf, ranOf, runOn, run}
-use Rattle·trace.specs.EitherStart.{ranFromStart}
-use Rattle·bus.specs.declared.start.Hung.{Hung}
-use Rattle·picture.specs.Scan.{comOf, used, ramRowOf, panelShows, rowShows, columnOf}
-use Rattle·picture.specs.Frame.{bit, turned, shownBit, whileOn, segment, line as Frame·line, frame, rowOf as Frame·rowOf}
-use Rattle·picture.specs.Draw.{drawOn, draw}
-use Rattle·framelisting.specs.Ascii.{ascii}
-use Rattle·framelisting.specs.Decimal.{digits, decimal}
-use Rattle·framelisting.specs.Runs.{lit, anyLit, leading, runsFrom, runs as Runs·runs}
-use Rattle·framelisting.specs.Text.{runText, runsText, line, rowOf, lines, frameText, refusedText, listingOf}
-use Rattle·picture.proofs.Places.{frame-row}
-use Rattle·tracelisting·proofs.proofs.FrameColumns.{down, rowShown, downShown, map-same, down-shown}
+use Rattle.codes.specs.Table.{table, offset_of, frame_phases_of, command_by, operand_by, command_of, operand_of, meaning_of}
+use Rattle.constants.specs.Sizes.{width, memory_size, frame_rows, frame_size}
+use Rattle.bus.specs.Registers.{largest_values, power_on, registers_of}
+use Rattle.bus.specs.Memory.{kept, onward}
+use Rattle.bus.specs.Events.{number_of, byte_of, dummy_of, obeyed, command, access, write, written, read, reset_pin}
+use Rattle.bus.specs.Chip.{Event, command_byte, data_written, data_read, reset_pulse, step}
+use Rattle.bus.specs.Image.{within, awaited_codes, legal, short, asked, stored}
+use Rattle.bus.specs.Calls.{Called, called, reply_of, refused, state_after, concluded, asked_before, call_on, call}
+use Rattle.trace.specs.Records.{split_from, split}
+use Rattle.trace.specs.Play.{play_events, play_record, play_from}
+use Rattle.trace.specs.Kinds.{events_of, happened, compared, replay}
+use Rattle.trace.specs.Run.{Ran, ran, stop_of, ran_of, run_on, run}
+use Rattle.trace.specs.EitherStart.{ran_from_start}
+use Rattle.bus.specs.declared.start.Hung.{Hung}
+use Rattle.picture.specs.Scan.{com_of, used, ram_row_of, panel_shows, row_shows, column_of}
+use Rattle.picture.specs.Frame.{bit, turned, shown_bit, while_on, segment, line as Frame·line, frame, row_of as Frame·rowOf}
+use Rattle.picture.specs.Draw.{draw_on, draw}
+use Rattle.framelisting.specs.Ascii.{ascii}
+use Rattle.framelisting.specs.Decimal.{digits, decimal}
+use Rattle.framelisting.specs.Runs.{lit, any_lit, leading, runs_from, runs as Runs·runs}
+use Rattle.framelisting.specs.Text.{run_text, runs_text, line, row_of, lines, frame_text, refused_text, listing_of}
+use Rattle.picture.proofs.Places.{frame_row}
+use Rattle.tracelisting.proofs.FrameColumns.{down, row_shown, down_shown, map_same, down_shown_lem}
 
 -- The last digits of a number in a base, so many, before others.
-abbrev digitsBefore : ℕ → ℕ → ℕ → List ℕ → List ℕ
-digitsBefore base zero n others = others
-digitsBefore base (suc count) n others = digitsBefore base count (n / base) (n % base ∷ others)
+abbrev digits_before : ℕ → ℕ → ℕ → List ℕ → List ℕ
+digits_before base zero n others = others
+digits_before base (suc count) n others = digits_before base count (n / base) (n % base ∷ others)
 
 -- So many bytes as one number, two hexadecimal digits each.
 abbrev bytes : ℕ → ℕ → List ℕ
-bytes count n = digitsBefore 256 count n []
+bytes count n = digits_before 256 count n []
 
 abbrev image : ℕ → List ℕ
 image n = bytes 23 n
 
 -- So many places of a frame as one number, a bit each.
 abbrev places : ℕ → ℕ → List ℕ
-places count n = digitsBefore 2 count n []
+places count n = digits_before 2 count n []
 
 -- The memories that are lent: zeros, bytes by chance, one byte too few, two bytes more than needed.
 abbrev zeros : List ℕ
-zeros = replicate memorySize 0
+zeros = replicate memory_size 0
 
 abbrev busy : List ℕ
 busy = bytes 1188 BUSY
@@ -567,7 +567,7 @@ abbrev single : Event → List ℕ → List ℕ → ℕ → ℕ → Bool → Lis
 single e lent held n b d later left = record { event = e; state = lent; memory = held; outcome = called (record { number = n; byte = b; dummy = d }) later left }
 
 abbrev Calls : List Single → Type 0
-Calls cases = map (λ s. call (s .event) (s .state) (s .memory)) cases ≡ map (λ s. s .outcome) cases
+Calls cases = map (λ s. call s.event s.state s.memory) cases ≡ map (λ s. s.outcome) cases
 
 -- A trace, the state and memory lent to its run, and the outcome: number, offset, count, later state and memory.
 record Traced : Type 0 where
@@ -577,10 +577,10 @@ record Traced : Type 0 where
   outcome : Ran
 
 abbrev traced : List ℕ → List ℕ → List ℕ → ℕ → ℕ → ℕ → List ℕ → List ℕ → Traced
-traced lent held recorded n at c later left = record { state = lent; memory = held; trace = recorded; outcome = ran (stopOf n at c) later left }
+traced lent held recorded n at c later left = record { state = lent; memory = held; trace = recorded; outcome = ran (stop_of n at c) later left }
 
 abbrev Runs : List Traced → Type 0
-Runs cases = map (λ t. run (t .state) (t .memory) (t .trace)) cases ≡ map (λ t. t .outcome) cases
+Runs cases = map (λ t. run t.state t.memory t.trace) cases ≡ map (λ t. t.outcome) cases
 
 -- How the module hangs, a trace, and the outcome of its run from that start.
 record Started : Type 0 where
@@ -589,10 +589,10 @@ record Started : Type 0 where
   outcome : Ran
 
 abbrev started : Hung → List ℕ → ℕ → ℕ → ℕ → List ℕ → List ℕ → Started
-started how recorded n at c later left = record { hung = how; trace = recorded; outcome = ran (stopOf n at c) later left }
+started how recorded n at c later left = record { hung = how; trace = recorded; outcome = ran (stop_of n at c) later left }
 
 abbrev Starts : List Started → Type 0
-Starts cases = map (λ s. ranFromStart (s .hung) (s .trace)) cases ≡ map (λ s. s .outcome) cases
+Starts cases = map (λ s. ran_from_start s.hung s.trace) cases ≡ map (λ s. s.outcome) cases
 
 -- A setting, a row or a column of the frame that it draws from the busy memory, and the places there, left to right or top to bottom.
 record Drawing : Type 0 where
@@ -604,13 +604,13 @@ abbrev across : List ℕ → ℕ → ℕ → Drawing
 across lent y shown = record { state = lent; at = y; outcome = places width shown }
 
 abbrev downwards : List ℕ → ℕ → ℕ → Drawing
-downwards lent x shown = record { state = lent; at = x; outcome = places frameRows shown }
+downwards lent x shown = record { state = lent; at = x; outcome = places frame_rows shown }
 
 abbrev Rows : List Drawing → Type 0
-Rows cases = map (λ d. Frame·rowOf width (d .at) (frame (registersOf (d .state)) busy)) cases ≡ map (λ d. d .outcome) cases
+Rows cases = map (λ d. Frame·rowOf width d.at (frame (registers_of d.state) busy)) cases ≡ map (λ d. d.outcome) cases
 
 abbrev Columns : List Drawing → Type 0
-Columns cases = map (λ d. down (d .at) (frame (registersOf (d .state)) busy)) cases ≡ map (λ d. d .outcome) cases
+Columns cases = map (λ d. down d.at (frame (registers_of d.state) busy)) cases ≡ map (λ d. d.outcome) cases
 
 -- A state and memory lent to the call that draws, and its number.
 record Asking : Type 0 where
@@ -622,7 +622,7 @@ abbrev asking : List ℕ → List ℕ → ℕ → Asking
 asking lent held n = record { state = lent; memory = held; number = n }
 
 abbrev Drawings : List Asking → Type 0
-Drawings cases = map (λ a. draw (a .state) (a .memory) (replicate frameSize 0) .number) cases ≡ map (λ a. a .number) cases
+Drawings cases = map (λ a. (draw a.state a.memory (replicate frame_size 0)).number) cases ≡ map (λ a. a.number) cases
 
 -- A run's number and offset, and the line that a stopped one prints first.
 record Stopped : Type 0 where
@@ -634,7 +634,7 @@ abbrev stop : ℕ → ℕ → List ℕ → Stopped
 stop n at said = record { number = n; offset = at; text = said }
 
 abbrev Stops : List Stopped → Type 0
-Stops cases = map (λ s. refusedText (s .number) (s .offset)) cases ≡ map (λ s. s .text) cases
+Stops cases = map (λ s. refused_text s.number s.offset) cases ≡ map (λ s. s.text) cases
 
 -- A run's number and offset, a frame, and the whole listing.
 record Listing : Type 0 where
@@ -647,38 +647,38 @@ abbrev listing : ℕ → ℕ → List ℕ → List ℕ → Listing
 listing n at drawn said = record { number = n; offset = at; frame = drawn; text = said }
 
 abbrev Listings : List Listing → Type 0
-Listings cases = map (λ l. listingOf (l .number) (l .offset) (l .frame)) cases ≡ map (λ l. l .text) cases
+Listings cases = map (λ l. listing_of l.number l.offset l.frame) cases ≡ map (λ l. l.text) cases
 '''
 
-EVENTS = ("largestValues asked short legal within awaitedCodes stored powerOn step command obeyed write written read resetPin access kept onward "
-          "table offsetOf framePhasesOf commandBy operandBy commandOf operandOf meaningOf")
-CALLS = f"{EVENTS} numberOf byteOf dummyOf replyOf refused stateAfter concluded askedBefore callOn call"
-RUNS = f"{EVENTS} split splitFrom playFrom playRecord playEvents eventsOf happened compared replay ranOf runOn run"
-STARTS = f"{RUNS} ranFromStart"
-SEGMENTS = "comOf used ramRowOf panelShows rowShows bit columnOf turned shownBit whileOn segment Frame·line"
-DRAWINGS = "largestValues asked short legal within awaitedCodes drawOn draw"
-STOPS = "ascii digits decimal refusedText"
-LISTINGS = f"{STOPS} lit anyLit leading runsFrom Runs·runs runText runsText line rowOf lines frameText listingOf"
+EVENTS = ("largest_values asked short legal within awaited_codes stored power_on step command obeyed write written read reset_pin access kept onward "
+          "table offset_of frame_phases_of command_by operand_by command_of operand_of meaning_of")
+CALLS = f"{EVENTS} number_of byte_of dummy_of reply_of refused state_after concluded asked_before call_on call"
+RUNS = f"{EVENTS} split split_from play_from play_record play_events events_of happened compared replay ran_of run_on run"
+STARTS = f"{RUNS} ran_from_start"
+SEGMENTS = "com_of used ram_row_of panel_shows row_shows bit column_of turned shown_bit while_on segment Frame·line"
+DRAWINGS = "largest_values asked short legal within awaited_codes draw_on draw"
+STOPS = "ascii digits decimal refused_text"
+LISTINGS = f"{STOPS} lit any_lit leading runs_from Runs·runs run_text runs_text line row_of lines frame_text listing_of"
 
 BY_COMPUTING = '''
-{name} : {statement} {name}Cases
+{name} : {statement} {name}_cases
 unfolding {unfolded}
 {name} = refl
 '''
 
 # A row or a column is computed by what each place shows; by a law it is the frame's.
 BY_PLACES = '''
-{name}-shown : map (λ d. {shown} (d .at) (registersOf (d .state)) busy) {name}Cases ≡ map (λ d. d .outcome) {name}Cases
+{name}_shown : map (λ d. {shown} d.at (registers_of d.state) busy) {name}_cases ≡ map (λ d. d.outcome) {name}_cases
 unfolding {unfolded}
-{name}-shown = refl
+{name}_shown = refl
 
-{name} : {statement} {name}Cases
+{name} : {statement} {name}_cases
 {name} =
-    map-same _ _ (λ d. ltb (d .at) {size}) (λ d t. {law} (ltb-true (d .at) {size} t)) {name}Cases refl ∙
-    {name}-shown
+    map_same _ _ (λ d. ltb d.at {size}) (λ d t. {law} (ltb-true d.at {size} t)) {name}_cases refl ∙
+    {name}_shown
 '''
-ROWS_BY_PLACES = BY_PLACES.replace("{shown}", "rowShown").replace("{size}", "frameRows").replace("{law}", "frame-row (registersOf (d .state)) busy (d .at)")
-COLUMNS_BY_PLACES = BY_PLACES.replace("{shown}", "downShown").replace("{size}", "width").replace("{law}", "down-shown (d .at) (registersOf (d .state)) busy")
+ROWS_BY_PLACES = BY_PLACES.replace("{shown}", "row_shown").replace("{size}", "frame_rows").replace("{law}", "frame_row (registers_of d.state) busy d.at")
+COLUMNS_BY_PLACES = BY_PLACES.replace("{shown}", "down_shown").replace("{size}", "width").replace("{law}", "down_shown_lem d.at (registers_of d.state) busy")
 
 
 class Part:
@@ -688,7 +688,7 @@ class Part:
         self.name, self.statement, lines = name, statement, list(lines)
         self.size, self.numbers = len(lines), {number for number, _ in lines}
         cases = "\n".join(f"    {line} ∷" for _, line in lines)
-        self.text = (f"\n-- {about}\nabbrev {name}Cases : List {record}\n{name}Cases =\n{cases}\n    []\n"
+        self.text = (f"\n-- {about}\nabbrev {name}_cases : List {record}\n{name}_cases =\n{cases}\n    []\n"
                      + theorem.format(name=name, statement=statement, unfolded=unfolded))
 
 
@@ -732,7 +732,7 @@ def table(oracle):
     if missed:
         raise SystemExit(f"spread.py: no case has the number: {missed}")
     text = HEAD.replace("BUSY", number_of(lent["busy"].content)) + "".join(part.text for part in made)
-    statements = " × ".join(f"{part.statement} {part.name}Cases" for part in made)
+    statements = " × ".join(f"{part.statement} {part.name}_cases" for part in made)
     text += f"\npub spread : {statements}\nspread = ({', '.join(part.name for part in made)})\n"
     return text, ", ".join(f"{part.size} {part.name}" for part in made)
 
