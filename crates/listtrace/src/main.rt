@@ -1,45 +1,52 @@
 // The listing program: a trace from standard input, the frame that it leaves on the glass to standard output.
 #![tactic(auto)]
+
 mod arguments;
 
 use arguments::{Asked, start_asked};
 use bus::start::Hung;
 use constants::sizes::{LONGEST_LISTING, LONGEST_TRACE};
-use libc::{STDERR_FILENO, STDOUT_FILENO};
 use standardinput::{Input, read_input};
+use std::env::{Env, FillError};
+use std::io::Stdin;
 
 // Room for the argument that is taken, and a byte more.
 const ARGUMENT_ROOM: usize = 10;
 
-fn main() {
+fn main(rt: HostRuntime) {
     let mut word = [0u8; ARGUMENT_ROOM];
-    let length = os::arg(1, &mut word);
-    match start_asked(os::arg_count(), &word[..length]) {
-        Asked::Start(hung) => list_from(hung),
+    let length = rt.arg(1, &mut word).unwrap_or(0);
+    match start_asked(word_count(&rt), &word[..length]) {
+        Asked::Start(hung) => list_from(&rt, rt.stdin(), hung),
         Asked::Unknown => {
-            io::write_all(
-                STDERR_FILENO,
-                b"listtrace: the only argument is --upright\n",
-            );
+            let _ = eprintln!(rt; "listtrace: the only argument is --upright");
         }
     }
 }
 
+// How many words the program was called by, its own name among them.
+fn word_count(env: &impl Env) -> usize {
+    let mut nothing = [0u8; 0];
+    for i in 0..usize::MAX {
+        if let Err(FillError::NotPresent) = env.arg(i, &mut nothing) {
+            return i;
+        }
+    }
+    usize::MAX
+}
+
 // Reads the trace, and prints its listing from the start as the module hangs.
-fn list_from(hung: Hung) {
+fn list_from(rt: &(impl Print + Eprint), stdin: Stdin, hung: Hung) {
     let mut trace = [0u8; LONGEST_TRACE + 1];
-    let read = read_input(&mut trace);
+    let read = read_input(stdin, &mut trace);
     let Input::Read(count) = read else {
-        io::write_all(STDERR_FILENO, b"listtrace: standard input cannot be read\n");
+        let _ = eprintln!(rt; "listtrace: standard input cannot be read");
         return;
     };
     let mut text = [0u8; LONGEST_LISTING];
     let length = tracelisting::list_input(hung, &trace[..count], &mut text);
-    if io::write_all(STDOUT_FILENO, &text[..length]) {
+    if rt.write_all(&text[..length]).is_ok() {
         return;
     }
-    io::write_all(
-        STDERR_FILENO,
-        b"listtrace: standard output cannot be written\n",
-    );
+    let _ = eprintln!(rt; "listtrace: standard output cannot be written");
 }

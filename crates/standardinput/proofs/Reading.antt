@@ -3,7 +3,7 @@
 use Prim.Native.Nat.{ℕ}
 use mathlib.Core.Path.{◌≡◌}
 use mathlib.Core.List.{List}
-use Rattle.io.specs.Counts.{IsPrefixLen}
+use Rattle.standardinput.specs.Counts.{IsPrefixLen}
 use Rattle.standardinput.specs.Input.{count_of}
 use Rattle.standardinput.specs.declared.Input.{Input}
 

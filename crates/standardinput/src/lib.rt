@@ -1,9 +1,10 @@
 // Standard input, read so that a read that fails is not taken for its end.
 #![tactic(auto)]
-ghost use Rattle.io.specs.Counts.{IsPrefixLen};
+
+ghost use Rattle.standardinput.specs.Counts.{IsPrefixLen};
 ghost use Rattle.standardinput.specs.Input.{count_of};
 
-use libc::STDIN_FILENO;
+use std::io::{Read, Stdin};
 
 // What reading gave: how many bytes stand at the start of the buffer, or that a read failed.
 #[derive(Drop)]
@@ -13,16 +14,14 @@ pub enum Input {
 }
 
 // Reads standard input to its end, or until the buffer is full.
-pub fn read_input(buffer: &mut [u8]) -> Input
+pub fn read_input(mut stdin: Stdin, buffer: &mut [u8]) -> Input
     ensures { IsPrefixLen (count_of result) buffer.new }
 {
     let mut done = 0;
     while done < buffer.len() {
-        let got = libc::read(STDIN_FILENO, &mut buffer[done..]);
-        if got < 0 {
+        let Ok(more) = stdin.read(&mut buffer[done..]) else {
             return Input::Failed;
-        }
-        let more = io::count(got, &buffer[done..]);
+        };
         if more == 0 {
             return Input::Read(done);
         }
