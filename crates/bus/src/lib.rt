@@ -1,5 +1,6 @@
 // Layer 2, the bus: the registers and their image, the display memory, and what each of the four bus events does to them.
 #![tactic(auto)]
+
 pub mod accepted;
 pub mod answer;
 pub mod calls;

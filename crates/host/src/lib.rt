@@ -1,6 +1,7 @@
 // What the rig's C host calls of traces, frames, listings and comparisons, on numbers, images and byte slices; crates/hostbus has the events. host/ssd1815b.h declares
 // them under one prefix, and each has the statement of the call below it.
 #![tactic(auto)]
+
 pub mod compare;
 pub mod draw;
 pub mod list;

@@ -1,5 +1,6 @@
 // The listing program for many traces: a pack of them from standard input, the listing of each to standard output.
 #![tactic(auto)]
+
 mod pack;
 
 use constants::sizes::LONGEST_LISTING;

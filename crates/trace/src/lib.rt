@@ -1,5 +1,6 @@
 // The run of a recorded trace over the bus.
 #![tactic(auto)]
+
 pub mod reader;
 mod record;
 pub mod records;

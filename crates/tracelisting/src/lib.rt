@@ -1,5 +1,6 @@
 // From a trace's bytes to the text that the listing program prints for it.
 #![tactic(auto)]
+
 pub mod word;
 
 ghost use Rattle.std.specs.Prelude.{◌≡◌, ◌≤◌, length};

@@ -1,4 +1,5 @@
 // The picture of the wide terminal: the frames of two chips, side by side.
 #![tactic(auto)]
+
 pub mod draw;
 mod whole;

@@ -19,7 +19,7 @@ unfolding write written
 returns-then-number-eq-TAKEN c = (
   rw (c.with_fresh-registers.ensures, c.with_column.ensures, c.onward-column.ensures, ← c.access-number.ensures, eq-eqb _ _ c.if-number-eq-TAKEN.true),
   rw (c.kept-bits.ensures, c.address-at.ensures, ← c.access-number.ensures, eq-eqb _ _ c.if-number-eq-TAKEN.true),
-  )
+)
 
 pub returns : goal.returns
 unfolding write written
