@@ -12,7 +12,7 @@ use Rattle.codes.specs.Table.{meaning_of}
 use Rattle.codes.specs.declared.Command.{Command}
 use Rattle.constants.specs.Numbers.{taken, read_differs}
 use Rattle.constants.specs.Sizes.{memory_size}
-use Rattle.bus.specs.Places.{column_direction, row_direction, column, awaited, modify, saved, fresh}
+use Rattle.bus.specs.Places.{column_direction, row_direction, column, awaited, modify, saved}
 use Rattle.bus.specs.Registers.{image_of, power_on, ◌with◌≔◌}
 use Rattle.bus.specs.Events.{number_of, byte_of, dummy_of, command_taken, obeyed, command, access, moved, write, written, dummy_read, read, reset_pin}
 use Rattle.bus.specs.Chip.{Chip, Event, command_byte, data_written, data_read, reset_pulse, step, registers_after, chip_after, after_events}

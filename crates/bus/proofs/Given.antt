@@ -6,7 +6,7 @@ use mathlib.Core.Logic.{◌↔◌, ◌⊎◌, inl, inr, ⊎_elim, ◌≢◌}
 use mathlib.Core.List.{List, [], ◌∷◌}
 use Prim.Native.Nat.{ℕ, zero, suc, ◌≤◌, ◌<◌}
 use native.Mathlib.Omega.{arith}
-use lib.Dec.{leb, eqb, lit≤}
+use lib.Dec.{leb, eqb}
 use borrow.Author.Tests.{le-leb, lt-leb, leb-true, leb-false, eq-eqb, ne_eqb, eqb-true, eqb-false, not-false}
 use Rattle.codes.specs.OneOf.{one_of}
 use Rattle.codes.specs.Others.{others, among, TestModeByte, RemainingByte}
@@ -18,7 +18,6 @@ use Rattle.constants.specs.Numbers.{taken, too_short, out_of_range, outside_tabl
 use Rattle.bus.specs.Registers.{registers_of}
 use Rattle.bus.specs.Chip.{Event, command_byte, data_written, data_read, reset_pulse}
 use Rattle.bus.specs.Image.{short, legal}
-use Rattle.bus.specs.Calls.{refused, call}
 use Rattle.bus.specs.Bytes.{IsByte}
 use Rattle.bus.specs.Image.{Accepted}
 use Rattle.bus.specs.Given.{NothingAgainst, FirstByte, SecondByte, IsData, NotAllowed, call_numbers, number_from, Given}

@@ -3,23 +3,22 @@
 use Prim.Native.Nat.{ℕ, suc, ◌+◌, ◌-◌, ◌≤◌, ◌<◌}
 use mathlib.Core.Path.{◌≡◌, refl, sym, ◌∙◌, ap}
 use mathlib.Core.Logic.{◌≢◌}
-use mathlib.Core.Bool.{Bool, true, false, cond, ◌||◌}
+use mathlib.Core.Bool.{Bool, true, false, cond}
 use mathlib.Core.List.{List, [], ◌∷◌, ◌++◌, map, map-append, append_assoc}
 use native.Mathlib.Nat.{add-zero, not-suc-le-zero, suc-ne-zero}
 use native.Mathlib.Omega.{arith}
-use native.Mathlib.Numerals.{add-one}
 use borrow.Author.Tests.{eq-eqb, ne_eqb, le-leb, lt-ltb, le-ltb, eqb-true, eqb-false}
-use lib.Dec.{eqb, leb, ltb}
+use lib.Dec.{eqb}
 use lib.ListN.{length, get_or, set, take, drop, length-set, length-map, length-drop, take-append-drop}
 use borrow.Rule.Slice.PartMut.{put_mid}
 use lib.Seq.{sets, sets-eq, drop-drop, length-take-le, take_all}
-use Rattle.constants.specs.Sizes.{width, last_column, pages, memory_size}
-use Rattle.constants.specs.Numbers.{taken, too_short, out_of_range, code_awaited, column_above, read_differs}
+use Rattle.constants.specs.Sizes.{width, last_column}
+use Rattle.constants.specs.Numbers.{taken}
 use Rattle.bus.specs.Places.{column, fresh}
 use Rattle.bus.specs.Registers.{◌with◌≔◌}
 use Rattle.bus.specs.Memory.{address, kept, onward}
 use Rattle.bus.specs.Events.{access, moved, write, written, read}
-use Rattle.bus.specs.Chip.{step, data_written, data_read}
+use Rattle.bus.specs.Chip.{step}
 use Rattle.bus.specs.Result.{Result, gives}
 use Rattle.bus.specs.Recorded.{recorded_write, read_as, chip_of, replay, happened, compared}
 use Rattle.bus.specs.Stretch.{stretch, stretched, counted_on}

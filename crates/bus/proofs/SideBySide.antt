@@ -2,7 +2,7 @@
 -- Assumes nothing.
 use Prim.Native.Nat.{ℕ, zero, suc, ◌+◌, ◌-◌, ◌≤◌, ◌<◌}
 use mathlib.Core.Path.{◌≡◌, refl, sym, ◌∙◌, ap}
-use mathlib.Core.Bool.{Bool, true, false, cond}
+use mathlib.Core.Bool.{Bool, true, false}
 use mathlib.Core.Logic.{◌≢◌}
 use mathlib.Core.List.{List, [], ◌∷◌, ◌++◌, map, append_assoc, append-nil}
 use native.Mathlib.Nat.{not-suc-le-zero, le_of_suc-le-suc}
@@ -13,7 +13,7 @@ use Rattle.constants.specs.Sizes.{icon_page}
 use Rattle.bus.specs.Memory.{kept}
 use lib.Dec.{ltb}
 use lib.Bits.{bit_or, bit_xor, or_add_and, xor_add_and, and_le_l, and_le_r}
-use lib.ListN.{length, get_or, take, drop, set, take-append-drop, length-append, length-drop}
+use lib.ListN.{length, get_or, take, drop, set, length-append, length-drop}
 use lib.Seq.{length-take-le, take-length, drop-length, take-suc, drop-cons, set_at, take-append-le, take-take, drop-append-add, drop-drop, get_or-take, get_or-drop, take-add}
 
 -- the first j of s, and the rest of d

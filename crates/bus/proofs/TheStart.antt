@@ -4,9 +4,9 @@ use mathlib.Core.Path.{◌≡◌, refl, ◌∙◌, ap}
 use mathlib.Core.Bool.{Bool, true, false, cond, true≢false, false≢true}
 use mathlib.Core.Logic.{◌↔◌, ◌≢◌}
 use mathlib.Core.List.{List, ◌++◌}
-use Prim.Native.Nat.{ℕ, ◌<◌}
+use Prim.Native.Nat.{ℕ}
 use native.Mathlib.Omega.{arith}
-use lib.ListN.{length, get_or, drop, replicate, length-replicate, get_or-append, get_or-replicate}
+use lib.ListN.{get_or, drop, length-replicate, get_or-append, get_or-replicate}
 use lib.Seq.{drop_at, get_or-set_other}
 use Rattle.constants.specs.Sizes.{image_size, memory_size}
 use Rattle.constants.specs.Numbers.{taken, too_short}

@@ -4,7 +4,6 @@ use mathlib.Core.Logic.{◌≢◌}
 use Prim.Native.Nat.{◌≤◌, ◌-◌}
 use lib.ListN.{length}
 use Rattle.constants.specs.Numbers.{taken}
-use Rattle.bus.specs.Places.{fresh}
 use Rattle.bus.specs.Events.{access}
 use Rattle.bus.specs.Recorded.{chip_of}
 use Rattle.bus.specs.Reads.{reads_from}

@@ -4,7 +4,6 @@ use Prim.Native.Nat.{◌+◌, ◌-◌}
 use native.Mathlib.Omega.{arith}
 use lib.ListN.{length}
 use Rattle.constants.specs.Numbers.{taken}
-use Rattle.bus.specs.Places.{column}
 use Rattle.bus.specs.Events.{access}
 use Rattle.bus.specs.Recorded.{recorded_write, chip_of, replay}
 use Rattle.bus.specs.Stretch.{stretched}

@@ -1,5 +1,4 @@
 -- `bus::put::chunk_of` meets its contract: the first i are held, and the rest is as it was.
-use Prim.Native.Nat.{◌-◌}
 use mathlib.Core.Path.{refl, ◌∙◌, ap}
 use native.Mathlib.Omega.{arith}
 use lib.ListN.{get_or, set, length-set}

@@ -1,5 +1,4 @@
 -- `bus::put::put_chunk` meets its contract: the first i are put, and the rest is as it was.
-use Prim.Native.Nat.{◌-◌}
 use mathlib.Core.Path.{refl, ◌∙◌, ap}
 use native.Mathlib.Omega.{arith}
 use lib.ListN.{get_or, set, length-set}

@@ -1,5 +1,4 @@
 -- `bus::put::put_each` meets its contract: the first i are put, and the rest is as it was.
-use Prim.Native.Nat.{◌-◌}
 use mathlib.Core.Path.{◌≡◌, refl, sym, ◌∙◌, ap}
 use mathlib.Core.List.{map}
 use native.Mathlib.Omega.{arith}

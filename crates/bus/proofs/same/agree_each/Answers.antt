@@ -1,10 +1,8 @@
 -- `bus::same::agree_each` meets its contract: where no bit differs, the bytes passed agree.
-use Prim.Native.Nat.{◌-◌}
 use mathlib.Core.Path.{sym, ◌∙◌}
 use native.Mathlib.Omega.{arith}
 use borrow.Author.Tests.{eqb-true}
 use native.Mathlib.Nat.{not-suc-le-zero}
-use Rattle.bus.specs.Memory.{kept}
 use Rattle.bus.proofs.SideBySide.{one_more, or_zero, xor_zero}
 use Rattle.bus.proofs.same.agree_each.Goals as goal
 

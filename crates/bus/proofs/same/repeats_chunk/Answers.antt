@@ -1,5 +1,4 @@
 -- `bus::same::repeats_chunk` meets its contract: where no bit differs, each byte passed is the one.
-use Prim.Native.Nat.{◌-◌}
 use native.Mathlib.Omega.{arith}
 use borrow.Author.Tests.{eqb-true}
 use native.Mathlib.Nat.{not-suc-le-zero}

@@ -1,5 +1,4 @@
 -- `bus::same::same_chunk` meets its contract: where no bit differs, the bytes passed are the same.
-use Prim.Native.Nat.{◌-◌}
 use native.Mathlib.Omega.{arith}
 use borrow.Author.Tests.{eqb-true}
 use native.Mathlib.Nat.{not-suc-le-zero}

@@ -1,7 +1,7 @@
 -- `bus::start::clear` meets its contract: the first i bytes are 0, and the rest is as it was.
 use mathlib.Core.Path.{◌≡◌, ◌∙◌, ap}
 use mathlib.Core.List.{List, ◌++◌}
-use Prim.Native.Nat.{ℕ, ◌≤◌, ◌-◌}
+use Prim.Native.Nat.{ℕ, ◌≤◌}
 use native.Mathlib.Omega.{arith}
 use borrow.Author.Fill.{fill_none, fill_more}
 use lib.ListN.{length, drop, set, replicate, length-append, length-replicate, length-drop}

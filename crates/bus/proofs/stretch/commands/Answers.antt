@@ -1,6 +1,5 @@
 -- `bus::stretch::commands` meets its contract: what is left of the stretch decides.
 use mathlib.Core.Path.{◌≡◌, refl, sym, ◌∙◌}
-use Prim.Native.Nat.{◌-◌}
 use native.Mathlib.Omega.{arith}
 use lib.ListN.{length}
 use Rattle.bus.specs.Events.{number_of}
