@@ -18,7 +18,6 @@ use Rattle.bus.specs.Registers.{registers_of}
 use Rattle.bus.specs.Image.{Accepted}
 use Rattle.bus.specs.Given.{FirstByte, number_from}
 use Rattle.bus.proofs.Given.{given}
-use Rattle.trace.specs.Records.{cut}
 use Rattle.trace.specs.Play.{played, play_from}
 use Rattle.trace.specs.Kinds.{the_chip}
 use Rattle.trace.specs.Run.{ran_of, run}

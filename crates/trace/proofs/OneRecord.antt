@@ -1,8 +1,8 @@
 -- A run of one record, by its kind.
 -- Assumes nothing.
 use mathlib.Core.Path.{◌≡◌, refl, sym, ◌∙◌, ap}
-use mathlib.Core.List.{List, [], ◌∷◌, ◌++◌, map, append-nil}
-use Prim.Native.Nat.{ℕ, zero, suc, ◌+◌, ◌/◌, ◌%◌, ◌≤◌, ◌<◌}
+use mathlib.Core.List.{List, [], ◌∷◌, map, append-nil}
+use Prim.Native.Nat.{ℕ, zero, suc, ◌+◌, ◌≤◌, ◌<◌}
 use native.Mathlib.Omega.{arith}
 use native.Mathlib.Nat.{mod-lt, add-zero}
 use lib.ListN.{length}
@@ -11,9 +11,7 @@ use Rattle.constants.specs.Sizes.{header_size}
 use Rattle.bus.specs.Chip.{reset_pulse}
 use Rattle.bus.specs.Calls.{call}
 use Rattle.bus.specs.Bytes.{Bytes}
-use Rattle.bus.specs.declared.image.Asked.{Asked}
-use Rattle.bus.specs.Image.{asked, Accepted}
-use Rattle.bus.specs.Registers.{registers_of}
+use Rattle.bus.specs.Image.{Accepted}
 use Rattle.bus.proofs.CallsOnChip.{calls_on_chip}
 use Rattle.trace.specs.Records.{record_bytes, split_from, split}
 use Rattle.trace.specs.Play.{gives}

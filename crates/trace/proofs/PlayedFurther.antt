@@ -4,7 +4,7 @@ use mathlib.Core.Path.{◌≡◌, refl}
 use mathlib.Core.List.{List, [], ◌∷◌}
 use Prim.Native.Nat.{ℕ, ◌+◌}
 use native.Mathlib.Omega.{arith}
-use lib.ListN.{length, drop}
+use lib.ListN.{drop}
 use Rattle.constants.specs.Sizes.{header_size}
 use Rattle.constants.specs.Numbers.{taken, header_cut}
 use Rattle.trace.specs.Records.{Record, Trace, ended, cut, ◌then◌, record_at}
