@@ -7,9 +7,8 @@ pub mod Runs
 pub mod Text
 -- the whole outcome of either call
 pub mod Listing
--- how the code's own functions put a piece of text, and the digits that they look up
+-- how the code's own functions put a piece of text
 pub mod Put
-pub mod Pairs
 -- the runs are the longest, left to right
 pub mod LongestRuns
 -- plain decimal, with no leading zero

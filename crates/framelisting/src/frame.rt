@@ -4,9 +4,8 @@ ghost use Rattle.framelisting.specs.Put.{Countable, Put};
 ghost use Rattle.constants.specs.Sizes.{frame_rows};
 ghost use Rattle.framelisting.specs.Text.{header, lines, refused_text, listing_across};
 
-use crate::pairs::DIGIT_PAIRS;
 use crate::row::put_line;
-use crate::text::{put, put_bytes, put_digits};
+use crate::text::{put, put_bytes, put_number};
 use constants::refusal::TAKEN;
 use constants::sizes::FRAME_ROWS;
 
@@ -31,9 +30,9 @@ fn put_refused(text: &mut [u8], at: usize, number: u8, offset: usize) -> usize
         return at;
     }
     let next = put_bytes(text, at, b"refused ");
-    let next = put_digits(text, next, number as usize);
+    let next = put_number(text, next, number as usize);
     let next = put_bytes(text, next, b" at ");
-    let next = put_digits(text, next, offset);
+    let next = put_number(text, next, offset);
     put(text, next, b'\n')
 }
 
@@ -43,7 +42,7 @@ fn put_header(text: &mut [u8], at: usize, width: usize) -> usize
     ensures { Put text.old at (header width frame_rows) result text.new }
 {
     let next = put_bytes(text, at, b"frame ");
-    let next = put_digits(text, next, width);
+    let next = put_number(text, next, width);
     put_bytes(text, next, b" 65\n")
 }
 
@@ -53,13 +52,12 @@ fn put_lines(text: &mut [u8], at: usize, width: usize, frame: &[u8]) -> usize
     requires countable { Countable at (lines width frame.now frame_rows 0) }
     ensures { Put text.old at (lines width frame.now frame_rows 0) result text.new }
 {
-    let pairs = DIGIT_PAIRS;
     let mut next = at;
     let mut p = 0;
     while p < FRAME_ROWS {
         let start = p * width;
         let end = start + width;
-        next = put_line(text, next, &pairs, p, &frame[start..end]);
+        next = put_line(text, next, p, &frame[start..end]);
         p += 1;
     }
     next

@@ -11,7 +11,6 @@ use constants::refusal::TOO_SHORT;
 use constants::sizes::{FRAME_ROWS, LONGEST_LISTING, LONGEST_WIDE_LISTING, WIDE_WIDTH, WIDTH};
 
 mod frame;
-mod pairs;
 mod row;
 mod text;
 

@@ -1,6 +1,5 @@
 // A row of the frame as a line of text.
-ghost use Rattle.std.specs.Prelude.{◌≡◌, ◌+◌, ◌-◌, ◌^◌, ◌≤◌, ◌<◌, length, drop};
-ghost use Rattle.framelisting.specs.Pairs.{digit_pairs};
+ghost use Rattle.std.specs.Prelude.{◌≡◌, ◌+◌, ◌^◌, ◌≤◌, ◌<◌, length, drop};
 ghost use Rattle.framelisting.specs.Put.{Countable, Put};
 ghost use Rattle.framelisting.specs.Runs.{any_lit, leading, runs};
 ghost use Rattle.framelisting.specs.Text.{run_text, runs_text, line};
@@ -11,15 +10,14 @@ use crate::text::{put, put_inside, put_number, put_small};
 const RUN_ROOM: usize = 8;
 
 // Puts the line of row p; a row with no lit place has none.
-pub fn put_line(text: &mut [u8], at: usize, pairs: &[u16; 100], p: usize, row: &[u8]) -> usize
+pub fn put_line(text: &mut [u8], at: usize, p: usize, row: &[u8]) -> usize
     requires row_len_bound { length row.now + 1 < 2 ^ 64 }
     requires countable { Countable at (line p row.now) }
-    requires pairs_value { pairs.now ≡ digit_pairs }
     ensures { Put text.old at (line p row.now) result text.new }
 {
     if any_lit(row) {
-        let next = put_number(text, at, pairs, p);
-        let next = put_runs(text, next, pairs, row);
+        let next = put_number(text, at, p);
+        let next = put_runs(text, next, row);
         return put(text, next, b'\n');
     }
     at
@@ -42,13 +40,11 @@ fn any_lit(row: &[u8]) -> bool
 }
 
 // Puts the runs of a row, left to right. The place after a run is dark, and is passed over with it.
-fn put_runs(text: &mut [u8], at: usize, pairs: &[u16; 100], row: &[u8]) -> usize
+fn put_runs(text: &mut [u8], at: usize, row: &[u8]) -> usize
     requires row_len_bound { length row.now + 1 < 2 ^ 64 }
     requires countable { Countable at (runs_text (runs row.now)) }
-    requires pairs_value { pairs.now ≡ digit_pairs }
     ensures { Put text.old at (runs_text (runs row.now)) result text.new }
 {
-    let room = room_of(text.len());
     let mut next = at;
     let mut x = 0;
     while x < row.len() {
@@ -56,7 +52,7 @@ fn put_runs(text: &mut [u8], at: usize, pairs: &[u16; 100], row: &[u8]) -> usize
             x += 1;
         } else {
             let end = run_end(row, x + 1);
-            next = put_run(text, next, room, pairs, x, end - 1);
+            next = put_run(text, next, x, end - 1);
             x = end + 1;
         }
     }
@@ -78,62 +74,47 @@ fn run_end(row: &[u8], from: usize) -> usize
     x
 }
 
-// Up to which place a buffer of so many bytes has room for a run.
-fn room_of(size: usize) -> usize
-    ensures { result ≡ size + 1 - 8 }
-{
-    if size < RUN_ROOM {
-        return 0;
-    }
-    size - RUN_ROOM + 1
-}
-
-// Puts a run: a space, its first place, "-", its last. Before `room` the buffer has room for a run whose places have three digits.
-fn put_run(
-    text: &mut [u8],
-    at: usize,
-    room: usize,
-    pairs: &[u16; 100],
-    first: usize,
-    last: usize,
-) -> usize
-    requires room_value { (room ≡ length text.old + 1 - 8) × (first ≤ last) }
-    requires countable { Countable at (run_text (record { first = first; last = last })) }
-    requires pairs_value { pairs.now ≡ digit_pairs }
+// Puts a run: a space, its first place, "-", its last.
+fn put_run(text: &mut [u8], at: usize, first: usize, last: usize) -> usize
+    requires { Countable at (run_text (record { first = first; last = last })) }
     ensures { Put text.old at (run_text (record { first = first; last = last })) result text.new }
 {
     if last < 1000 {
-        if at < room {
-            if first == last {
-                return put_place(text, at, pairs, first);
+        if first <= last {
+            if at < text.len() {
+                if RUN_ROOM <= text.len() - at {
+                    if first == last {
+                        return put_place(text, at, first);
+                    }
+                    return put_small_run(text, at, first, last);
+                }
             }
-            return put_small_run(text, at, pairs, first, last);
         }
     }
     let next = put(text, at, b' ');
-    let next = put_number(text, next, pairs, first);
+    let next = put_number(text, next, first);
     let next = put(text, next, b'-');
-    put_number(text, next, pairs, last)
+    put_number(text, next, last)
 }
 
 // Puts a run of places of up to three digits where the buffer has room for it.
-fn put_small_run(text: &mut [u8], at: usize, pairs: &[u16; 100], first: usize, last: usize) -> usize
-    requires { (first < 1000) × (last < 1000) × (at + 8 ≤ length text.old) × (pairs.now ≡ digit_pairs) }
+fn put_small_run(text: &mut [u8], at: usize, first: usize, last: usize) -> usize
+    requires { (first < 1000) × (last < 1000) × (at + 8 ≤ length text.old) }
     ensures { Put text.old at (run_text (record { first = first; last = last })) result text.new }
 {
     let next = put_inside(text, at, b' ');
-    let next = put_small(text, next, pairs, first);
+    let next = put_small(text, next, first);
     let next = put_inside(text, next, b'-');
-    put_small(text, next, pairs, last)
+    put_small(text, next, last)
 }
 
-// Puts a run of one place: its digits are looked up once.
-fn put_place(text: &mut [u8], at: usize, pairs: &[u16; 100], place: usize) -> usize
-    requires { (place < 1000) × (at + 8 ≤ length text.old) × (pairs.now ≡ digit_pairs) }
+// Puts a run of one place: its digits are worked out once.
+fn put_place(text: &mut [u8], at: usize, place: usize) -> usize
+    requires { (place < 1000) × (at + 8 ≤ length text.old) }
     ensures { Put text.old at (run_text (record { first = place; last = place })) result text.new }
 {
     let next = put_inside(text, at, b' ');
-    let next = put_small(text, next, pairs, place);
+    let next = put_small(text, next, place);
     let next = put_inside(text, next, b'-');
-    put_small(text, next, pairs, place)
+    put_small(text, next, place)
 }

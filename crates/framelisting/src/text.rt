@@ -1,9 +1,8 @@
 // Pieces of text put into a lent buffer. A place past its end takes no byte and is counted all the same, so that a text is measured by being put into an
 // empty buffer.
-ghost use Rattle.std.specs.Prelude.{◌≡◌, [], ◌∷◌, ◌+◌, ◌/◌, ◌%◌, ◌≤◌, ◌<◌, length};
+ghost use Rattle.std.specs.Prelude.{◌≡◌, [], ◌∷◌, ◌+◌, ◌≤◌, ◌<◌, length};
 ghost use Rattle.framelisting.specs.Put.{Countable, Put};
 ghost use Rattle.framelisting.specs.Decimal.{decimal};
-ghost use Rattle.framelisting.specs.Pairs.{digit_pairs};
 
 // Puts one byte.
 pub fn put(text: &mut [u8], at: usize, byte: u8) -> usize
@@ -41,49 +40,35 @@ pub fn put_inside(text: &mut [u8], at: usize, byte: u8) -> usize
 }
 
 // Puts a number in decimal. A number of up to three digits is put at once where the buffer has room for three.
-pub fn put_number(text: &mut [u8], at: usize, pairs: &[u16; 100], number: usize) -> usize
-    requires countable { Countable at (decimal number) }
-    requires pairs_value { pairs.now ≡ digit_pairs }
+pub fn put_number(text: &mut [u8], at: usize, number: usize) -> usize
+    requires { Countable at (decimal number) }
     ensures { Put text.old at (decimal number) result text.new }
 {
     if number < 1000 {
         if at < text.len() {
             if 3 <= text.len() - at {
-                return put_small(text, at, pairs, number);
+                return put_small(text, at, number);
             }
         }
     }
     put_digits(text, at, number)
 }
 
-// Puts a number of up to three digits where the buffer has room for three. A number below 200 is known to begin with 1, and is not divided.
-pub fn put_small(text: &mut [u8], at: usize, pairs: &[u16; 100], number: usize) -> usize
-    requires { (number < 1000) × (at + 3 ≤ length text.old) × (pairs.now ≡ digit_pairs) }
+// Puts a number of up to three digits where the buffer has room for three.
+pub fn put_small(text: &mut [u8], at: usize, number: usize) -> usize
+    requires { (number < 1000) × (at + 3 ≤ length text.old) }
     ensures { Put text.old at (decimal number) result text.new }
 {
     if number < 10 {
         return put_inside(text, at, digit(number));
     }
     if number < 100 {
-        return put_two(text, at, pairs, number);
+        let next = put_inside(text, at, digit(number / 10));
+        return put_inside(text, next, digit(number % 10));
     }
-    if number < 200 {
-        let next = put_inside(text, at, b'1');
-        return put_two(text, next, pairs, number - 100);
-    }
-    let hundreds = number / 100;
-    let next = put_inside(text, at, digit(hundreds));
-    put_two(text, next, pairs, number - hundreds * 100)
-}
-
-// Puts the two digits of a number below 100.
-fn put_two(text: &mut [u8], at: usize, pairs: &[u16; 100], number: usize) -> usize
-    requires { (number < 100) × (at + 2 ≤ length text.old) × (pairs.now ≡ digit_pairs) }
-    ensures { Put text.old at ((48 + number / 10) ∷ (48 + number % 10) ∷ []) result text.new }
-{
-    let pair = pairs[number];
-    let next = put_inside(text, at, (pair % 256) as u8);
-    put_inside(text, next, (pair / 256) as u8)
+    let next = put_inside(text, at, digit(number / 100));
+    let next = put_inside(text, next, digit(number / 10 % 10));
+    put_inside(text, next, digit(number % 10))
 }
 
 // A digit as a byte.
@@ -95,7 +80,7 @@ fn digit(number: usize) -> u8
 }
 
 // Puts a number of any length, digit by digit.
-pub fn put_digits(text: &mut [u8], at: usize, number: usize) -> usize
+fn put_digits(text: &mut [u8], at: usize, number: usize) -> usize
     requires { Countable at (decimal number) }
     ensures { Put text.old at (decimal number) result text.new }
 {

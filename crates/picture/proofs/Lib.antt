@@ -38,7 +38,3 @@ pub mod Demand3
 pub mod FullAtStart
 -- the whole frame at once
 pub mod Upright
--- rows written into longer ones
-pub mod Within
--- where the rows in use lie
-pub mod Stretches

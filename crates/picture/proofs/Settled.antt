@@ -3,16 +3,11 @@
 use mathlib.Core.Path.{sym, ◌∙◌, ap}
 use Rattle.constants.proofs.Settles.{equation}
 use Rattle.picture.specs.Draw.{Drawn}
-use Rattle.picture.specs.Settled.{Settled, SettledWithin}
+use Rattle.picture.specs.Settled.{Settled}
 
 pub settled : Settled
 settled = record {
   «draw::draw» = λ state memory was a b p q. ap (λ (o : Drawn). (o.number, o.frame)) (p ∙ sym q);
   draw::draw_line = λ r memory row was. equation _;
   rows::row_shows = λ r row. equation _;
-}
-
-pub settled_within : SettledWithin
-settled_within = record {
-  draw::draw_within = λ r memory stride first was. equation _;
 }

@@ -4,16 +4,12 @@ pub mod Scan
 pub mod Rows
 -- what each place shows, and the frame
 pub mod Frame
--- for functions inside the crate: where the rows in use lie
-pub mod Stretches
--- and the whole frame at once
+-- for functions inside the crate: the whole frame at once
 pub mod Upright
 -- the call that draws
 pub mod Draw
 -- the call that draws one row
 pub mod DrawLine
--- the call that draws into longer rows
-pub mod Within
 -- what the call and its frame come to; demand 1 for drawing
 pub mod Drawing
 -- the rules of the frame, for any number of rows in use

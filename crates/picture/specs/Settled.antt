@@ -5,7 +5,6 @@ use Rattle.picture.specs.Scan.{row_shows}
 use Rattle.picture.specs.Rows.{scan_of}
 use Rattle.picture.specs.Draw.{drawn, draw}
 use Rattle.picture.specs.DrawLine.{draw_line}
-use Rattle.picture.specs.Within.{draw_within}
 use Rattle.picture.specs.declared.rows.PanelRow.{PanelRow}
 use Rattle.picture.specs.declared.rows.Shown.{Shown}
 use Rattle.constants.specs.Settles.{Settles}
@@ -16,8 +15,3 @@ pub record Settled : Type 0 where
   -- the lent part
   pub draw::draw_line : (r : Registers) (memory : List ℕ) (row : PanelRow) (was : List ℕ) → Settles (λ (later : List ℕ). later ≡ draw_line r memory row was)
   pub rows::row_shows : (r : Registers) (row : PanelRow) → Settles (λ (shown : Shown). shown ≡ row_shows (scan_of r) row)
-
--- The same of the call that draws into longer rows.
-pub record SettledWithin : Type 0 where
-  -- the lent places
-  pub draw::draw_within : (r : Registers) (memory : List ℕ) (stride first : ℕ) (was : List ℕ) → Settles (λ (later : List ℕ). later ≡ draw_within r memory stride first was)

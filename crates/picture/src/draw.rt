@@ -1,10 +1,9 @@
-// The calls that draw: a whole frame, lent state image, memory and frame; the same within longer rows; and one row of it.
-ghost use Rattle.std.specs.Prelude.{◌≡◌, ◌≤◌, ◌+◌, ◌*◌, length};
-ghost use Rattle.constants.specs.Sizes.{width, memory_size, frame_rows};
-ghost use Rattle.picture.specs.Upright.{shown_row};
+// The calls that draw: a whole frame, lent state image, memory and frame; and one row of it.
+ghost use Rattle.std.specs.Prelude.{◌≡◌, ◌++◌, ◌≤◌, length, drop};
+ghost use Rattle.constants.specs.Sizes.{memory_size, frame_size};
+ghost use Rattle.picture.specs.Frame.{frame};
 ghost use Rattle.picture.specs.Draw.{drawn, draw};
 ghost use Rattle.picture.specs.DrawLine.{draw_line};
-ghost use Rattle.picture.specs.Within.{rows_into, draw_within};
 
 use crate::row::draw_row;
 use crate::rows::PanelRow;
@@ -23,55 +22,36 @@ pub fn draw(state: &[u8], memory: &[u8], frame: &mut [u8]) -> u8
     }
     match ask(state, memory) {
         Asked::Found(registers) => {
-            draw_frame(registers, memory, WIDTH, 0, frame);
+            draw_frame(registers, memory, frame);
             TAKEN
         }
         Asked::Refused(number) => number,
     }
 }
 
-// Draws the frame into the rows of a longer one, as the wide terminal's; does nothing where the memory is too short, a row has no 132 places from the first on, or there are not 65 rows.
-pub fn draw_within(registers: Registers, memory: &[u8], stride: u32, first: u32, places: &mut [u8])
-    ensures { places.new ≡ draw_within registers memory.now stride first places.old }
-{
-    if memory.len() < MEMORY_SIZE {
-        return;
-    }
-    let step = stride as usize;
-    let begin = first as usize;
-    if step < begin + WIDTH {
-        return;
-    }
-    if places.len() < FRAME_ROWS * step {
-        return;
-    }
-    draw_frame(registers, memory, step, begin, places);
-}
-
-// Draws the frame, each row so many places after the one before it. Bits are drawn with all rows in view; each row of one shade by itself, which the compiler makes one fill of them where nothing lies between.
-fn draw_frame(registers: Registers, memory: &[u8], stride: usize, first: usize, places: &mut [u8])
-    requires { (memory_size ≤ length memory.now) × (first + width ≤ stride) × (frame_rows * stride ≤ length places.old) }
-    ensures { places.new ≡ rows_into stride first (shown_row registers memory.now) 0 frame_rows places.old }
+// Draws the frame. Bits are drawn with all rows in view; each row of one shade by itself, which the compiler makes one fill of them.
+fn draw_frame(registers: Registers, memory: &[u8], places: &mut [u8])
+    requires { (memory_size ≤ length memory.now) × (frame_size ≤ length places.old) }
+    ensures { places.new ≡ frame registers memory.now ++ drop frame_size places.old }
 {
     if registers.on == 0 {
-        draw_rows(registers, memory, stride, first, places);
+        draw_rows(registers, memory, places);
         return;
     }
     if registers.entire == 1 {
-        draw_rows(registers, memory, stride, first, places);
+        draw_rows(registers, memory, places);
         return;
     }
-    draw_whole(registers, memory, stride, first, places);
+    draw_whole(registers, memory, places);
 }
 
 // Draws each row into its own part of the frame.
-fn draw_rows(registers: Registers, memory: &[u8], stride: usize, first: usize, places: &mut [u8])
-    requires { (memory_size ≤ length memory.now) × (first + width ≤ stride) × (frame_rows * stride ≤ length places.old) }
-    ensures { places.new ≡ rows_into stride first (shown_row registers memory.now) 0 frame_rows places.old }
+fn draw_rows(registers: Registers, memory: &[u8], places: &mut [u8])
+    requires { (memory_size ≤ length memory.now) × (frame_size ≤ length places.old) }
+    ensures { places.new ≡ frame registers memory.now ++ drop frame_size places.old }
 {
     for y in 0..FRAME_ROWS {
-        let row = y * stride;
-        let start = row + first;
+        let start = y * WIDTH;
         let end = start + WIDTH;
         draw_row(
             registers,

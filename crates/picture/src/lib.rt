@@ -1,7 +1,6 @@
 // Layer 3, the picture: three countings of rows, one row drawn, and the frame.
 #![tactic(auto)]
 
-mod band;
 pub mod draw;
 mod page;
 mod row;

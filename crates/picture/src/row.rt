@@ -57,7 +57,7 @@ fn draw_bits(registers: Registers, memory: &[u8], row: RamRow, places: &mut [u8]
 }
 
 // A bit of each byte of a page, in its order.
-pub fn straight(page: &[u8], bit: u8, reverse: u8, places: &mut [u8])
+fn straight(page: &[u8], bit: u8, reverse: u8, places: &mut [u8])
     requires { (bit < 8) × (reverse < 2) × (length page.now ≡ width) × (length places.old ≡ width) }
     ensures { places.new ≡ line width (λ x. turned reverse (get_or page.now x 0 / 2 ^ bit % 2)) }
 {

@@ -28,7 +28,7 @@ pub enum Shown {
 
 impl PanelRow {
     // The COM that the panel row belongs to.
-    pub(crate) fn belongs_to(self, registers: Registers) -> Com
+    fn belongs_to(self, registers: Registers) -> Com
         ensures { result ≡ com_of (scan_of registers) self }
     {
         let sum = (self.0 as u16) + shifted_by(registers);

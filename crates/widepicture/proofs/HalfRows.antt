@@ -1,25 +1,26 @@
--- The rows of one chip, drawn by picture's own call into its half of the wide rows, are those of the chip's frame.
+-- A row of one chip, drawn by picture's own call into its half of a wide row, is that row of the chip's frame.
 -- Assumes nothing.
 use mathlib.Core.Path.{◌≡◌, refl, sym, ◌∙◌, ap}
 use mathlib.Core.List.{List, ◌++◌}
 use Prim.Native.Nat.{ℕ, zero, suc, ◌+◌, ◌*◌, ◌≤◌, ◌<◌}
 use native.Mathlib.Omega.{arith}
 use native.Mathlib.Nat.{le_of_eq}
-use borrow.Author.Tests.{le-leb}
-use lib.ListN.{length, take, drop, take-append-drop}
-use lib.Seq.{length-take-le}
+use native.Mathlib.Numerals.{add-one}
+use borrow.Author.Tests.{lt-ltb, le-leb, eq-eqb}
+use lib.ListN.{length, take, drop, length-take, length-drop, take-append-drop}
+use lib.Seq.{length-take-le, drop-drop}
 use Rattle.constants.specs.Sizes.{width, memory_size, frame_rows, frame_size, wide_width, wide_frame_size}
 use Rattle.bus.specs.declared.registers.Registers.{Registers}
+use Rattle.picture.specs.Scan.{panel_row}
 use Rattle.picture.specs.Frame.{frame, row_of}
-use Rattle.picture.specs.Within.{written_at, rows_into, draw_within}
-use Rattle.picture.proofs.Places.{frame_length}
-use Rattle.picture.proofs.Within.{written_length, written_after}
+use Rattle.picture.specs.DrawLine.{draw_line}
+use Rattle.picture.proofs.Places.{frame_length, frame_row}
 use Rattle.widebus.specs.Pair.{chips_of}
 use Rattle.widebus.specs.declared.both.Both.{Both}
 use Rattle.widebus.specs.declared.selection.Side.{Side}
 use Rattle.widepicture.specs.WideFrame.{row_by_row, side_by_side, wide_frame, first_column}
-use Rattle.widepicture.specs.WideDraw.{rows_written}
-use Rattle.widepicture.proofs.RowByRow.{row_length, side_length, written_front, row_written}
+use Rattle.widepicture.specs.WideDraw.{written_at, rows_written}
+use Rattle.widepicture.proofs.RowByRow.{row_length, side_length, written_length, written_front, written_after, row_written}
 
 -- there is room for a half
 pub column_within : (side : Side) → first_column side ≤ width
@@ -29,30 +30,25 @@ column_within Side.Right = omega arith
 pub frame_row_length : (r : Registers) (memory : List ℕ) (y : ℕ) → y < frame_rows → length (row_of width y (frame r memory)) ≡ width
 frame_row_length r memory y l = row_length width y (frame r memory) (rw (frame_length r memory) (omega arith))
 
--- what the call writes
-rows_into_lem : (first : ℕ) (own : List ℕ) (h : ℕ) (was : List ℕ) → rows_into wide_width first (λ y. row_of width y own) 0 h was ≡ rows_written first h own was
-unfolding rows_into rows_written
-rows_into_lem first own zero was = refl
-rows_into_lem first own (suc h) was =
-    let here : 0 + h ≡ h = omega arith in
-    rw (here, rows_into_lem first own h was)
+-- what the call draws
+line_drawn : (r : Registers) (memory : List ℕ) (y : ℕ) (was : List ℕ) → y < frame_rows → memory_size ≤ length memory → length was ≡ width → draw_line r memory (panel_row y) was ≡ row_of width y (frame r memory)
+unfolding draw_line
+line_drawn r memory y was l k e = rw (lt-ltb y frame_rows l, le-leb memory_size (length memory) k, eq-eqb (length was) width e) (sym (frame_row r memory y l))
 
-pub half_drawn : (r : Registers) (memory : List ℕ) (side : Side) (was : List ℕ) {first : ℕ} {later : List ℕ} → memory_size ≤ length memory → wide_frame_size ≤ length was → first ≡ first_column side
-    → later ≡ draw_within r memory wide_width first was → later ≡ rows_written (first_column side) frame_rows (frame r memory) was
-unfolding draw_within
-half_drawn r memory side was l k e drawn =
-    let within = column_within side in
-    let room : first_column side + width ≤ wide_width = omega arith in
-    drawn ∙
-    rw (e, le-leb memory_size (length memory) l, le-leb (first_column side + width) wide_width room, le-leb (frame_rows * wide_width) (length was) k)
-    (rows_into_lem (first_column side) (frame r memory) frame_rows was)
+-- the part came back with it
+half_written : (r : Registers) (memory : List ℕ) (y start k : ℕ) (was part : List ℕ) → y < frame_rows → memory_size ≤ length memory → start + width ≤ length was → k ≡ width
+    → part ≡ draw_line r memory (panel_row y) (take k (drop start was)) → take start was ++ (part ++ drop k (drop start was)) ≡ written_at start (row_of width y (frame r memory)) was
+unfolding written_at
+half_written r memory y start k was part l long room e drawn =
+    let row = line_drawn r memory y (take k (drop start was)) l long (rw (length-take, length-drop) (omega arith)) in
+    rw (drawn ∙ row, frame_row_length r memory y l, e, drop-drop width start was)
 
 -- rows of one chip, written into a wide frame
 module _ (first : ℕ) (k : first ≤ width) (own : List ℕ) (e : length own ≡ frame_size) where
   own_row_length : (y : ℕ) → y < frame_rows → length (row_of width y own) ≡ width
   own_row_length y l = row_length width y own (omega arith)
 
-  rows_written_length : (h : ℕ) (was : List ℕ) → h ≤ frame_rows → h * wide_width ≤ length was → length (rows_written first h own was) ≡ length was
+  pub rows_written_length : (h : ℕ) (was : List ℕ) → h ≤ frame_rows → h * wide_width ≤ length was → length (rows_written first h own was) ≡ length was
   unfolding rows_written
   rows_written_length zero was l long = refl
   rows_written_length (suc h) was l long =
@@ -80,6 +76,20 @@ module _ (first : ℕ) (k : first ≤ width) (own : List ℕ) (e : length own �
       (sym (written_after (rows_written first h own front) rest part start (rows_written_length h front l (le_of_eq (sym Front-length)) ∙ Front-length))) ∙
       ap (written_at start part) (sym (rows_front h front rest l (le_of_eq (sym Front-length)))) ∙
       ap (λ (places : List ℕ). written_at start part (rows_written first h own places)) (sym whole)
+
+-- so with the rows of a chip's frame, as its loop has them
+module _ (r : Registers) (memory : List ℕ) (first : ℕ) (k : first ≤ width) (was : List ℕ) (long : wide_frame_size ≤ length was) where
+  pub rows_kept : (y : ℕ) → y ≤ frame_rows → {places : List ℕ} → places ≡ rows_written first y (frame r memory) was → length places ≡ length was
+  rows_kept y l p = rw p (rows_written_length first k (frame r memory) (frame_length r memory) y was l (omega arith))
+
+  -- one row more: its part came back with it
+  pub rows_turn : (y n : ℕ) (places part : List ℕ) → y < frame_rows → memory_size ≤ length memory → places ≡ rows_written first y (frame r memory) was → n ≡ width
+      → part ≡ draw_line r memory (panel_row y) (take n (drop (y * wide_width + first) places))
+      → take (y * wide_width + first) places ++ (part ++ drop n (drop (y * wide_width + first) places)) ≡ rows_written first (y + 1) (frame r memory) was
+  unfolding rows_written
+  rows_turn y n places part l enough p m drawn =
+      let kept = rows_kept y (omega arith) p in
+      half_written r memory y (y * wide_width + first) n places part l enough (omega arith) m drawn ∙ rw (p, add-one)
 
 -- the rows of both chips: the left one's, and then the right one's
 module _ (left right : List ℕ) (e : length left ≡ frame_size) (d : length right ≡ frame_size) where

@@ -1,6 +1,6 @@
 -- rows one after the other, and a row that is written over
 pub mod RowByRow
--- the rows of one chip, drawn into its half
+-- a row of one chip, drawn into its half
 pub mod HalfRows
 -- a frame of one shade
 pub mod OneShade

@@ -9,9 +9,8 @@ use native.Mathlib.Decide.{dec_lt}
 use lib.ListN.{length, get_or, take, drop, length-append, length-take, length-drop}
 use lib.Seq.{take_at, drop_at, drop-drop, take-append-le, drop-append-le, take_all, take-add, get_or-take, get_or-drop}
 use Rattle.picture.specs.Frame.{row_of, place_of}
-use Rattle.picture.specs.Within.{written_at}
-use Rattle.picture.proofs.Within.{written_after}
 use Rattle.widepicture.specs.WideFrame.{row_by_row, side_by_side}
+use Rattle.widepicture.specs.WideDraw.{written_at}
 
 pub row_length : (w y : ℕ) (places : List ℕ) → y * w + w ≤ length places → length (row_of w y places) ≡ w
 unfolding row_of
@@ -69,10 +68,19 @@ beside_length w h left right l r y k =
 pub side_length : (w h : ℕ) (left right : List ℕ) → h * w ≤ length left → h * w ≤ length right → length (side_by_side w h left right) ≡ h * (w + w)
 side_length w h left right l r = rows_length (w + w) h (λ y. row_of w y left ++ row_of w y right) (beside_length w h left right l r)
 
--- a part written leaves what follows it
+-- a part written leaves a frame as long as before, and leaves what follows it
+pub written_length : (start : ℕ) (part was : List ℕ) → start + length part ≤ length was → length (written_at start part was) ≡ length was
+unfolding written_at
+written_length start part was l = simp (length-append, length-take, length-drop) (omega arith)
+
 pub written_front : (start : ℕ) (part front rest : List ℕ) → start + length part ≤ length front → written_at start part (front ++ rest) ≡ written_at start part front ++ rest
 unfolding written_at
 written_front start part front rest l = rw (take-append-le start front rest (omega arith), drop-append-le (start + length part) front rest l) (simp append_assoc)
+
+-- a part written after what is done
+pub written_after : (done rest part : List ℕ) (start : ℕ) → length done ≡ start → written_at start part (done ++ rest) ≡ done ++ (part ++ drop (length part) rest)
+unfolding written_at
+written_after done rest part start e = rw (take_at done rest start e, ← (drop-drop (length part) start (done ++ rest)), drop_at done rest start e)
 
 -- one row more: its left half is written, and then its right half
 pub row_written : (w start : ℕ) (done was left right : List ℕ) → length done ≡ start → length left ≡ w → length right ≡ w

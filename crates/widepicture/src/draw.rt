@@ -10,8 +10,9 @@ ghost use Rattle.widepicture.specs.WideDraw.{draw_wide, rows_written};
 use crate::whole::{Shade, fill, shade_of};
 use bus::registers::Registers;
 use constants::refusal::{TAKEN, TOO_SHORT};
-use constants::sizes::{WIDE_FRAME_SIZE, WIDE_WIDTH, WIDTH};
-use picture::draw::draw_within;
+use constants::sizes::{FRAME_ROWS, WIDE_FRAME_SIZE, WIDE_WIDTH, WIDTH};
+use picture::draw::draw_line;
+use picture::rows::PanelRow;
 use widebus::both::{Both, BothAsked, ask};
 use widebus::selection::Side;
 
@@ -56,13 +57,23 @@ fn draw_both(registers: Both, left_memory: &[u8], right_memory: &[u8], frame: &m
     draw_half(Side::Right, registers.right, right_memory, frame);
 }
 
-// Draws the rows of one chip, each into its half of a wide row.
+// Draws each row of one chip into its half of a wide row. A loop for each chip is what keeps the wide frame near twice the time of one.
 fn draw_half(side: Side, registers: Registers, memory: &[u8], places: &mut [u8])
     requires { (memory_size ≤ length memory.now) × (wide_frame_size ≤ length places.old) }
     ensures { places.new ≡ rows_written (first_column side) frame_rows (frame registers memory.now) places.old }
 {
     let first = first_column(side);
-    draw_within(registers, memory, WIDE_WIDTH as u32, first as u32, places);
+    for y in 0..FRAME_ROWS {
+        let row = y * WIDE_WIDTH;
+        let start = row + first;
+        let end = start + WIDTH;
+        draw_line(
+            registers,
+            memory,
+            PanelRow(y as u8),
+            &mut places[start..end],
+        );
+    }
 }
 
 // The place of a row at which a chip's half begins.

@@ -1,4 +1,5 @@
 -- `framelisting::frame::put_header` meets its contract: three pieces one after the other.
+use borrow.Author.Rules.{rules}
 use native.Mathlib.Omega.{arith}
 use Rattle.framelisting.specs.Ascii.{ascii}
 use Rattle.framelisting.proofs.PutPieces.{after}
@@ -8,8 +9,8 @@ use Rattle.framelisting.proofs.frame.put_header.Goals as goal
 pub put_bytes-next-requires : goal.put_bytes-next-requires
 put_bytes-next-requires c = omega (arith, header_length c.args.width)
 
-pub put_digits-next-requires : goal.put_digits-next-requires
-put_digits-next-requires c = omega (arith, header_length c.args.width)
+pub put_number-next-requires : goal.put_number-next-requires
+put_number-next-requires c = omega (arith, header_length c.args.width)
 
 pub put_bytes-requires : goal.put_bytes-requires
 put_bytes-requires c = omega (arith, header_length c.args.width)
@@ -17,4 +18,4 @@ put_bytes-requires c = omega (arith, header_length c.args.width)
 pub returns : goal.returns
 unfolding ascii
 returns c =
-    rw (header_pieces c.args.width) (after (after c.put_bytes-next.ensures c.put_digits-next.ensures) c.put_bytes.ensures)
+    rw (header_pieces c.args.width) (after (after c.put_bytes-next.ensures c.put_number-next.ensures) c.put_bytes.ensures)

@@ -1,13 +1,12 @@
 -- `framelisting::frame::put_lines` meets its contract: the lines of the rows from here on are put from here on.
 use Prim.Native.Nat.{ℕ, suc, ◌≤◌, ◌<◌, ◌+◌, ◌-◌, ◌*◌}
-use mathlib.Core.Path.{◌≡◌, refl, subst⁻¹}
+use mathlib.Core.Path.{◌≡◌, subst⁻¹}
 use mathlib.Core.List.{List, ◌++◌}
 use native.Mathlib.Nat.{suc-mul, mul-le-mul_right}
 use native.Mathlib.Numerals.{add-one}
 use native.Mathlib.Omega.{arith}
 use lib.ListN.{take, drop, length-take, length-drop}
 use Rattle.constants.specs.Sizes.{frame_rows}
-use Rattle.framelisting.specs.Pairs.{pair_of, pairs_from, digit_pairs}
 use Rattle.framelisting.specs.Put.{Countable}
 use Rattle.framelisting.specs.Text.{line, row_of, lines}
 use Rattle.framelisting.proofs.PutPieces.{begin, turn, done, room, room_left, rest_length}
@@ -50,7 +49,6 @@ pub slice_bounds-put_line-end : goal.slice_bounds-put_line-end
 slice_bounds-put_line-end c = omega (arith, within c.args.width frame_rows c.loop-p.p c.loop-p-test.true)
 
 pub put_line-next-requires : goal.put_line-next-requires
-unfolding digit_pairs pairs_from pair_of
 put_line-next-requires c =
     let frame = c.args.frame.now in
     let w = c.args.width in
@@ -58,7 +56,6 @@ put_line-next-requires c =
     record {
       row_len_bound = rw (length-take, length-drop) (omega arith);
       countable = subst⁻¹ (λ row. Countable c.loop-p.next (line p row)) (part w frame p) (room c.loop-p.next (line p (row_of w frame p)) _ (rw (lines_on w frame frame_rows p c.loop-p-test.true) at (room_left c.loop-p.invariant.1 c.requires.countable)));
-      pairs_value = refl;
     }
 
 pub loop-p-preserved : goal.loop-p-preserved

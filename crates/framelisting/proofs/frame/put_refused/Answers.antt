@@ -1,4 +1,5 @@
 -- `framelisting::frame::put_refused` meets its contract: five pieces one after the other, or none.
+use borrow.Author.Rules.{rules}
 use native.Mathlib.Omega.{arith}
 use borrow.Author.Tests.{ne_eqb}
 use Rattle.framelisting.specs.Ascii.{ascii}
@@ -16,16 +17,16 @@ pub put_bytes-next-requires : goal.put_bytes-next-requires
 put_bytes-next-requires c =
     omega (arith, refused_length c.args.number c.args.offset c.if-number-eq-TAKEN.false)
 
-pub put_digits-next-requires : goal.put_digits-next-requires
-put_digits-next-requires c =
+pub put_number-next-requires : goal.put_number-next-requires
+put_number-next-requires c =
     omega (arith, refused_length c.args.number c.args.offset c.if-number-eq-TAKEN.false)
 
 pub put_bytes-next-requires-2 : goal.put_bytes-next-requires-2
 put_bytes-next-requires-2 c =
     omega (arith, refused_length c.args.number c.args.offset c.if-number-eq-TAKEN.false)
 
-pub put_digits-next-requires-2 : goal.put_digits-next-requires-2
-put_digits-next-requires-2 c =
+pub put_number-next-requires-2 : goal.put_number-next-requires-2
+put_number-next-requires-2 c =
     omega (arith, refused_length c.args.number c.args.offset c.if-number-eq-TAKEN.false)
 
 pub put-requires : goal.put-requires
@@ -35,4 +36,4 @@ put-requires c =
 pub returns : goal.returns
 unfolding refused_text ascii
 returns c =
-    rw (ne_eqb _ _ c.if-number-eq-TAKEN.false) (after (after (after (after c.put_bytes-next.ensures c.put_digits-next.ensures) c.put_bytes-next-2.ensures) c.put_digits-next-2.ensures) c.put.ensures)
+    rw (ne_eqb _ _ c.if-number-eq-TAKEN.false) (after (after (after (after c.put_bytes-next.ensures c.put_number-next.ensures) c.put_bytes-next-2.ensures) c.put_number-next-2.ensures) c.put.ensures)

@@ -9,17 +9,13 @@ use Rattle.framelisting.proofs.row.put_line.Goals as goal
 
 pub put_number-next-requires : goal.put_number-next-requires
 put_number-next-requires c =
-    record {
-      countable = omega (arith, line_length c.args.p c.args.row.now (sym c.any_lit.ensures ∙ c.if-any_lit.true));
-      pairs_value = c.requires.pairs_value;
-    }
+    omega (arith, line_length c.args.p c.args.row.now (sym c.any_lit.ensures ∙ c.if-any_lit.true))
 
 pub put_runs-next-requires : goal.put_runs-next-requires
 put_runs-next-requires c =
     record {
       row_len_bound = c.requires.row_len_bound;
       countable = omega (arith, line_length c.args.p c.args.row.now (sym c.any_lit.ensures ∙ c.if-any_lit.true));
-      pairs_value = c.requires.pairs_value;
     }
 
 pub put-requires : goal.put-requires

@@ -12,7 +12,7 @@ put_inside-next-requires-2 c =
 
 pub put_small-requires : goal.put_small-requires
 put_small-requires c =
-    (c.requires.0, omega (arith, small_length c.args.place c.requires.0, c.put_inside-next-2.ensures.counted, c.put_small-next.ensures.counted, c.put_inside-next.ensures.counted), c.requires.2)
+    (c.requires.0, omega (arith, small_length c.args.place c.requires.0, c.put_inside-next-2.ensures.counted, c.put_small-next.ensures.counted, c.put_inside-next.ensures.counted))
 
 pub returns : goal.returns
 unfolding run_text ascii

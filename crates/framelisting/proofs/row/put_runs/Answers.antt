@@ -1,28 +1,23 @@
 -- `framelisting::row::put_runs` meets its contract: the text of the runs from here on is put from here on.
 use Prim.Native.Nat.{◌-◌}
-use mathlib.Core.Path.{◌∙◌}
 use native.Mathlib.Omega.{arith}
 use Rattle.framelisting.specs.Runs.{runs}
 use Rattle.framelisting.specs.Text.{run_text, runs_text}
-use Rattle.framelisting.proofs.PutPieces.{begin, turn, done, room, room_left, rest_length, put_length}
+use Rattle.framelisting.proofs.PutPieces.{begin, turn, done, room, room_left, rest_length}
 use Rattle.framelisting.proofs.AlongRow.{runs_on, runs_end, run_text_lem, run_text_on, run_within}
 use Rattle.framelisting.proofs.row.put_runs.Goals as goal
 
 pub loop-x-init : goal.loop-x-init
 unfolding runs
-loop-x-init c = (omega arith, begin _ _ _, c.room_of-room.ensures)
+loop-x-init c = (omega arith, begin _ _ _)
 
 pub loop-x-preserved-then-row-x-eq0 : goal.loop-x-preserved-then-row-x-eq0
 loop-x-preserved-then-row-x-eq0 c =
-    (omega arith, rw (runs_on c.args.row.now c.loop-x.x c.loop-x-test.true c.if-row-x-eq0.true) at c.loop-x.invariant.1, c.loop-x.invariant.2)
+    (omega arith, rw (runs_on c.args.row.now c.loop-x.x c.loop-x-test.true c.if-row-x-eq0.true) at c.loop-x.invariant.1)
 
 pub put_run-next-requires : goal.put_run-next-requires
 put_run-next-requires c =
-    record {
-      room_value = (c.loop-x.invariant.2, omega (arith, c.run_end-end.ensures));
-      countable = room c.loop-x.next (run_text (record { first = c.loop-x.x; last = c.run_end-end.result - 1 })) _ (rw (run_text_lem c.args.row.now c.loop-x.x c.run_end-end.result c.loop-x-test.true c.if-row-x-eq0.false c.run_end-end.ensures) at (room_left c.loop-x.invariant.1 c.requires.countable));
-      pairs_value = c.requires.pairs_value;
-    }
+    room c.loop-x.next (run_text (record { first = c.loop-x.x; last = c.run_end-end.result - 1 })) _ (rw (run_text_lem c.args.row.now c.loop-x.x c.run_end-end.result c.loop-x-test.true c.if-row-x-eq0.false c.run_end-end.ensures) at (room_left c.loop-x.invariant.1 c.requires.countable))
 
 pub overflow_add-x-else-row-x-eq0-2 : goal.overflow_add-x-else-row-x-eq0-2
 overflow_add-x-else-row-x-eq0-2 c =
@@ -34,7 +29,6 @@ loop-x-preserved c =
     let inside = c.loop-x-test.true in (
       omega (arith, run_within row c.loop-x.x c.run_end-end.result inside c.run_end-end.ensures),
       turn (rw (run_text_on row c.loop-x.x c.run_end-end.result inside c.if-row-x-eq0.false c.run_end-end.ensures) at c.loop-x.invariant.1) c.put_run-next.ensures,
-      c.loop-x.invariant.2 ∙ rw (put_length c.put_run-next.ensures),
     )
 
 pub shape_of-text : goal.shape_of-text

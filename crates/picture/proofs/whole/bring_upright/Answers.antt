@@ -15,27 +15,27 @@ pub loop-p-init : goal.loop-p-init
 unfolding grid
 loop-p-init c = (omega arith, refl)
 
-pub slice_bounds-turn_page-end-in-loop-p : goal.slice_bounds-turn_page-end-in-loop-p
-slice_bounds-turn_page-end-in-loop-p c =
+pub slice_bounds-upright_page-end-in-loop-p : goal.slice_bounds-upright_page-end-in-loop-p
+slice_bounds-upright_page-end-in-loop-p c =
     let a = c.args in
-    rw (c.loop-p.invariant.1, grid_kept width c.loop-p.p (upright_byte a.reverse a.memory.now) a.upright.now (omega arith)) (omega arith)
+    rw (c.loop-p.invariant.1, grid_kept width c.loop-p.p (upright_byte a.direction a.reverse a.memory.now) a.upright.now (omega arith)) (omega arith)
 
-pub turn_page-requires : goal.turn_page-requires
-turn_page-requires c =
+pub upright_page-requires : goal.upright_page-requires
+upright_page-requires c =
     let a = c.args in
-    (rw (length-take, length-drop) (omega arith), rw (length-take, length-drop, c.loop-p.invariant.1, grid_kept width c.loop-p.p (upright_byte a.reverse a.memory.now) a.upright.now (omega arith)) (omega arith))
+    (rw (length-take, length-drop) (omega arith), rw (length-take, length-drop, c.loop-p.invariant.1, grid_kept width c.loop-p.p (upright_byte a.direction a.reverse a.memory.now) a.upright.now (omega arith)) (omega arith))
 
 pub loop-p-preserved : goal.loop-p-preserved
 loop-p-preserved c =
     let a = c.args in
     let p = c.loop-p.p in
-    let made = c.turn_page.new.turned in
-    (omega arith, rw c.loop-p.invariant.1 (grid_turn width p (p * width + width - p * width) (upright_byte a.reverse a.memory.now) a.upright.now made (omega arith) (page_upright a.reverse a.memory.now made p (p * width + width - p * width) (omega arith) c.turn_page.ensures)))
+    let made = c.upright_page.new.upright in
+    (omega arith, rw c.loop-p.invariant.1 (grid_turn width p (p * width + width - p * width) (upright_byte a.direction a.reverse a.memory.now) a.upright.now made (omega arith) (page_upright a.direction a.reverse a.memory.now made p (p * width + width - p * width) (omega arith) c.upright_page.ensures)))
 
 pub shape_of-upright : goal.shape_of-upright
 shape_of-upright c =
     let a = c.args in
-    rw c.loop-p.invariant.1 (grid_kept width c.loop-p.p (upright_byte a.reverse a.memory.now) a.upright.now (omega arith))
+    rw c.loop-p.invariant.1 (grid_kept width c.loop-p.p (upright_byte a.direction a.reverse a.memory.now) a.upright.now (omega arith))
 
 pub returns : goal.returns
 returns c =

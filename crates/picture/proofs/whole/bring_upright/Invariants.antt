@@ -9,7 +9,7 @@ use Rattle.picture.specs.Upright.{upright_byte}
 use Rattle.picture.proofs.whole.bring_upright.Given as goal
 
 abbrev pub invariant-loop-p : goal.invariant-loop-p
-invariant-loop-p l = (l.p ≤ pages) × (l.upright ≡ grid width l.p (upright_byte l.reverse l.memory) ++ drop (l.p * width) l.initial.upright)
+invariant-loop-p l = (l.p ≤ pages) × (l.upright ≡ grid width l.p (upright_byte l.direction l.reverse l.memory) ++ drop (l.p * width) l.initial.upright)
 
 abbrev pub decreases-loop-p : goal.decreases-loop-p
 decreases-loop-p l = pages - l.p
