@@ -4,9 +4,11 @@ ghost use Rattle.bus.specs.Chip.{command_byte, data_written, data_read, reset_pu
 ghost use Rattle.bus.specs.OnState.{numbered};
 ghost use Rattle.widebus.specs.Pair.{both_lent};
 ghost use Rattle.widebus.specs.WideCalls.{wide_called, wide_call};
+ghost use Rattle.widebus.specs.WideStretch.{wide_reply, state_left};
 ghost use Rattle.widebus.specs.OnBoth.{on_both, command_meets, Ranged};
 
 use crate::selection::{Selected, Selection, selection_of};
+use crate::stretch::WideStretch;
 use bus::accepted::{access, awaited};
 use bus::calls::{Reply, refuse};
 use bus::image::{Asked, ask_state, legal, short};
@@ -214,6 +216,25 @@ pub fn reset_pin(
         },
         Selected::Refused(number) => refuse(number),
     }
+}
+
+// Stores the registers of a taken event of both chips, or says the number of the one that refused. No call ends so any more: it stands as it landed (docs/PORT.md).
+fn conclude(stretch: WideStretch, left_state: &mut [u8], right_state: &mut [u8]) -> Reply
+    ensures { (result ≡ wide_reply stretch) × (left_state.new ≡ state_left stretch stretch.registers.left left_state.old) × (right_state.new ≡ state_left stretch stretch.registers.right right_state.old) }
+{
+    let registers = stretch.registers;
+    let left = registers.left;
+    let right = registers.right;
+    if stretch.number == TAKEN {
+        left.store(left_state);
+        right.store(right_state);
+        return Reply {
+            number: TAKEN,
+            byte: 0,
+            dummy: false,
+        };
+    }
+    refuse(stretch.number)
 }
 
 // The reply to an event that answers no byte.
