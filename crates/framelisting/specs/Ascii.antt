@@ -1,7 +1,6 @@
 -- Words as bytes.
 use Rattle.std.specs.Prelude.{ℕ, List, [], ◌∷◌}
 use Prim.Native.Char.{code}
-use Prim.Native.String
 use Prim.Native.String.{String}
 
 -- A word as the codes of its characters.

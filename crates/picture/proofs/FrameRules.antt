@@ -1,18 +1,17 @@
 -- The rules of the frame, for any number of rows in use.
 -- Assumes nothing.
 use mathlib.Core.Path.{◌≡◌, refl, ◌∙◌, ap}
-use mathlib.Core.Bool.{Bool, true, false, cond}
 use mathlib.Core.List.{List}
 use Prim.Native.Nat.{ℕ, zero, suc, ◌+◌, ◌-◌, ◌%◌, ◌≤◌, ◌<◌}
 use native.Mathlib.Omega.{arith}
-use borrow.Author.Tests.{lt-ltb, le-ltb, eq-eqb}
+use borrow.Author.Tests.{lt-ltb, le-ltb}
 use lib.Dec.{eqb}
 use Rattle.bus.proofs.Tests.{chosen}
 use Rattle.constants.specs.Sizes.{width, height}
 use Rattle.bus.specs.declared.registers.Registers.{Registers}
 use Rattle.picture.specs.Scan.{panel_row, com_number, ram_row, com_of, used, ram_row_of, panel_shows, row_shows, column_of}
 use Rattle.picture.specs.Rows.{rows_in_use, scan_of}
-use Rattle.picture.specs.Frame.{turned, shown_bit, while_on, segment, line, frame, row_of}
+use Rattle.picture.specs.Frame.{turned, shown_bit, while_on, segment}
 use Rattle.picture.specs.FrameRules.{com_at, PanelRowRules, IconLineRules, SegmentRules, FrameRules}
 use Rattle.picture.specs.declared.rows.RamRow.{RamRow}
 use Rattle.picture.specs.declared.rows.Shown.{Shown}

@@ -1,6 +1,6 @@
 -- Laws on the whole frame drawn at once: a row by its number from an upright memory shows what the row rule, the column direction and reverse say.
 -- Assumes nothing.
-use mathlib.Core.Path.{◌≡◌, refl, sym, ◌∙◌, ap}
+use mathlib.Core.Path.{◌≡◌, refl, sym, ◌∙◌}
 use mathlib.Core.Logic.{◌≢◌}
 use mathlib.Core.Bool.{Bool, true, false, cond}
 use mathlib.Core.List.{List}
@@ -15,7 +15,7 @@ use lib.Seq.{get_or-take, get_or-drop}
 use Rattle.constants.specs.Sizes.{width, pages, height, frame_rows}
 use Rattle.bus.specs.Memory.{address}
 use Rattle.bus.specs.declared.registers.Registers.{Registers}
-use Rattle.picture.specs.Scan.{panel_row, ram_row, column_of, row_shows}
+use Rattle.picture.specs.Scan.{panel_row, column_of, row_shows}
 use Rattle.picture.specs.Rows.{scan_of}
 use Rattle.picture.specs.Frame.{bit, turned, shown_bit, while_on, segment, line, grid, frame}
 use Rattle.picture.specs.Upright.{row_number, upright_byte, numbered}

@@ -13,7 +13,7 @@ use Rattle.constants.specs.Numbers.{taken}
 use Rattle.bus.specs.Registers.{image_of, registers_of, power_on}
 use Rattle.bus.specs.Image.{short}
 use Rattle.bus.specs.Chip.{Event, after_events}
-use Rattle.bus.specs.Calls.{reply_of, call}
+use Rattle.bus.specs.Calls.{reply_of}
 use Rattle.bus.specs.Bytes.{All, IsByte}
 use Rattle.bus.specs.Image.{Accepted}
 use Rattle.bus.specs.CallsOnChip.{Lent, lent, after_calls}

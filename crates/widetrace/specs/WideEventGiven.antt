@@ -1,5 +1,5 @@
 -- Documents 01 and 02: when a run of the wide terminal gives 3 to 7 and 15, which are the selected chips' own and pass through the run unchanged, and 10. The other numbers are in WideGivenRun. proofs/WideEventGiven.antt proves `WideEventGiven`.
-use Rattle.std.specs.Prelude.{ℕ, ◌≡◌, ◌≢◌, ◌↔◌, true, List, [], ◌∷◌, ◌++◌}
+use Rattle.std.specs.Prelude.{ℕ, ◌≡◌, ◌≢◌, ◌↔◌, true, List, ◌∷◌, ◌++◌}
 use Rattle.constants.specs.Numbers.{taken}
 use Rattle.codes.specs.OneOf.{one_of}
 use Rattle.bus.specs.Bytes.{Bytes}

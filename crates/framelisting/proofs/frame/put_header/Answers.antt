@@ -1,5 +1,4 @@
 -- `framelisting::frame::put_header` meets its contract: three pieces one after the other.
-use borrow.Author.Rules.{rules}
 use native.Mathlib.Omega.{arith}
 use Rattle.framelisting.specs.Ascii.{ascii}
 use Rattle.framelisting.proofs.PutPieces.{after}

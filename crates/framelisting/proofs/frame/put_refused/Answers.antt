@@ -1,5 +1,4 @@
 -- `framelisting::frame::put_refused` meets its contract: five pieces one after the other, or none.
-use borrow.Author.Rules.{rules}
 use native.Mathlib.Omega.{arith}
 use borrow.Author.Tests.{ne_eqb}
 use Rattle.framelisting.specs.Ascii.{ascii}

@@ -1,7 +1,7 @@
 -- `picture::draw::draw_rows` meets its contract: the rows passed are drawn, what follows is as it was.
 use mathlib.Core.Path.{◌≡◌}
 use mathlib.Core.List.{List, ◌++◌}
-use Prim.Native.Nat.{ℕ, ◌+◌, ◌*◌, ◌-◌, ◌≤◌}
+use Prim.Native.Nat.{ℕ, ◌*◌, ◌-◌, ◌≤◌}
 use lib.ListN.{drop}
 use Rattle.constants.specs.Sizes.{width, frame_rows}
 use Rattle.bus.specs.declared.registers.Registers.{Registers}

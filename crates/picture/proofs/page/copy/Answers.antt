@@ -1,6 +1,5 @@
 -- `picture::page::copy` meets its contract: the bytes passed are copied, the others as they were.
 use mathlib.Core.Path.{◌≡◌, refl, ◌∙◌}
-use Prim.Native.Nat.{◌-◌}
 use native.Mathlib.Omega.{arith}
 use Rattle.constants.specs.Sizes.{width}
 use Rattle.picture.specs.Frame.{line}

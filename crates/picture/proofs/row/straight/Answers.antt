@@ -1,7 +1,7 @@
 -- `picture::row::straight` meets its contract: the places passed are drawn, the others as they were.
 -- what place x shows
 use mathlib.Core.Path.{◌≡◌, refl, ◌∙◌}
-use Prim.Native.Nat.{◌-◌, ◌/◌, ◌^◌}
+use Prim.Native.Nat.{◌/◌, ◌^◌}
 use native.Mathlib.Omega.{arith}
 use lib.ListN.{get_or}
 use lib.Bits.{mask_lt}

@@ -1,7 +1,7 @@
 -- `picture::whole::bring_upright` meets its contract: the pages passed are upright, what follows is as it was.
 use mathlib.Core.Path.{◌≡◌}
 use mathlib.Core.List.{◌++◌}
-use Prim.Native.Nat.{◌+◌, ◌*◌, ◌-◌, ◌≤◌}
+use Prim.Native.Nat.{◌*◌, ◌-◌, ◌≤◌}
 use lib.ListN.{drop}
 use Rattle.constants.specs.Sizes.{width, pages}
 use Rattle.picture.specs.Frame.{grid}

@@ -1,6 +1,5 @@
 -- `picture::whole::flip_page` meets its contract: the bytes passed are flipped, the others as they were.
 use mathlib.Core.Path.{◌≡◌, refl, ◌∙◌}
-use Prim.Native.Nat.{◌-◌}
 use native.Mathlib.Omega.{arith}
 use Rattle.constants.specs.Sizes.{width}
 use Rattle.picture.specs.Frame.{line}

@@ -1,6 +1,5 @@
 -- `picture::whole::number_rows` meets its contract: the rows passed have their numbers, the others as they were.
 use mathlib.Core.Path.{◌≡◌, refl, ◌∙◌}
-use Prim.Native.Nat.{◌-◌}
 use native.Mathlib.Omega.{arith}
 use Rattle.constants.specs.Sizes.{frame_rows}
 use Rattle.picture.specs.Frame.{line}

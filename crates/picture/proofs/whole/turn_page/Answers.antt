@@ -1,6 +1,5 @@
 -- `picture::whole::turn_page` meets its contract: the bytes passed are those from the last on, the others as they were.
 use mathlib.Core.Path.{◌≡◌, refl, ◌∙◌}
-use Prim.Native.Nat.{◌-◌}
 use native.Mathlib.Omega.{arith}
 use Rattle.constants.specs.Sizes.{width}
 use Rattle.picture.specs.Frame.{line}

@@ -1,6 +1,6 @@
 -- `widetrace::kept::copied` meets its contract: the first i bytes are kept.
 use mathlib.Core.Path.{◌≡◌, ◌∙◌, ap}
-use Prim.Native.Nat.{ℕ, ◌-◌}
+use Prim.Native.Nat.{ℕ}
 use native.Mathlib.Omega.{arith}
 use lib.ListN.{length, get_or, set, replicate, length-replicate}
 use lib.Seq.{paste-zero}

@@ -1,6 +1,5 @@
 -- `widetrace::kept::put_back` meets its contract: the first i bytes are put back, and the rest is as it was.
 use mathlib.Core.Path.{◌≡◌, ◌∙◌, ap}
-use Prim.Native.Nat.{◌-◌}
 use native.Mathlib.Omega.{arith}
 use lib.ListN.{length, get_or, set}
 use lib.Seq.{paste-zero}

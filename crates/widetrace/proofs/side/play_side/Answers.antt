@@ -1,12 +1,7 @@
 -- `widetrace::side::play_side` meets its contract: what is left of the trace before the limit decides, and then how the chip heeds the record that stands there.
-use mathlib.Core.Path.{◌≡◌, refl, sym, ◌∙◌}
-use Prim.Native.Nat.{◌+◌, ◌≤◌, ◌-◌}
+use mathlib.Core.Path.{refl, sym, ◌∙◌}
 use native.Mathlib.Omega.{arith}
-use lib.ListN.{length, drop}
-use Rattle.constants.specs.Sizes.{header_size}
 use Rattle.trace.specs.Records.{split}
-use Rattle.trace.specs.Front.{front_of}
-use Rattle.trace.specs.declared.records.Front.{Front}
 use Rattle.trace.proofs.WhatStands.{within_trace}
 use Rattle.widetrace.specs.Sides.{the_side, side_played_of}
 use Rattle.widetrace.proofs.Heeding.{obeyed_brings}
