@@ -5,10 +5,6 @@ use Rattle.framelisting.specs.Ascii.{ascii}
 use Rattle.listpack.specs.Pack.{hung_by}
 use Rattle.listpack.proofs.pack.hung_by.Goals as goal
 
--- LEFT
-slice-aggregate-begins-with : tie.Need-slice-aggregate-begins-with
-slice-aggregate-begins-with c = search rules
-
 pub returns-then-begins_with : goal.returns-then-begins_with
 unfolding hung_by ascii
 returns-then-begins_with c = rw (sym c.begins_with.ensures ∙ c.if-begins_with.true) refl

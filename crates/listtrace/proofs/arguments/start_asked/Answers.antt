@@ -25,10 +25,6 @@ returns-then-word-ne-UPRIGHT_LENGTH c =
     let a = c.args in
     rw (le-ltb a.count 2 (omega arith), ne_eqb (length a.word.now) 9 (λ e. omega arith), and-false) refl
 
--- LEFT
-slice-aggregate-begins-with : tie.Need-slice-aggregate-begins-with
-slice-aggregate-begins-with c = search rules
-
 pub returns-then-begins_with : goal.returns-then-begins_with
 unfolding start_asked ascii
 returns-then-begins_with c =
