@@ -1,5 +1,5 @@
 -- `listpack::list_entries` is safe and ends: each whole entry is within the pack, and the next begins further on.
-use Prim.Native.Nat.{◌+◌, ◌-◌, ◌≤◌}
+use Prim.Native.Nat.{◌+◌, ◌≤◌}
 use mathlib.Core.Path.{sym, ◌∙◌}
 use native.Mathlib.Omega.{arith}
 use lib.ListN.{length}

@@ -1,6 +1,5 @@
 -- `listpack::main` is safe and ends: what was read is within its buffer.
 use Rattle.standardinput.proofs.Reading.{read_counts}
-use borrow.Author.Rules.{rules}
 use Rattle.listpack.proofs.main.Goals as goal
 
 pub slice_bounds-pack-end : goal.slice_bounds-pack-end

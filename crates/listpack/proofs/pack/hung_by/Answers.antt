@@ -1,6 +1,5 @@
 -- `listpack::pack::hung_by` meets its contract: the test of the word chooses.
 use mathlib.Core.Path.{refl, sym, ◌∙◌}
-use borrow.Author.Rules.{rules}
 use Rattle.framelisting.specs.Ascii.{ascii}
 use Rattle.listpack.specs.Pack.{hung_by}
 use Rattle.listpack.proofs.pack.hung_by.Goals as goal
