@@ -38,8 +38,8 @@ fn list_entries(rt: &impl Print, pack: &[u8]) -> io::Result<()> {
     let mut count = 0;
     loop {
         match entry_at(pack, at) {
-            Entry::Nothing => return println!(rt; "{count} traces"),
-            Entry::Cut => return println!(rt; "pack cut short at {at}"),
+            Entry::Nothing => return print_count(rt, count),
+            Entry::Cut => return print_cut(rt, at),
             Entry::Whole(sizes) => {
                 let name = at + HEADER_SIZE;
                 let trace = name + sizes.name;
@@ -60,4 +60,14 @@ fn list_entry(rt: &impl Print, name: &[u8], trace: &[u8]) -> io::Result<()> {
     rt.write_all(name)?;
     rt.write_all(b"\n")?;
     rt.write_all(&text[..length])
+}
+
+// Ends the listing of a whole pack.
+fn print_count(rt: &impl Print, count: usize) -> io::Result<()> {
+    println!(rt; "{count} traces")
+}
+
+// Ends the listing of a pack that is cut short at an offset.
+fn print_cut(rt: &impl Print, at: usize) -> io::Result<()> {
+    println!(rt; "pack cut short at {at}")
 }

@@ -16,23 +16,21 @@ const ARGUMENT_ROOM: usize = 10;
 fn main(rt: HostRuntime) {
     let mut word = [0u8; ARGUMENT_ROOM];
     let length = rt.arg(1, &mut word).unwrap_or(0);
-    match start_asked(word_count(&rt), &word[..length]) {
+    // How many words the program was called by, its own name among them.
+    let mut count = 0;
+    let mut nothing = [0u8; 0];
+    for i in 0..usize::MAX {
+        if let Err(FillError::NotPresent) = rt.arg(i, &mut nothing) {
+            break;
+        }
+        count = i + 1;
+    }
+    match start_asked(count, &word[..length]) {
         Asked::Start(hung) => list_from(&rt, rt.stdin(), hung),
         Asked::Unknown => {
             let _ = eprintln!(rt; "listtrace: the only argument is --upright");
         }
     }
-}
-
-// How many words the program was called by, its own name among them.
-fn word_count(env: &impl Env) -> usize {
-    let mut nothing = [0u8; 0];
-    for i in 0..usize::MAX {
-        if let Err(FillError::NotPresent) = env.arg(i, &mut nothing) {
-            return i;
-        }
-    }
-    usize::MAX
 }
 
 // Reads the trace, and prints its listing from the start as the module hangs.

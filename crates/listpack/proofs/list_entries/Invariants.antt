@@ -4,7 +4,7 @@ use lib.ListN.{length}
 use Rattle.listpack.proofs.list_entries.Given as goal
 
 abbrev pub invariant-loop-sizes : goal.invariant-loop-sizes
-invariant-loop-sizes l = (l.at ≤ length l.pack) × (l.count ≤ l.at)
+invariant-loop-sizes g l = (l.at ≤ length l.pack) × (l.count ≤ l.at)
 
 abbrev pub decreases-loop-sizes : goal.decreases-loop-sizes
-decreases-loop-sizes l = length l.pack - l.at
+decreases-loop-sizes g l = length l.pack - l.at

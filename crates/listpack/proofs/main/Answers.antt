@@ -1,18 +1,9 @@
 -- `listpack::main` is safe and ends: what was read is within its buffer.
 use Rattle.standardinput.proofs.Reading.{read_counts}
-use borrow.Author.Rules.{rules}
 use Rattle.listpack.proofs.main.Goals as goal
-
--- LEFT
-slice-aggregate-write-all : tie.Need-slice-aggregate-write-all
-slice-aggregate-write-all c = search rules
 
 pub slice_bounds-pack-end : goal.slice_bounds-pack-end
 slice_bounds-pack-end c = (read_counts _ _ _ c.read_input-read.ensures c.in-Read.is).0
 
 pub slice_bounds-list_pack-end : goal.slice_bounds-list_pack-end
 slice_bounds-list_pack-end c = (read_counts _ _ _ c.read_input-read.ensures c.in-Read.is).1
-
--- LEFT
-slice-aggregate-write-all-2 : tie.Need-slice-aggregate-write-all-2
-slice-aggregate-write-all-2 c = search rules

@@ -1,13 +1,8 @@
 -- `listpack::pack::hung_by` meets its contract: the test of the word chooses.
 use mathlib.Core.Path.{refl, sym, ◌∙◌}
-use borrow.Author.Rules.{rules}
 use Rattle.framelisting.specs.Ascii.{ascii}
 use Rattle.listpack.specs.Pack.{hung_by}
 use Rattle.listpack.proofs.pack.hung_by.Goals as goal
-
--- LEFT
-slice-aggregate-begins-with : tie.Need-slice-aggregate-begins-with
-slice-aggregate-begins-with c = search rules
 
 pub returns-then-begins_with : goal.returns-then-begins_with
 unfolding hung_by ascii

@@ -2,7 +2,6 @@
 use mathlib.Core.Path.{◌≡◌, refl, sym, ◌∙◌}
 use mathlib.Core.Bool.{and-false}
 use native.Mathlib.Omega.{arith}
-use borrow.Author.Rules.{rules}
 use borrow.Author.Tests.{lt-ltb, le-ltb, ne_eqb}
 use lib.ListN.{length}
 use Rattle.framelisting.specs.Ascii.{ascii}
@@ -24,10 +23,6 @@ unfolding start_asked
 returns-then-word-ne-UPRIGHT_LENGTH c =
     let a = c.args in
     rw (le-ltb a.count 2 (omega arith), ne_eqb (length a.word.now) 9 (λ e. omega arith), and-false) refl
-
--- LEFT
-slice-aggregate-begins-with : tie.Need-slice-aggregate-begins-with
-slice-aggregate-begins-with c = search rules
 
 pub returns-then-begins_with : goal.returns-then-begins_with
 unfolding start_asked ascii
