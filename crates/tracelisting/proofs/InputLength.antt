@@ -1,12 +1,10 @@
 -- Which inputs are listed.
 -- Assumes nothing.
-use mathlib.Core.List.{List}
-use Prim.Native.Nat.{ℕ}
 use borrow.Author.Tests.{le-ltb, lt-ltb}
 use lib.ListN.{length}
 use Rattle.constants.specs.Sizes.{longest_trace}
 use Rattle.tracelisting.specs.TraceListing.{text_for}
-use Rattle.tracelisting.specs.InputLength.{InputLength, OfInputLength}
+use Rattle.tracelisting.specs.InputLength.{OfInputLength}
 
 pub input_length : OfInputLength
 unfolding text_for

@@ -1,5 +1,4 @@
 -- `tracelisting::list_input` meets its contract: the test of the length chooses the text.
-use borrow.Author.Rules.{rules}
 use native.Mathlib.Omega.{arith}
 use lib.ListN.{length}
 use borrow.Author.Tests.{lt-ltb, le-ltb}

@@ -1,10 +1,7 @@
 -- `tracelisting::list_trace` meets its contract: what its calls leave is the listing of the trace.
 use mathlib.Core.Path.{◌≡◌}
-use mathlib.Core.List.{List}
-use Prim.Native.Nat.{ℕ}
 use native.Mathlib.Omega.{arith}
 use borrow.Author.Tests.{lt-ltb}
-use Rattle.bus.specs.declared.start.Hung.{Hung}
 use Rattle.framelisting.specs.Listing.{outcome, written}
 use Rattle.tracelisting.specs.TraceListing.{listing_of_trace, printed_of}
 use Rattle.tracelisting.proofs.ListedByCalls.{whole, finished, never_refused}

@@ -1,5 +1,5 @@
 -- `tracelisting::put_notice` meets its contract: the first i bytes are the line's, and the rest is as it was.
-use Prim.Native.Nat.{◌+◌, ◌-◌, ◌≤◌}
+use Prim.Native.Nat.{◌-◌, ◌≤◌}
 use mathlib.Core.Path.{◌≡◌}
 use mathlib.Core.List.{◌++◌}
 use lib.ListN.{length, take, drop}

@@ -1,6 +1,5 @@
 -- `tracelisting::word::begins_with` meets its contract: from the place reached on, text and word are as they were from the first on.
 use mathlib.Core.Path.{refl, sym, ◌∙◌}
-use Prim.Native.Nat.{◌-◌}
 use native.Mathlib.Omega.{arith}
 use borrow.Author.Tests.{eq-eqb, ne_eqb}
 use lib.ListN.{get_or}

@@ -1,6 +1,5 @@
 -- `widepicture::whole::fill` meets its contract: the places passed have the value, the others are as they were.
 use mathlib.Core.Path.{◌≡◌, refl, ◌∙◌}
-use Prim.Native.Nat.{◌-◌}
 use native.Mathlib.Omega.{arith}
 use Rattle.constants.specs.Sizes.{wide_frame_size}
 use Rattle.widepicture.proofs.OneShade.{fill_turn, fill_kept}
