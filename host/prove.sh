@@ -29,33 +29,30 @@ fi
 # one call of what both use, and the compiler puts it into the run's loop
 # (DECISIONS 58); and so are the calls of the wide terminal (DECISIONS 136).
 own=(host hostbus hostwide hostwiderun)
-under=$(sed -nE "s/^($(IFS='|'; echo "${own[*]}")): *//p" crates.txt | tr ' ' '\n' | sort -u | wc -l)
+under=$(sed -nE "s/^($(IFS='|'; echo "${own[*]}")) staticlib: *//p" crates.txt | tr ' ' '\n' | sort -u | wc -l)
 mkdir -p target
 log=target/staticlib.log
 
-# each_crate: a line for each crate, from what rt says as it goes; rt tells the
-# library's own by their archives.
+# each_crate: a line for each crate, from what rt says as it goes; of one that
+# was proved before rt says nothing.
 each_crate() {
-  local line
-  local -A said
+  local line crate=
   while IFS= read -r line; do
     [ -z "${V:-}" ] || printf '%s\n' "$line"
-    if [[ $line =~ ^rt:\ ([a-z]+)\ proved\ (\(.*\))$ ]]; then
-      [ -n "${said[${BASH_REMATCH[1]}]:-}" ] || echo "proved ${BASH_REMATCH[1]} ${BASH_REMATCH[2]}"
-      said[${BASH_REMATCH[1]}]=yes
-      SECONDS=0
-    elif [[ $line =~ ^rt:\ target/staticlib/lib([a-z]+)\.a\ has ]]; then
-      echo "proved ${BASH_REMATCH[1]} ($SECONDS s)"
+    if [[ $line =~ ^crate\ ([a-z]+):\  ]]; then
+      crate=${BASH_REMATCH[1]}
+    elif [[ $line =~ ^logic=proved\  ]]; then
+      echo "proved $crate ($SECONDS s)"
       SECONDS=0
     fi
   done
 }
 
-# prove: the archive of each of the library's own crates.
+# prove: the archive of each of the library's own crates, in its out/.
 prove() {
   local crate
   for crate in "${own[@]}"; do
-    rt staticlib "$crate" || return
+    (cd "crates/$crate" && rt lib) || return
   done
 }
 
@@ -63,10 +60,11 @@ prove() {
 # bytes, so that its time does not depend on the program that it is linked into
 # (DECISIONS 110); objcopy does so since binutils 2.33.
 join() {
-  local made=target/staticlib
+  local made=target/staticlib crate
+  mkdir -p "$made"
   {
     echo "CREATE $made/joined.a"
-    printf 'ADDLIB %s.a\n' "${own[@]/#/$made/lib}"
+    for crate in "${own[@]}"; do echo "ADDLIB crates/$crate/out/lib$crate.a"; done
     printf 'SAVE\nEND\n'
   } | "${AR:-ar}" -M
   "${OBJCOPY:-objcopy}" --set-section-alignment '.text.*=64' "$made/joined.a"

@@ -72,7 +72,7 @@ run() { ran "${tool[@]}" "$@"; }~a.sh~new
 make -s show UPRIGHT=yes~a.sh~old
 	$(MAKE) show~Makefile~new
     traces/typed.py mine.txt~a.md~new
-    target/bin/listtrace < one.trace~a.md~new
+    crates/listtrace/out/listtrace < one.trace~a.md~new
 "$listpack" < pack~a.sh~new
 subprocess.run([tool, "list", name])~a.py~new
 subprocess.run([oracle, "list", "--upright"])~a.py~old
@@ -83,7 +83,7 @@ uint8_t number = plain_start_upright(state, 23, memory, 1188);~a.cpp~old
 chip = Chip()~python/a.py~new
 chip = Chip(upright=True)~python/a.py~old
 let start = Start::UpsideDown;~oracle/a.rs~new
-sample = run (imageOf powerOn) zeros own~crates/one/specs/A.antt~old
+sample = run (image_of power_on) zeros own~crates/one/specs/A.antt~old
 END
 
 # A second listing makes a folder both; a silent call makes an old caller both.

@@ -144,68 +144,99 @@ done
 
 # ---- the source ----
 
-# fn NAME OPERATION [CALLED...]: a function as rt mir prints it, but for types.
+# assigned OPERATION: a statement that has it, as mir.json has one; an operation
+# with a sign is NAME/SIGN, and one that begins with a brace stands as it is.
+assigned() {
+  local operation=\"$1\"
+  case $1 in
+    '{'*) operation=$1 ;;
+    */*) operation="{\"${1%/*}\":\"${1#*/}\"}" ;;
+  esac
+  printf ',{"Assign":[{"local":0,"steps":[]},{"Op2":[%s,{"Copy":{"local":1,"steps":[]}},{"Int":{"width":64,"value":16}}]}]}' "$operation"
+}
+
+# fn NAME OPERATIONS [CALLED...]: a function as mir.json has it, but for types;
+# Loop among the operations is a loop.
 fn() {
-  local name=$1 operation=$2 called
+  local name=$1 operations=$2 each
   shift 2
-  printf '(lcons (fn-def "%s" (fnItem (seq ' "$name"
-  for called in "$@"; do printf '(call (direct (fnRef "%s")) (place 0 lnil))' "$called"; done
-  printf '(assign (place 0 lnil) (op2 %s (copy (place 1 lnil)) (int 16 64)))))\n' "$operation"
+  printf '["%s",{"params":1,"body":["Seq"' "$name"
+  for each in "$@"; do printf ',{"Call":[{"Fn":["%s",{"types":[],"dicts":[]}]},[],{"local":0,"steps":[]}]},"Seq"' "$each"; done
+  for each in $operations; do
+    if [ "$each" = Loop ]; then printf ',"Loop","Skip"'; else assigned "$each"; fi
+  done
+  printf ',"Return"]}]\n'
 }
 
 # The whole, and in it what is tested: a rule that the two drawing calls share.
 program() {
-  fn host::list::ssd1815b_list '(div unsigned)'
-  fn host::draw::ssd1815b_draw eq picture::draw::draw bus::image::ask
-  fn hostwide::draw::ssd1815b_wide_draw eq picture::draw::draw
-  fn bus::image::ask '(lt unsigned)' bus::image::short
-  fn bus::image::short "${1:-(sub unsigned)}"
-  fn picture::draw::draw offset picture::rows::around
-  fn picture::rows::around "${2:-(sub unsigned)}"
+  fn host::list::ssd1815b_list Div/Unsigned
+  fn host::draw::ssd1815b_draw Eq picture::draw::draw bus::image::ask
+  fn hostwide::draw::ssd1815b_wide_draw Eq picture::draw::draw
+  fn bus::image::ask Lt/Unsigned bus::image::short
+  fn bus::image::short "${1:-Sub/Unsigned}"
+  fn picture::draw::draw Offset picture::rows::around
+  fn picture::rows::around "${2:-Sub/Unsigned}"
 }
+
+# listed: the functions that stand on standard input, a line each, as a library's.
+listed() { printf '['; paste -sd, -; printf ']'; }
 
 # read_of: .ci/divides on the program that stands on standard input.
 read_of() {
-  cat > "$here/program"
+  listed > "$here/program"
   ran .ci/divides source "$here/program"
 }
 
 read_of < <(program)
 passed 'a rule that subtracts'
 check 'a rule that subtracts: how many' out_is 'divides source: 6 functions looked at, none divides'
-for operation in '(rem unsigned)' '(div signed)' modulo fdiv; do
-  read_of < <(program '(sub unsigned)' "$operation")
-  refused "$operation" 'picture::rows::around: has (rem|div|modulo|fdiv)$'
+for operation in Rem/Unsigned Div/Signed Modulo FloatDiv; do
+  read_of < <(program Sub/Unsigned "$operation")
+  refused "$operation" 'picture::rows::around: has (rem|div|modulo|floatdiv)$'
 done
-read_of < <(program '(sub unsigned)' '(mul unsigned)')
+read_of < <(program Sub/Unsigned Mul/Unsigned)
 refused 'a row rule that multiplies' 'picture::rows::around: has mul$'
-read_of < <(program '(sub unsigned)' 'eq (loop skip)')
+read_of < <(program Sub/Unsigned 'Eq Loop')
 refused 'a row rule in a loop' 'picture::rows::around: has a loop$'
-read_of < <(program; fn picture::rows::on eq picture::rows::back; fn picture::rows::back eq picture::rows::on)
+read_of < <(program; fn picture::rows::on Eq picture::rows::back; fn picture::rows::back Eq picture::rows::on)
 refused 'a row rule that comes back to itself' '^picture::rows::on: calls itself$'
-read_of < <(program; fn picture::row::fill '(mul unsigned) (loop skip)')
+read_of < <(program; fn picture::row::fill 'Mul/Unsigned Loop')
 passed 'other drawing that multiplies, in a loop'
-read_of < <(program '(rem unsigned)')
+read_of < <(program Rem/Unsigned)
 refused 'in another crate' '^host::draw::ssd1815b_draw > bus::image::ask > bus::image::short: has rem$'
-read_of < <(program; fn picture::rows::unused '(rem unsigned)')
+read_of < <(program; fn picture::rows::unused Rem/Unsigned)
 refused 'in the drawing, and not reached' '^picture::rows::unused: has rem$'
-read_of < <(program; fn hostlater::draw_row::ssd1815b_draw_row eq later::one; fn later::one '(rem unsigned)')
+read_of < <(program; fn hostlater::draw_row::ssd1815b_draw_row Eq later::one; fn later::one Rem/Unsigned)
 refused 'a drawing call that is new' '^hostlater::draw_row::ssd1815b_draw_row > later::one: has rem$'
-read_of < <(program; fn picture::row::long "eq$(printf ' (int 8 %d)' {1..2000})) (op2 (rem unsigned)")
+read_of < <(program; fn picture::row::long "$(printf 'Eq %.0s' {1..2000})Rem/Unsigned")
 refused 'far down in a function' '^picture::row::long: has rem$'
-read_of < <(program; fn later::ssd1815b_draw eq)
+read_of < <(program; fn later::ssd1815b_draw Eq)
 check 'two calls of one name' err_has 'two functions are ssd1815b_draw: host::draw::ssd1815b_draw and later::ssd1815b_draw'
-read_of < <(program | sed 's/(call (direct (fnRef "bus::image::ask")/(call (pointer (fnRef "bus::image::ask")/')
-refused 'a call through a pointer' '^host::draw::ssd1815b_draw: has pointer$'
-read_of < <(program | sed '/fn-def "bus::image::short"/d')
+read_of < <(program | sed 's/{"Call":\[{"Fn":\["bus::image::ask"/{"CallV":[{"Fn":["bus::image::ask"/')
+refused 'a call through a pointer' '^host::draw::ssd1815b_draw: has callv$'
+read_of < <(program | sed 's/{"Fn":\["bus::image::ask"/{"Method":["bus::image::ask"/')
+refused 'a call by a trait' '^host::draw::ssd1815b_draw: has a call by method$'
+read_of < <(program | sed '/"bus::image::ask",{"params"/s/"dicts":\[\]/"dicts":[{"Given":0}]/')
+refused 'a trait that a call is handed' '^host::draw::ssd1815b_draw > bus::image::ask: has a call that is handed a trait$'
+read_of < <(program Sub/Unsigned '{"Map":{"Div":"Unsigned"}}')
+refused 'an operation of many numbers at once' 'picture::rows::around: has map div$'
+read_of < <(program | sed '/"picture::draw::draw",{"params"/s/"Op2":/"Vec2":/')
+refused 'a value that is not known' '^.*picture::draw::draw: has vec2$'
+read_of < <(program | sed '/"picture::draw::draw",{"params"/s/"Return"/"Stop"/')
+refused 'a statement that is not known' '^.*picture::draw::draw: has stop$'
+read_of < <(program | sed '/^\["bus::image::short"/d')
 refused 'a function that is not there' '^host::draw::ssd1815b_draw > bus::image::ask > bus::image::short: not there$'
-read_of < <(program | sed '/fn-def "hostwide/d')
+read_of < <(program | sed '/^\["hostwide/d')
 refused 'a call that is not there' '^ssd1815b_wide_draw: not there$'
-program '(rem unsigned)' | head -n 4 > "$here/program"
-program '(rem unsigned)' | tail -n +5 > "$here/other"
+program Rem/Unsigned | head -n 4 | listed > "$here/program"
+program Rem/Unsigned | tail -n +5 | listed > "$here/other"
 ran .ci/divides source "$here/program" "$here/other"
 refused 'in the second of two programs' '^host::draw::ssd1815b_draw > bus::image::ask > bus::image::short: has rem$'
-read_of < <(program | sed s/op2/apply/)
-check 'another way of printing' err_has 'no division is found anywhere'
+read_of < <(program | sed s/Op2/Apply/)
+check 'another way of writing' err_has 'no division is found anywhere'
+program > "$here/program"
+ran .ci/divides source "$here/program"
+check 'what is no list of functions' err_has 'this is not what rt lib leaves of a library'
 
 checks_end divides
