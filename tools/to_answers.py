@@ -90,7 +90,7 @@ def norm_step(s):
 def blocks(text):
     out, cur = [], []
     for line in text.split("\n"):
-        if line and not line[0].isspace() and not cur_is_open(cur, line):
+        if line and not line[0].isspace() and line[0] != ")" and not cur_is_open(cur, line):
             if cur:
                 out.append("\n".join(cur).rstrip())
             cur = [line]
