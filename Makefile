@@ -190,14 +190,12 @@ check-papers:
 
 # The library itself is not compiled with these checks; its steps outside what
 # it is lent are seen by the rooms of host/compare/room.h.  Off x86-64 the
-# checks do not run under the emulator, so there the C is plain and native, and
-# what is not freed is not looked for: on Arm that takes 4 s of each program.
+# checks do not run under the emulator, so there the C is plain and native.
 sanitize:
 ifeq ($(NATIVE),yes)
 	$(MAKE) test MODEL=$(MODEL) VARIANT=-sanitize \
 	  EXTRA='-O1 -fsanitize=address,undefined -fno-sanitize-recover=all'
 else
-	ASAN_OPTIONS=detect_leaks=0 \
 	$(MAKE) test MODEL=plain NATIVE=yes CROSS= RUN= CC=gcc CXX=g++ \
 	  VARIANT=-sanitize \
 	  EXTRA='-O1 -fsanitize=address,undefined -fno-sanitize-recover=all'

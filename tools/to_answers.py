@@ -1,7 +1,9 @@
 #!/usr/bin/env python3
 """Turns the Proof.antt files of a crate (goals by number, facts behind `.before`) into Invariants.antt and Answers.antt.
 
-usage: convert.py NAMES.json CRATE_FOLDER [FUNCTION_FOLDER..]
+usage: to_answers.py NAMES.json CRATE_FOLDER [FUNCTION_FOLDER..]
+
+NAMES.json is what `rt names OUT` writes for the crate: each goal and step with its old and its new name.
 """
 import json, os, re, sys
 
