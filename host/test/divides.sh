@@ -229,7 +229,7 @@ read_of < <(program | sed '/^\["bus::image::short"/d')
 refused 'a function that is not there' '^host::draw::ssd1815b_draw > bus::image::ask > bus::image::short: not there$'
 read_of < <(program | sed '/^\["hostwide/d')
 refused 'a call that is not there' '^ssd1815b_wide_draw: not there$'
-program Rem/Unsigned | head -n 4 | listed > "$here/program"
+program Rem/Unsigned | sed -n 1,4p | listed > "$here/program"
 program Rem/Unsigned | tail -n +5 | listed > "$here/other"
 ran .ci/divides source "$here/program" "$here/other"
 refused 'in the second of two programs' '^host::draw::ssd1815b_draw > bus::image::ask > bus::image::short: has rem$'
