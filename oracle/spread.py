@@ -518,7 +518,7 @@ use Rattle.trace.specs.Run.{Ran, ran, stop_of, ran_of, run_on, run}
 use Rattle.trace.specs.EitherStart.{ran_from_start}
 use Rattle.bus.specs.declared.start.Hung.{Hung}
 use Rattle.picture.specs.Scan.{com_of, used, ram_row_of, panel_shows, row_shows, column_of}
-use Rattle.picture.specs.Frame.{bit, turned, shown_bit, while_on, segment, line as Frame·line, frame, row_of as Frame·rowOf}
+use Rattle.picture.specs.Frame.{bit, turned, shown_bit, while_on, segment, line as Frame·line, frame, row_of as Frame·row_of}
 use Rattle.picture.specs.Draw.{draw_on, draw}
 use Rattle.framelisting.specs.Ascii.{ascii}
 use Rattle.framelisting.specs.Decimal.{digits, decimal}
@@ -607,7 +607,7 @@ abbrev downwards : List ℕ → ℕ → ℕ → Drawing
 downwards lent x shown = record { state = lent; at = x; outcome = places frame_rows shown }
 
 abbrev Rows : List Drawing → Type 0
-Rows cases = map (λ d. Frame·rowOf width d.at (frame (registers_of d.state) busy)) cases ≡ map (λ d. d.outcome) cases
+Rows cases = map (λ d. Frame·row_of width d.at (frame (registers_of d.state) busy)) cases ≡ map (λ d. d.outcome) cases
 
 abbrev Columns : List Drawing → Type 0
 Columns cases = map (λ d. down d.at (frame (registers_of d.state) busy)) cases ≡ map (λ d. d.outcome) cases

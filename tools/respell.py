@@ -7,7 +7,8 @@ usage: tools/respell.py          once, at the top, after the kit's port.py; it r
     meaningOf, command-in-range  ->  meaning_of, command_in_range
 
 Names that Rattle makes (steps and goals of a proof, behind `tie.` or a record of known facts), names of the kit, functions of src/, exported C
-names, texts and comments keep their spelling. It stops where two names would fall together in one file.
+names, texts and comments keep their spelling. It stops where two names would fall together in one file, and where a proof has today's form,
+whose goals it would take for names of our own.
 """
 
 import glob
@@ -119,6 +120,10 @@ EDITED = re.compile(r"(?m)^(?:old|new): .*$")
 
 def main(argv):
     crates = own_crates()
+    turned = [p for c in crates for p in glob.glob(f"crates/{c}/proofs/*/**/Answers.antt", recursive=True)]
+    if turned:
+        print(f"{turned[0]}: a proof of today's form: this script has run before", file=sys.stderr)
+        return 1
     paths = sorted(p for c in crates for p in glob.glob(f"crates/{c}/**/*", recursive=True) if p.endswith((".antt", ".rt")) and "/out/" not in p)
     files = [File(p, crates) for p in paths]
     # Fields, variants and local names in camel case are written where they are not declared too.

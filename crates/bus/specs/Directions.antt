@@ -57,7 +57,7 @@ pub record Directions : Type 0 where
   pub alike : (r s : Registers) → SameButDirections r s → SameAnswers r s
   -- and what was recorded, compared reads too.
   pub recorded : (what : Recorded) (c d : Chip) → SameChips c d → Matches SameChips (replay what c) (replay what d)
-  -- A command that names a direction sets it, whatever it was: nothing is left of a difference there. After the reset pin nothing is left of either (TheStart `thePin`).
+  -- A command that names a direction sets it, whatever it was: nothing is left of a difference there. After the reset pin nothing is left of either (TheStart `the_pin`).
   pub columns_set : (r : Registers) (b value : ℕ) → meaning_of r.awaited b ≡ Command.ColumnDirection value → Leaves (λ later. later.column_direction ≡ value) (command b r)
   pub rows_set : (r : Registers) (b value : ℕ) → meaning_of r.awaited b ≡ Command.RowDirection value → Leaves (λ later. later.row_direction ≡ value) (command b r)
   -- Calls after either start leave one memory, and registers that are the same but for the directions,

@@ -92,9 +92,9 @@ module _ (number : ℕ) (e : Event) (all : Pair Lent) (decided : Decided number 
     by_both l none h = selected (rw (l, none) h)
 
     -- a read with both selected is refused 14
-    pub read_both : selection ≡ Selection.Both → is_read e ≡ true → {reply : Reply} → reply ≡ reply_of (Answer.Refused both_selected) → wide_called reply all ≡ wide_call number e all
+    pub read_both : selection ≡ Selection.Both → is_read e ≡ true → {reply : Reply} {n : ℕ} → reply ≡ reply_of (Answer.Refused n) → n ≡ both_selected → wide_called reply all ≡ wide_call number e all
     unfolding call_selected refused_wide
-    read_both l reads p = selected (rw (l, reads, p))
+    read_both l reads p same = selected (rw (l, reads, p, same))
 
 -- on states that were asked
 module _ (number : ℕ) (e : Event) (all : Pair Lent) (up : TakenUp number e all) (chosen : Selected) (named : result_of chosen ≡ selection_of number) {selection : Selection} (c : chosen ≡ Selected.Chips selection) where

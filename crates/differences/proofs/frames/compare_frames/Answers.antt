@@ -6,10 +6,11 @@ use Prim.Native.Nat.{ℕ, ◌*◌, ◌≤◌, ◌<◌}
 use native.Mathlib.Omega.{arith}
 use borrow.Author.Tests.{lt-ltb, le-ltb, ltb-true, ltb-false}
 use lib.ListN.{length, take}
+use Rattle.constants.specs.Numbers.{frame_byte_above}
 use Rattle.constants.specs.Sizes.{frame_size, frame_entry_size}
 use Rattle.differences.specs.Runs.{runs_of}
 use Rattle.differences.specs.Entries.{run_entry}
-use Rattle.differences.specs.Compare.{outcome, listed, any_above, compare_frames}
+use Rattle.differences.specs.Compare.{outcome, Outcome, listed, any_above, compare_frames}
 use Rattle.differences.specs.declared.compared.Compared.{Compared}
 use Rattle.differences.proofs.Entries.{run_sized}
 use Rattle.differences.proofs.Given.{none_above}
@@ -54,8 +55,12 @@ returns-then-seen c = sym (first_above _ _ _ c.if-first-lt-FRAME_SIZE.false c.if
 pub returns-then-seen-2 : goal.returns-then-seen-2
 returns-then-seen-2 c = sym (put_back.same_frames _ _ _ c.if-first-lt-FRAME_SIZE.false c.if-second-lt-FRAME_SIZE.false (none_above frame_size _ (sym c.look-seen.ensures.0 ∙ c.if-seen.false)) (c.look-seen.ensures.1 c.if-seen-2.true))
 
+-- refused by a number that is 12
+by_twelve : {n : ℕ} {list : List ℕ} {due : Outcome} → n ≡ frame_byte_above → due ≡ outcome (Compared.Refused frame_byte_above) list → outcome (Compared.Refused n) list ≡ due
+by_twelve e h = rw e (sym h)
+
 pub returns-then-any_above : goal.returns-then-any_above
-returns-then-any_above c = sym (second_above _ _ _ c.if-first-lt-FRAME_SIZE.false c.if-second-lt-FRAME_SIZE.false (sym c.look-seen.ensures.0 ∙ c.if-seen.false) (sym c.any_above.ensures ∙ c.if-any_above.true))
+returns-then-any_above c = by_twelve (omega arith) (second_above _ _ _ c.if-first-lt-FRAME_SIZE.false c.if-second-lt-FRAME_SIZE.false (sym c.look-seen.ensures.0 ∙ c.if-seen.false) (sym c.any_above.ensures ∙ c.if-any_above.true))
 
 pub returns-then-too_small : goal.returns-then-too_small
 returns-then-too_small c =

@@ -13,13 +13,13 @@ use Rattle.picture.proofs.row.draw_row.Goals as goal
 pub returns-then-registers-eq0 : goal.returns-then-registers-eq0
 unfolding segment
 returns-then-registers-eq0 c =
-    c.fill.ensures ∙ line_same width _ _ (λ x h. rw (eq-eqb _ _ c.if-registers-eq0.true))
+    c.fill.ensures ∙ line_same width _ _ (λ x h. rw (eq-eqb c.args.registers.on 0 (omega arith)))
 
 pub returns-then-registers-eq-ALL_ROWS : goal.returns-then-registers-eq-ALL_ROWS
 unfolding segment
 returns-then-registers-eq-ALL_ROWS c =
     let a = c.args in
-    c.fill-then-registers-eq-ALL_ROWS.ensures ∙ line_same width _ _ (λ x h. rw (ne_eqb _ _ c.if-registers-eq0.false, all_lit a.registers a.memory.now a.row x (omega (arith, c.if-registers-eq-ALL_ROWS.true)) c.if-registers-eq1.true))
+    c.fill-then-registers-eq-ALL_ROWS.ensures ∙ line_same width _ _ (λ x h. rw (ne_eqb c.args.registers.on 0 (λ off. omega arith), all_lit a.registers a.memory.now a.row x (omega (arith, c.if-registers-eq-ALL_ROWS.true)) c.if-registers-eq1.true))
 
 pub draw_bits-requires : goal.draw_bits-requires
 draw_bits-requires c =
@@ -29,14 +29,14 @@ draw_bits-requires c =
 pub returns-in-Dark : goal.returns-in-Dark
 unfolding segment while_on
 returns-in-Dark c =
-    c.fill-in-Dark.ensures ∙ line_same width _ _ (λ x h. rw (ne_eqb _ _ c.if-registers-eq0.false, ← c.row_shows.ensures, c.in-Dark.is))
+    c.fill-in-Dark.ensures ∙ line_same width _ _ (λ x h. rw (ne_eqb c.args.registers.on 0 (λ off. omega arith), ← c.row_shows.ensures, c.in-Dark.is))
 
 pub returns-then-registers-eq1-2 : goal.returns-then-registers-eq1-2
 unfolding segment while_on
 returns-then-registers-eq1-2 c =
-    c.fill-then-registers-eq1-2.ensures ∙ line_same width _ _ (λ x h. rw (ne_eqb _ _ c.if-registers-eq0.false, ← c.row_shows.ensures, c.in-Ram.is, eq-eqb _ _ c.if-registers-eq1-2.true))
+    c.fill-then-registers-eq1-2.ensures ∙ line_same width _ _ (λ x h. rw (ne_eqb c.args.registers.on 0 (λ off. omega arith), ← c.row_shows.ensures, c.in-Ram.is, eq-eqb _ _ c.if-registers-eq1-2.true))
 
 pub returns-else-registers-eq1-2 : goal.returns-else-registers-eq1-2
 unfolding segment while_on
 returns-else-registers-eq1-2 c =
-    c.draw_bits.ensures ∙ line_same width _ _ (λ x h. rw (ne_eqb _ _ c.if-registers-eq0.false, ← c.row_shows.ensures, c.in-Ram.is, ne_eqb _ _ c.if-registers-eq1-2.false))
+    c.draw_bits.ensures ∙ line_same width _ _ (λ x h. rw (ne_eqb c.args.registers.on 0 (λ off. omega arith), ← c.row_shows.ensures, c.in-Ram.is, ne_eqb _ _ c.if-registers-eq1-2.false))

@@ -10,7 +10,7 @@ returns-then-trace-at c = sym (at_end _ _ c.if-trace-at.true)
 pub returns-then-left-lt-HEADER_SIZE : goal.returns-then-left-lt-HEADER_SIZE
 returns-then-left-lt-HEADER_SIZE c =
     let args = c.args in
-    sym (header_cut args.trace.now args.at (omega arith) c.if-left-lt-HEADER_SIZE.true)
+    sym (header_cut args.trace.now args.at (omega arith) (omega arith))
 
 pub returns-then-length-left : goal.returns-then-length-left
 returns-then-length-left c =

@@ -3,6 +3,7 @@ use Rattle.widebus.proofs.CallCode.{left_short, right_short, left_outside, right
 use Rattle.bus.specs.Chip.{data_read}
 use Rattle.widebus.specs.Pair.{both_lent}
 use mathlib.Core.Path.{refl}
+use native.Mathlib.Omega.{arith}
 use Rattle.widebus.proofs.calls.read.Goals as goal
 
 pub returns-then-short : goal.returns-then-short
@@ -33,7 +34,7 @@ pub returns-in-Both : goal.returns-in-Both
 returns-in-Both c =
     let a = c.args in
     let all = both_lent a.left_state.now a.left_memory.now a.right_state.now a.right_memory.now in
-    read_both a.selection data_read all (taken_up a.selection data_read all c.short.ensures c.if-short.false c.short-2.ensures c.if-short-2.false refl c.legal.ensures c.if-legal.true c.legal-then-legal.ensures c.if-legal-2.true).decided c.selection_of.result c.selection_of.ensures c.in-Chips.is c.in-Both.is refl c.refuse-in-Both.ensures
+    read_both a.selection data_read all (taken_up a.selection data_read all c.short.ensures c.if-short.false c.short-2.ensures c.if-short-2.false refl c.legal.ensures c.if-legal.true c.legal-then-legal.ensures c.if-legal-2.true).decided c.selection_of.result c.selection_of.ensures c.in-Chips.is c.in-Both.is refl c.refuse-in-Both.ensures (omega arith)
 
 pub returns-in-Refused : goal.returns-in-Refused
 returns-in-Refused c =
