@@ -4,3 +4,5 @@ pub mod Sizes
 pub mod Numbers
 -- what it is for a statement to have one result
 pub mod Settles
+-- the refusals as code names them, and their numbers
+pub mod Refusals
