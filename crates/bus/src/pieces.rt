@@ -8,7 +8,7 @@ ghost use Rattle.bus.specs.Stretch.{stretch, stretched};
 ghost use Rattle.bus.specs.Reads.{reads_from, column_at, dummy_reads, after_dummy};
 
 use crate::data::{address, kept};
-use crate::put::{CHUNK, put};
+use crate::put::put;
 use crate::registers::Registers;
 use crate::same::{agree, repeats};
 use constants::refusal::TAKEN;
@@ -47,6 +47,9 @@ pub struct Passed {
     pub registers: Registers,
     pub count: usize,
 }
+
+// Fewer reads are not worth a piece.
+const CHUNK: usize = 32;
 
 // Passes over reads that are as the firmware read them, as far as that can be told piece by piece.
 pub fn pass(registers: Registers, memory: &[u8], bytes: &[u8]) -> Passed
