@@ -2,7 +2,7 @@
 use mathlib.Core.Path.{◌≡◌}
 use mathlib.Core.List.{map}
 use Prim.Native.Nat.{◌≤◌, ◌-◌}
-use lib.ListN.{length}
+use lib.ListN.{length, drop}
 use Rattle.constants.specs.Numbers.{taken}
 use Rattle.bus.specs.Events.{access}
 use Rattle.bus.specs.Recorded.{recorded_write, chip_of, replay}
@@ -10,8 +10,8 @@ use Rattle.bus.specs.Stretch.{stretch}
 use Rattle.bus.proofs.StretchLaws.{stretch_from}
 use Rattle.bus.proofs.pieces.write_round.Given as goal
 
-abbrev pub invariant-loop-at : goal.invariant-loop-at
-invariant-loop-at l = (l.at ≤ length l.bytes) × (length l.memory ≡ length l.initial.memory) × (access l.registers (length l.memory) ≡ taken) × (stretch replay (map recorded_write l.bytes) (chip_of l.initial.registers l.initial.memory) ≡ stretch_from replay recorded_write l.bytes l.at (chip_of l.registers l.memory))
+abbrev pub invariant-loop-left : goal.invariant-loop-left
+invariant-loop-left l = (length l.left ≤ length l.bytes) × (length l.memory ≡ length l.initial.memory) × (access l.registers (length l.memory) ≡ taken) × (l.left ≡ drop (length l.bytes - length l.left) l.bytes) × (stretch replay (map recorded_write l.bytes) (chip_of l.initial.registers l.initial.memory) ≡ stretch_from replay recorded_write l.bytes (length l.bytes - length l.left) (chip_of l.registers l.memory))
 
-abbrev pub decreases-loop-at : goal.decreases-loop-at
-decreases-loop-at l = length l.bytes - l.at
+abbrev pub decreases-loop-left : goal.decreases-loop-left
+decreases-loop-left l = length l.left
