@@ -22,7 +22,7 @@ fn put_each(page: u8, places: &mut [u8], bytes: &[u8])
     requires { length places.old ≡ length bytes.now }
     ensures { places.new ≡ map (kept page) bytes.now }
 {
-    for (i, place) in places.iter_mut().enumerate() {
-        *place = kept(page, bytes[i]);
+    for (i, byte) in bytes.iter().enumerate() {
+        places[i] = kept(page, *byte);
     }
 }
