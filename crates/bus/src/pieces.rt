@@ -116,12 +116,12 @@ impl<'a> Reading<'a> {
         let mut registers = self.registers;
         let mut left = bytes;
         while !left.is_empty() {
-            let (piece, rest) = left.split_at(piece_size(registers.column, left.len()));
+            let (piece, after) = left.split_at(piece_size(registers.column, left.len()));
             let from = address(registers.page, registers.column);
             let to = from + piece.len();
             if agree(registers.page, &memory[from..to], piece) {
                 registers = registers.with_column(column_after(registers.column, piece.len()));
-                left = rest;
+                left = after;
             } else {
                 break;
             }

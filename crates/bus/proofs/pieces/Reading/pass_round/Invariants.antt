@@ -2,7 +2,7 @@
 use mathlib.Core.Path.{◌≡◌}
 use mathlib.Core.Logic.{◌≢◌}
 use mathlib.Core.List.{map}
-use Prim.Native.Nat.{◌≤◌, ◌-◌}
+use Prim.Native.Nat.{ℕ, ◌≤◌}
 use lib.ListN.{length, drop}
 use Rattle.constants.specs.Numbers.{taken}
 use Rattle.bus.specs.Events.{access}
@@ -12,7 +12,7 @@ use Rattle.bus.specs.Reads.{reads_from}
 use Rattle.bus.proofs.pieces.Reading.pass_round.Given as goal
 
 abbrev pub invariant-loop-memory : goal.invariant-loop-memory
-invariant-loop-memory l = (length l.left ≤ length l.bytes) × (access l.registers (length l.memory) ≡ taken) × (l.registers.fresh ≢ 1) × (l.registers.modify ≢ 1) × (l.left ≡ drop (length l.bytes - length l.left) l.bytes) × (stretch replay (map read_as l.bytes) (chip_of l.self.registers l.memory) ≡ reads_from (length l.bytes - length l.left) l.bytes (chip_of l.registers l.memory))
+invariant-loop-memory l = (at : ℕ) × (at ≤ length l.bytes) × (l.left ≡ drop at l.bytes) × (access l.registers (length l.memory) ≡ taken) × (l.registers.fresh ≢ 1) × (l.registers.modify ≢ 1) × (stretch replay (map read_as l.bytes) (chip_of l.self.registers l.memory) ≡ reads_from at l.bytes (chip_of l.registers l.memory))
 
 abbrev pub decreases-loop-memory : goal.decreases-loop-memory
 decreases-loop-memory l = length l.left
