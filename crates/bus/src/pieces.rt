@@ -56,7 +56,10 @@ pub fn pass(registers: Registers, memory: &[u8], bytes: &[u8]) -> Passed
     ensures { PassedOver result registers memory.now bytes.now }
 {
     if bytes.len() < FEWEST {
-        return Passed { registers, count: 0 };
+        return Passed {
+            registers,
+            count: 0,
+        };
     }
     let number = registers.access(memory.len());
     if number == TAKEN {
@@ -72,7 +75,10 @@ pub fn pass(registers: Registers, memory: &[u8], bytes: &[u8]) -> Passed
             count: dummies + passed.count,
         };
     }
-    Passed { registers, count: 0 }
+    Passed {
+        registers,
+        count: 0,
+    }
 }
 
 // Registers and a memory at which data is read, and the next read is no dummy read.

@@ -1,6 +1,5 @@
 -- `bus::pieces::pass` meets its contract: what is passed over comes first.
 use mathlib.Core.Path.{◌≡◌, sym, ◌∙◌, ap, subst}
-use Prim.Native.Nat.{◌+◌}
 use native.Mathlib.Omega.{arith}
 use lib.ListN.{length, drop, length-drop}
 use Rattle.constants.specs.Numbers.{taken}
@@ -9,7 +8,7 @@ use Rattle.bus.specs.Registers.{◌with◌≔◌}
 use Rattle.bus.specs.Events.{access}
 use Rattle.bus.specs.Recorded.{read_as, chip_of, replay}
 use Rattle.bus.proofs.StretchLaws.{all_left}
-use Rattle.bus.specs.Reads.{PassedOver, reads_from, dummy_reads, after_dummy}
+use Rattle.bus.specs.Reads.{PassedOver, reads_from, after_dummy}
 use Rattle.bus.proofs.PieceLaws.{dummy_first, further, part_to_the_end, still_ready, dummy_once, not_fresh}
 use Rattle.bus.proofs.pieces.pass.Goals as goal
 

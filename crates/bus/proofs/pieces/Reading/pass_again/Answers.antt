@@ -1,5 +1,5 @@
 -- `bus::pieces::Reading::pass_again` meets its contract: the one byte is read again and again.
-use mathlib.Core.Path.{◌≡◌, sym, ◌∙◌, ap}
+use mathlib.Core.Path.{sym, ◌∙◌, ap}
 use native.Mathlib.Omega.{arith}
 use lib.ListN.{get_or}
 use Rattle.bus.specs.Memory.{kept}

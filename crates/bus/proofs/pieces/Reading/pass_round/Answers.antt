@@ -6,7 +6,6 @@ use native.Mathlib.Omega.{arith}
 use borrow.Author.Tests.{eqb-false}
 use lib.ListN.{length, get_or, take, drop, length-drop}
 use lib.Seq.{drop-drop}
-use Rattle.constants.specs.Sizes.{width}
 use Rattle.constants.specs.Numbers.{taken}
 use Rattle.bus.specs.Places.{column}
 use Rattle.bus.specs.Registers.{◌with◌≔◌}
