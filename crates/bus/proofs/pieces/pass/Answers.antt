@@ -12,9 +12,6 @@ use Rattle.bus.specs.Reads.{PassedOver, reads_from, after_dummy}
 use Rattle.bus.proofs.PieceLaws.{dummy_first, further, part_to_the_end, still_ready, dummy_once, not_fresh}
 use Rattle.bus.proofs.pieces.pass.Goals as goal
 
-pub returns-then-bytes-lt-FEWEST : goal.returns-then-bytes-lt-FEWEST
-returns-then-bytes-lt-FEWEST c = (omega arith, all_left replay read_as c.args.bytes.now _)
-
 pub slice_bounds-pass-count : goal.slice_bounds-pass-count
 slice_bounds-pass-count c = omega (arith, c.dummy_reads-dummies.ensures, dummy_once c.args.registers.fresh)
 
@@ -42,6 +39,3 @@ returns-then-number-eq-TAKEN c =
       omega (arith, first.0, length-drop d bytes, c.dummy_reads-dummies.ensures, dummy_once r.fresh),
       dummy_first bytes r memory allowed (omega arith) ∙ ap (λ k. reads_from k bytes (chip_of (r with fresh ≔ after_dummy r.fresh) memory)) (sym c.dummy_reads-dummies.ensures) ∙ ap (λ x. reads_from d bytes (chip_of x memory)) (sym left) ∙ further bytes d passed.result.count _ _ first.1,
     )
-
-pub returns : goal.returns
-returns c = (omega arith, all_left replay read_as c.args.bytes.now _)
