@@ -5,11 +5,11 @@ use Rattle.hostbus.proofs.events.ssd1815b_read.Goals as goal
 
 pub returns-in-Ok-Some : goal.returns-in-Ok-Some
 unfolding flag
-returns-in-Ok-Some c = ap of_read c.in-Ok-Some.ensures
+returns-in-Ok-Some c = ap of_read (rw c.in-Ok-Some.field-0-is at c.in-Ok-Some.ensures)
 
 pub returns-in-Ok-None : goal.returns-in-Ok-None
 unfolding flag
-returns-in-Ok-None c = ap of_read c.in-Ok-None.ensures
+returns-in-Ok-None c = ap of_read (rw c.in-Ok-None.field-0-is at c.in-Ok-None.ensures)
 
 pub returns-in-Err : goal.returns-in-Err
 unfolding flag
