@@ -14,8 +14,9 @@ use Rattle.bus.specs.Stretch.{stretched, counted_on, stretch, stretch_of}
 use Rattle.bus.specs.declared.stretch.Stretch.{Stretch}
 use Rattle.bus.proofs.StretchLaws.{stretches, the_chip_never_zero}
 use Rattle.trace.specs.Play.{Result, refuses, gives, on_result, Machine, stopped, play_events}
-use Rattle.trace.specs.Kinds.{Recorded, replay, the_chip}
-use Rattle.trace.specs.Code.{ending_of}
+use Rattle.trace.specs.Kinds.{Recorded, recorded_command, recorded_write, read_as, replay, the_chip}
+use Rattle.trace.specs.Code.{recorded_in, ending_of}
+use Rattle.trace.specs.declared.kind.Kind.{Kind}
 use Rattle.trace.specs.RecordsAreStretches.{ending_at, RecordsAreStretches}
 
 module _ {S E : Type 0} (machine : Machine S E) where
@@ -47,14 +48,22 @@ part_slice trace from to order fits =
     let whole : from + (to - from) ≡ to = omega arith in
     sym (drop_at (take from trace) (take (to - from) (drop from trace)) from (length-take-le from trace (omega arith))) ∙ ap (drop from) (sym (take-add from (to - from) trace) ∙ rw whole)
 
--- the code's stretch of the bytes from one offset of a trace to another
-module _ (means : ℕ → Recorded) (trace : List ℕ) (from to : ℕ) (order : from ≤ to) (fits : to ≤ length trace) (c : Chip) (s : Stretch) (memory : List ℕ) (h : stretch_of s memory ≡ stretch replay (map means (take (to - from) (drop from trace))) c) where
-  -- it does not go past its end
-  pub reaches : from + s.count ≤ to
+-- a payload stands for no more events than it has bytes, but for the pulse on the reset pin
+few_events : (kind : Kind) (payload : List ℕ) → length (recorded_in kind payload) ≤ length payload + 1
+unfolding recorded_in
+few_events Kind.Commands payload = omega (arith, length-map payload recorded_command)
+few_events Kind.Writes payload = omega (arith, length-map payload recorded_write)
+few_events Kind.Reads payload = omega (arith, length-map payload read_as)
+few_events Kind.Reset payload = omega arith
+
+-- the code's stretch of the payload from one offset of a trace to another
+module _ (kind : Kind) (trace : List ℕ) (from to : ℕ) (order : from ≤ to) (fits : to ≤ length trace) (c : Chip) (s : Stretch) (memory : List ℕ) (h : stretch_of s memory ≡ stretch replay (recorded_in kind (take (to - from) (drop from trace))) c) where
+  -- it does not go far past its end
+  pub reaches : from + s.count ≤ to + 1
   reaches =
       let part = take (to - from) (drop from trace) in
       let size : length part ≡ to - from = length-take-le (to - from) (drop from trace) (omega (arith, length-drop from trace)) in
-      omega (arith, takes (map means part) c s memory h, length-map part means, size)
+      omega (arith, takes (recorded_in kind part) c s memory h, few_events kind part, size)
 
-  pub ends_there : ending_of (record { registers = s.registers; number = s.number; offset = from + s.count }) memory ≡ play_events the_chip (map means (slice from to trace)) from c
+  pub ends_there : ending_of (record { registers = s.registers; number = s.number; offset = from + s.count }) memory ≡ play_events the_chip (recorded_in kind (slice from to trace)) from c
   ends_there = rw (sym (part_slice trace from to order fits)) (ends _ c s memory h from)

@@ -1,16 +1,15 @@
 // One record: its header is checked before its payload acts, and what it does is one call on the bus.
 ghost use Rattle.std.specs.Prelude.{◌≡◌, ◌+◌, ◌<◌, ◌^◌, drop};
-ghost use Rattle.constants.specs.Numbers.{kind_unknown};
 ghost use Rattle.trace.specs.Records.{record_at};
 ghost use Rattle.trace.specs.Front.{front_of};
 ghost use Rattle.trace.specs.Play.{play_record};
 ghost use Rattle.trace.specs.Kinds.{the_chip, chip_of};
 ghost use Rattle.trace.specs.Code.{ending_of};
 
+use crate::kind::Kind;
 use crate::records::{Front, Header};
 use bus::registers::Registers;
-use bus::stretch::{Stretch, commands, reads, reset_pin, writes};
-use constants::refusal::KIND_UNKNOWN;
+use bus::stretch::Stretch;
 use constants::sizes::HEADER_SIZE;
 
 // How a record ends: the registers that it leaves, and the number and offset of what is refused; TAKEN where all is done, and then the offset says nothing.
@@ -32,21 +31,15 @@ pub fn obey(
     requires { front_of (drop at trace.now) ≡ Front.Whole header }
     ensures { ending_of result memory.new ≡ play_record the_chip (record_at at (drop at trace.now)) (chip_of registers memory.old) }
 {
-    let kind = header.kind;
-    let length = header.length;
     let from = at + HEADER_SIZE;
-    let to = from + length;
-    match kind {
-        1 => ended(commands(registers, &trace[from..to]), from),
-        2 => ended(writes(registers, memory, &trace[from..to]), from),
-        3 => ended(reads(registers, memory, &trace[from..to]), from),
-        4 => {
-            if length == 0 {
-                return ended(reset_pin(registers), from);
-            }
-            unknown(registers, at)
-        }
-        _ => unknown(registers, at),
+    let to = from + header.length;
+    match Kind::try_from(header) {
+        Ok(kind) => ended(kind.obey(registers, memory, &trace[from..to]), from),
+        Err(refusal) => Ending {
+            registers,
+            number: u8::from(refusal),
+            offset: at,
+        },
     }
 }
 
@@ -60,16 +53,5 @@ fn ended(stretch: Stretch, from: usize) -> Ending
         registers,
         number: stretch.number,
         offset: from + stretch.count,
-    }
-}
-
-// A record that is none of the four, refused at its first byte.
-fn unknown(registers: Registers, at: usize) -> Ending
-    ensures { result ≡ record { registers = registers; number = kind_unknown; offset = at } }
-{
-    Ending {
-        registers,
-        number: KIND_UNKNOWN,
-        offset: at,
     }
 }
