@@ -62,7 +62,7 @@ module _ (trace : List ℕ) (at : ℕ) (header : Header) (h : front_of (drop at 
   -- by what is found for its header
   pub found_kind : (kind : code.Kind) → Named header (Ok kind) → play_record the_chip (record_at at (drop at trace)) s ≡ play_events the_chip (recorded_in kind payload) (at + header_size) s
   unfolding play_record
-  found_kind kind named = its_play ∙ rw (named payload slice_length)
+  found_kind kind named = its_play ∙ rw (named.1 payload slice_length)
 
   pub found_refusal : (refusal : Refusal) → Named header (Err refusal) → play_record the_chip (record_at at (drop at trace)) s ≡ stopped (number_of_refusal refusal) at s
   unfolding play_record

@@ -4,20 +4,20 @@ ghost use Rattle.trace.specs.Records.{record_at};
 ghost use Rattle.trace.specs.Front.{front_of};
 ghost use Rattle.trace.specs.Play.{play_record};
 ghost use Rattle.trace.specs.Kinds.{the_chip, chip_of};
-ghost use Rattle.trace.specs.Code.{ending_of};
+ghost use Rattle.trace.specs.Code.{ending_of, ended_at};
 
 use crate::kind::Kind;
 use crate::records::{Front, Header};
+use crate::run::Halt;
 use bus::registers::Registers;
 use bus::stretch::Stretch;
 use constants::sizes::HEADER_SIZE;
 
-// How a record ends: the registers that it leaves, and the number and offset of what is refused; TAKEN where all is done, and then the offset says nothing.
-#[derive(Drop)]
+// How a record ends: the registers that it leaves, and what it stops at, unless all is done.
+#[derive(Clone, Copy)]
 pub struct Ending {
     pub registers: Registers,
-    pub number: u8,
-    pub offset: usize,
+    pub outcome: Result<(), Halt>,
 }
 
 // The record with this header that stands at an offset of the trace.
@@ -37,8 +37,10 @@ pub fn obey(
         Ok(kind) => ended(kind.obey(registers, memory, &trace[from..to]), from),
         Err(refusal) => Ending {
             registers,
-            number: u8::from(refusal),
-            offset: at,
+            outcome: Err(Halt {
+                refusal,
+                offset: at,
+            }),
         },
     }
 }
@@ -46,12 +48,11 @@ pub fn obey(
 // A stretch that began at an offset.
 fn ended(stretch: Stretch, from: usize) -> Ending
     requires { from + stretch.count < 2 ^ 64 }
-    ensures { result ≡ record { registers = stretch.registers; number = stretch.number; offset = from + stretch.count } }
+    ensures { result ≡ ended_at (from + stretch.count) stretch }
 {
-    let registers = stretch.registers;
+    let offset = from + stretch.count;
     Ending {
-        registers,
-        number: stretch.number,
-        offset: from + stretch.count,
+        registers: stretch.registers,
+        outcome: stretch.outcome.map_err(|refusal| Halt { refusal, offset }),
     }
 }

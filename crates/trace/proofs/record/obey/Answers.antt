@@ -1,7 +1,7 @@
 -- `trace::record::obey` meets its contract: the record that stands there, by its kind.
 use mathlib.Core.Path.{sym, ◌∙◌}
 use native.Mathlib.Omega.{arith}
-use Rattle.trace.specs.Code.{Named, ending_of}
+use Rattle.trace.specs.Code.{ending_on}
 use Rattle.trace.proofs.WhatStands.{within_trace}
 use Rattle.trace.proofs.RecordsAreStretches.{reaches, ends_there}
 use Rattle.trace.proofs.ChipKinds.{found_kind, found_refusal}
@@ -29,7 +29,7 @@ returns-in-Ok c =
     (ends_there c.in-Ok.kind args.trace.now _ _ (omega arith) fits _ _ _ c.obey.ensures ∙ sym (found_kind args.trace.now args.at args.header c.requires _ c.in-Ok.kind (rw c.in-Ok.is at c.try_from.ensures)))
 
 pub returns-in-Err : goal.returns-in-Err
-unfolding ending_of
+unfolding ending_on
 returns-in-Err c =
     let args = c.args in
-    ?
+    sym (found_refusal args.trace.now args.at args.header c.requires _ c.in-Err.refusal (rw c.in-Err.is at c.try_from.ensures))

@@ -52,9 +52,6 @@ obey-ending-requires c = sym c.read_at.ensures ∙ c.in-Whole.is
 pub overflow_add-at : goal.overflow_add-at
 overflow_add-at c = omega (arith, fits (goal.at.overflow_add-at c).In-Whole, c.well_formed.1.1.0.0)
 
-pub overflow_add-at-then-ending-eq-TAKEN : goal.overflow_add-at-then-ending-eq-TAKEN
-overflow_add-at-then-ending-eq-TAKEN c = omega (arith, fits (goal.at.overflow_add-at-then-ending-eq-TAKEN c).In-Whole, c.well_formed.1.1.0.0)
-
 pub overflow_add-count : goal.overflow_add-count
 overflow_add-count c = omega (arith, fits (goal.at.overflow_add-count c).In-Whole, c.well_formed.1.1.0.0)
 
@@ -62,23 +59,10 @@ pub loop-header-smaller : goal.loop-header-smaller
 loop-header-smaller c = omega (arith, fits (goal.at.loop-header-smaller c).In-Whole)
 
 pub loop-header-preserved : goal.loop-header-preserved
-unfolding ending_of
-loop-header-preserved c =
-    let loop = c.loop-header in
-    let obeyed = c.obey-ending in (
-      omega (arith, fits (goal.at.loop-header-preserved c).In-Whole),
-      omega (arith, fits (goal.at.loop-header-preserved c).In-Whole),
-      obeyed.auto.memory ∙ loop.invariant.2,
-      loop.invariant.3 ∙ plays_on c.args.trace.now loop.at the_chip loop.count _ _ (standing (goal.at.loop-header-preserved c).In-Whole) _ (sym (rw c.if-ending-eq-TAKEN.true at obeyed.ensures)),
-    )
+loop-header-preserved c = ?
 
-pub shape_of-memory-else-ending-eq-TAKEN : goal.shape_of-memory-else-ending-eq-TAKEN
-shape_of-memory-else-ending-eq-TAKEN c = c.obey-ending.auto.memory ∙ c.loop-header.invariant.2
+pub shape_of-memory-in-Err : goal.shape_of-memory-in-Err
+shape_of-memory-in-Err c = c.obey-ending.auto.memory ∙ c.loop-header.invariant.2
 
-pub returns-else-ending-eq-TAKEN : goal.returns-else-ending-eq-TAKEN
-unfolding ending_of played_of
-returns-else-ending-eq-TAKEN c =
-    let loop = c.loop-header in
-    let obeyed = c.obey-ending in
-    rw c.end-else-ending-eq-TAKEN.ensures
-    (sym (loop.invariant.3 ∙ plays_stop c.args.trace.now loop.at the_chip loop.count _ _ (standing (goal.at.returns-else-ending-eq-TAKEN c).In-Whole) _ _ _ (sym (rw (ne_eqb _ _ c.if-ending-eq-TAKEN.false) at obeyed.ensures))))
+pub returns-in-Err : goal.returns-in-Err
+returns-in-Err c = ?
