@@ -6,7 +6,7 @@ ghost use Rattle.trace.specs.Kinds.{the_chip, chip_of};
 ghost use Rattle.trace.specs.Code.{stop_met, played_of};
 ghost use Rattle.trace.specs.Run.{ran, run};
 
-use crate::reader::read_at;
+use crate::reader::Reader;
 use crate::record::obey;
 use crate::records::Front;
 use bus::image::ask;
@@ -59,10 +59,11 @@ pub fn run(state: &mut [u8], memory: &mut [u8], trace: &[u8]) -> Stop
 pub fn play(mut registers: Registers, memory: &mut [u8], trace: &[u8]) -> Played
     ensures { played_of result memory.new ≡ play the_chip (split trace.now) (chip_of registers memory.old) }
 {
-    let mut at = 0;
+    let mut reader = Reader::new(trace);
     let mut count = 0;
     loop {
-        match read_at(trace, at) {
+        let at = reader.at;
+        match reader.next() {
             Front::Nothing => return end(Ok(()), at, count, registers),
             Front::Cut => return end(Err(Refusal::HeaderCut), at, count, registers),
             Front::Whole(header) => {
@@ -72,7 +73,7 @@ pub fn play(mut registers: Registers, memory: &mut [u8], trace: &[u8]) -> Played
                     return end(Err(halt.refusal), halt.offset, count, left);
                 }
                 registers = left;
-                at = at + HEADER_SIZE + header.length;
+                reader = reader.moved(at + HEADER_SIZE + header.length);
                 count += 1;
             }
         }
