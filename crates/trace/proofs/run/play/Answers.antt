@@ -43,5 +43,28 @@ returns-in-Cut c =
 pub obey-ending-requires : goal.obey-ending-requires
 obey-ending-requires c = seen _ c.loop-header.invariant.0 c.next.ensures c.in-Whole.is
 
-pub overflow_add-moved : goal.overflow_add-moved
-overflow_add-moved c = omega (arith, within_trace c.args.trace.now _ _ (seen _ c.loop-header.invariant.0 c.next.ensures c.in-Whole.is))
+pub overflow_add-at-in-Whole : goal.overflow_add-at-in-Whole
+overflow_add-at-in-Whole c = omega (arith, within_trace c.args.trace.now _ _ (seen _ c.loop-header.invariant.0 c.next.ensures c.in-Whole.is))
+
+pub loop-header-smaller : goal.loop-header-smaller
+loop-header-smaller c = omega (arith, c.moved-reader.ensures.1, within_trace c.args.trace.now _ _ (seen _ c.loop-header.invariant.0 c.next.ensures c.in-Whole.is))
+
+pub loop-header-preserved : goal.loop-header-preserved
+unfolding ending_on
+loop-header-preserved c =
+    let loop = c.loop-header in
+    let obeyed = c.obey-ending in
+    let stands = seen _ loop.invariant.0 c.next.ensures c.in-Whole.is in
+    let fits = within_trace c.args.trace.now _ _ stands in
+    rw (c.moved-reader.ensures.0, c.moved-reader.ensures.1)
+    (loop.invariant.0, omega (arith, fits), omega (arith, fits), obeyed.auto.memory ∙ loop.invariant.3, loop.invariant.4 ∙ plays_on c.args.trace.now _ the_chip loop.count _ _ stands _ (sym (rw c.in_default.is at obeyed.ensures)))
+
+pub shape_of-memory-in-Err : goal.shape_of-memory-in-Err
+shape_of-memory-in-Err c = c.obey-ending.auto.memory ∙ c.loop-header.invariant.3
+
+pub returns-in-Err : goal.returns-in-Err
+unfolding ending_on played_of
+returns-in-Err c =
+    let loop = c.loop-header in
+    let stands = seen _ loop.invariant.0 c.next.ensures c.in-Whole.is in
+    rw c.end-in-Err.ensures (sym (loop.invariant.4 ∙ plays_stop c.args.trace.now _ the_chip loop.count _ _ stands _ _ _ (sym (rw c.in-Err.is at c.obey-ending.ensures))))
