@@ -1,20 +1,23 @@
 -- What each public call states has one result.
 -- Assumes nothing.
-use mathlib.Core.Path.{◌≡◌, refl, sym, ◌∙◌, ap}
-use mathlib.Core.Bool.{Bool, false≢true, true≢false}
+use mathlib.Core.Path.{◌≡◌, refl, ap}
+use mathlib.Core.Bool.{cond}
 use mathlib.Core.List.{List, []}
 use Prim.Native.Nat.{ℕ}
+use lib.Dec.{eqb}
 use Rattle.std.specs.Prelude as std
-use Rattle.std.specs.Prelude.{Option, Some, None, Ok, Err}
+use Rattle.std.specs.Prelude.{Ok, Err}
 use Rattle.constants.specs.Settles.{Settles}
 use Rattle.constants.specs.Numbers.{taken}
-use Rattle.constants.specs.Refusals.{Met, number_of_refusal}
+use Rattle.constants.specs.Refusals.{Met}
 use Rattle.constants.specs.declared.refusal.Refusal.{Refusal}
-use Rattle.constants.proofs.Refusals.{number_of_refusal_injective, number_met_injective}
+use Rattle.constants.proofs.Refusals.{refusal_of, undone, refusal_not_taken, met_of, met_undone}
+use Rattle.constants.proofs.Settles.{told_from}
 use Rattle.bus.specs.Chip.{Chip}
 use Rattle.bus.specs.Result.{Result, on_result}
 use Rattle.bus.specs.Stretch.{Stretched}
 use Rattle.bus.specs.Answer.{Reply, reply_to, reply_to_read}
+use Rattle.bus.proofs.Results.{told_reply, reply_told}
 use Rattle.widebus.specs.Selection.{result_of}
 use Rattle.widebus.specs.Pair.{Pair, both_lent}
 use Rattle.widebus.specs.Asked.{BothAsked, both_asked_of}
@@ -24,90 +27,65 @@ use Rattle.widebus.specs.WideStretch.{wide_stretch_of}
 use Rattle.widebus.specs.Settled.{Settled}
 use Rattle.widebus.specs.declared.both.Both.{Both}
 use Rattle.widebus.specs.declared.stretch.WideStretch.{WideStretch}
-use Rattle.widebus.proofs.Numbered.{not_taken}
 
--- a result of code that stands for one of the specification is the only one that does
-abbrev Apart : {R S : Type 0} → (R → S) → Type 0
-Apart {R} stands = (one other : R) → stands one ≡ stands other → one ≡ other
+-- what each result of code stands for tells it
+told_asked : BothAsked → std.Result Both Refusal
+told_asked (BothAsked.Found registers) = Ok registers
+told_asked (BothAsked.Refused number) = Err (refusal_of number)
 
--- no refusal has the number of what is taken
-no_number : {T : Type 0} (refusal : Refusal) → number_of_refusal refusal ≡ taken → T
-no_number refusal e = absurd (not_taken refusal e)
+asked_told : (r : std.Result Both Refusal) → told_asked (both_asked_of r) ≡ r
+unfolding told_asked
+asked_told (Ok registers) = refl
+asked_told (Err refusal) = ap (λ r. Err r) (undone refusal)
 
-same_refusal : {T : Type 0} (one other : Refusal) → number_of_refusal one ≡ number_of_refusal other → ◌≡◌ {A = std.Result T Refusal} (Err one) (Err other)
-same_refusal one other e = ap (λ r. Err r) (number_of_refusal_injective one other e)
+told_part : Handed → std.Result (List ℕ) Refusal
+told_part h = cond (eqb h.number taken) (Ok h.part) (Err (refusal_of h.number))
 
-met_apart : Apart reply_to
-met_apart one other e = number_met_injective one other (ap (λ (r : Reply). r.number) e)
+part_told : (r : std.Result (List ℕ) Refusal) → told_part (handed_of r) ≡ r
+unfolding told_part
+part_told (Ok part) = refl
+part_told (Err refusal) = rw (refusal_not_taken refusal, undone refusal)
 
-read_apart : Apart reply_to_read
-read_apart (Ok (Some one)) (Ok (Some other)) e = ap (λ (r : Reply). Ok (Some r.byte)) e
-read_apart (Ok (Some one)) (Ok None) e = absurd (false≢true (ap (λ (r : Reply). r.dummy) e))
-read_apart (Ok None) (Ok (Some other)) e = absurd (true≢false (ap (λ (r : Reply). r.dummy) e))
-read_apart (Ok None) (Ok None) e = refl
-read_apart (Ok one) (Err other) e = no_number other (sym (ap (λ (r : Reply). r.number) e))
-read_apart (Err one) (Ok other) e = no_number one (ap (λ (r : Reply). r.number) e)
-read_apart (Err one) (Err other) e = same_refusal one other (ap (λ (r : Reply). r.number) e)
+told_result : {S : Type 0} → Result S → std.Result S Refusal
+told_result r = on_result r (λ n. Err (refusal_of n)) (λ s. Ok s)
 
-asked_apart : Apart both_asked_of
-asked_apart (Ok one) (Ok other) e = let f : BothAsked.Found one ≡ BothAsked.Found other = e in let s : one ≡ other = cc in ap (λ b. Ok b) s
-asked_apart (Ok one) (Err other) e = let f : BothAsked.Found one ≡ BothAsked.Refused (number_of_refusal other) = e in cc
-asked_apart (Err one) (Ok other) e = let f : BothAsked.Refused (number_of_refusal one) ≡ BothAsked.Found other = e in cc
-asked_apart (Err one) (Err other) e =
-    let f : BothAsked.Refused (number_of_refusal one) ≡ BothAsked.Refused (number_of_refusal other) = e in
-    let n : number_of_refusal one ≡ number_of_refusal other = cc in
-    same_refusal one other n
-
-part_apart : Apart handed_of
-part_apart (Ok one) (Ok other) e = ap (λ (h : Handed). Ok h.part) e
-part_apart (Ok one) (Err other) e = no_number other (sym (ap (λ (h : Handed). h.number) e))
-part_apart (Err one) (Ok other) e = no_number one (ap (λ (h : Handed). h.number) e)
-part_apart (Err one) (Err other) e = same_refusal one other (ap (λ (h : Handed). h.number) e)
-
-abbrev number_in : {S : Type 0} → Result S → ℕ
-number_in r = on_result r (λ n. n) (λ s. taken)
-
-result_apart : {S : Type 0} → Apart (result_of {S = S})
-result_apart (Ok one) (Ok other) e = ap (λ r. on_result r (λ n. Ok one) (λ s. Ok s)) e
-result_apart (Ok one) (Err other) e = no_number other (sym (ap number_in e))
-result_apart (Err one) (Ok other) e = no_number one (ap number_in e)
-result_apart (Err one) (Err other) e = same_refusal one other (ap number_in e)
-
--- a result alone
-alone : {R S : Type 0} (stands : R → S) → Apart stands → (stated : S) → Settles (λ (r : R). stands r ≡ stated)
-alone stands apart stated first second p q = apart first second (p ∙ sym q)
+result_told : {S : Type 0} (r : std.Result S Refusal) → told_result (result_of r) ≡ r
+unfolding told_result
+result_told (Ok some) = refl
+result_told (Err refusal) = ap (λ r. Err r) (undone refusal)
 
 -- an outcome of reply, states and memories, and one that leaves the memories
-module _ {R : Type 0} (stands : R → Reply) (apart : Apart stands) where
-  whole : (stated : WideCalled) → Settles (λ (o : R × List ℕ × List ℕ × List ℕ × List ℕ). wide_called (stands o.0) (both_lent o.1 o.2 o.3 o.4) ≡ stated)
-  whole stated first second p q =
-      ap (λ r. (r, first.1, first.2, first.3, first.4)) (apart first.0 second.0 (ap (λ (c : WideCalled). c.reply) (p ∙ sym q)))
-      ∙ ap (λ (c : WideCalled). (second.0, c.lent.left.state, c.lent.left.memory, c.lent.right.state, c.lent.right.memory)) (p ∙ sym q)
+module _ {R : Type 0} (stands_for : R → Reply) (told : Reply → R) (back : (r : R) → told (stands_for r) ≡ r) where
+  whole : (stated : WideCalled) → Settles (λ (o : R × List ℕ × List ℕ × List ℕ × List ℕ). wide_called (stands_for o.0) (both_lent o.1 o.2 o.3 o.4) ≡ stated)
+  whole = told_from (λ o. wide_called (stands_for o.0) (both_lent o.1 o.2 o.3 o.4)) (λ c. (told c.reply, c.lent.left.state, c.lent.left.memory, c.lent.right.state, c.lent.right.memory)) (λ o. ap (λ r. (r, o.1, o.2, o.3, o.4)) (back o.0))
 
-  with_states : (left right : List ℕ) (stated : WideCalled) → Settles (λ (o : R × List ℕ × List ℕ). wide_called (stands o.0) (both_lent o.1 left o.2 right) ≡ stated)
-  with_states left right stated first second p q =
-      ap (λ r. (r, first.1, first.2)) (apart first.0 second.0 (ap (λ (c : WideCalled). c.reply) (p ∙ sym q)))
-      ∙ ap (λ (c : WideCalled). (second.0, c.lent.left.state, c.lent.right.state)) (p ∙ sym q)
+  with_states : (left right : List ℕ) (stated : WideCalled) → Settles (λ (o : R × List ℕ × List ℕ). wide_called (stands_for o.0) (both_lent o.1 left o.2 right) ≡ stated)
+  with_states left right = told_from (λ o. wide_called (stands_for o.0) (both_lent o.1 left o.2 right)) (λ c. (told c.reply, c.lent.left.state, c.lent.right.state)) (λ o. ap (λ r. (r, o.1, o.2)) (back o.0))
+
+-- what is met, of the reply to it
+abbrev told_met : Reply → Met
+told_met reply = met_of reply.number
 
 -- a stretch with the memories that it leaves, and one that touches none
+abbrev told_stretch : Stretched (Pair Chip) → WideStretch × List ℕ × List ℕ
+told_stretch s = (record { registers = record { left = s.state.left.registers; right = s.state.right.registers }; count = s.count; outcome = met_of s.number }, s.state.left.memory, s.state.right.memory)
+
 with_memories : (stated : Stretched (Pair Chip)) → Settles (λ (o : WideStretch × List ℕ × List ℕ). wide_stretch_of o.0 o.1 o.2 ≡ stated)
-with_memories stated first second p q =
-    ap (λ (m : Met). (record { registers = first.0.registers; count = first.0.count; outcome = m }, first.1, first.2)) (number_met_injective first.0.outcome second.0.outcome (ap (λ (s : Stretched (Pair Chip)). s.number) (p ∙ sym q)))
-    ∙ ap (λ (s : Stretched (Pair Chip)). (record { registers = record { left = s.state.left.registers; right = s.state.right.registers }; count = s.count; outcome = second.0.outcome }, s.state.left.memory, s.state.right.memory)) (p ∙ sym q)
+with_memories = told_from (λ o. wide_stretch_of o.0 o.1 o.2) told_stretch (λ o. ap (λ met. (record { registers = o.0.registers; count = o.0.count; outcome = met }, o.1, o.2)) (met_undone o.0.outcome))
 
 by_itself : (left right : List ℕ) (stated : Stretched (Pair Chip)) → Settles (λ (r : WideStretch). wide_stretch_of r left right ≡ stated)
-by_itself left right stated first second p q = ap (λ (o : WideStretch × List ℕ × List ℕ). o.0) (with_memories stated (first, left, right) (second, left, right) p q)
+by_itself left right = told_from (λ r. wide_stretch_of r left right) (λ s. (told_stretch s).0) (λ r. ap (λ met. record { registers = r.registers; count = r.count; outcome = met }) (met_undone r.outcome))
 
 pub settled : Settled
 settled = record {
-  «both::ask» = λ left_state left_memory right_state right_memory. alone both_asked_of asked_apart _;
-  «calls::command» = λ left_state left_memory right_state right_memory selection byte. with_states reply_to met_apart left_memory right_memory _;
-  «calls::write» = λ left_state left_memory right_state right_memory selection byte. whole reply_to met_apart _;
-  «calls::read» = λ left_state left_memory right_state right_memory selection. with_states reply_to_read read_apart left_memory right_memory _;
-  calls::reset_pin = λ left_state left_memory right_state right_memory selection. with_states reply_to met_apart left_memory right_memory _;
-  «page::page» = λ side left right page. alone handed_of part_apart _;
-  selection::selection_of = λ number. alone result_of result_apart _;
-  selection::side_of = λ number. alone result_of result_apart _;
+  «both::ask» = λ left_state left_memory right_state right_memory. told_from both_asked_of told_asked asked_told _;
+  «calls::command» = λ left_state left_memory right_state right_memory selection byte. with_states reply_to told_met (λ met. met_undone met) left_memory right_memory _;
+  «calls::write» = λ left_state left_memory right_state right_memory selection byte. whole reply_to told_met (λ met. met_undone met) _;
+  «calls::read» = λ left_state left_memory right_state right_memory selection. with_states reply_to_read told_reply reply_told left_memory right_memory _;
+  calls::reset_pin = λ left_state left_memory right_state right_memory selection. with_states reply_to told_met (λ met. met_undone met) left_memory right_memory _;
+  «page::page» = λ side left right page. told_from handed_of told_part part_told _;
+  selection::selection_of = λ number. told_from result_of told_result result_told _;
+  selection::side_of = λ number. told_from result_of told_result result_told _;
   «stretch::commands» = λ selection registers bytes first second p q. by_itself [] [] _ first second (p [] []) (q [] []);
   «stretch::writes» = λ selection registers left_memory right_memory bytes. with_memories _;
 }
