@@ -11,7 +11,6 @@ use crate::data::{address, kept};
 use crate::put::put;
 use crate::registers::Registers;
 use crate::same::{agree, repeats};
-use constants::refusal::TAKEN;
 use constants::sizes::WIDTH;
 
 // Fewer reads are read one by one.
@@ -61,23 +60,19 @@ pub fn pass(registers: Registers, memory: &[u8], bytes: &[u8]) -> Passed
             count: 0,
         };
     }
-    let number = registers.access(memory.len());
-    if number == TAKEN {
-        let dummies = dummy_reads(registers.fresh);
-        let ready = registers.with_fresh(after_dummy(registers.fresh));
-        let reading = Reading {
-            registers: ready,
-            memory,
-        };
-        let passed = reading.pass(&bytes[dummies..]);
-        return Passed {
-            registers: passed.registers,
-            count: dummies + passed.count,
-        };
-    }
+    let Ok(()) = registers.access(memory.len()) else {
+        return Passed { registers, count: 0 };
+    };
+    let dummies = dummy_reads(registers.fresh);
+    let ready = registers.with_fresh(after_dummy(registers.fresh));
+    let reading = Reading {
+        registers: ready,
+        memory,
+    };
+    let passed = reading.pass(&bytes[dummies..]);
     Passed {
-        registers,
-        count: 0,
+        registers: passed.registers,
+        count: dummies + passed.count,
     }
 }
 
