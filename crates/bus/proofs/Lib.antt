@@ -3,14 +3,14 @@ pub mod Tests
 -- 1. A lent state and memory.
 -- what it says that they are long enough, and that an image is within its ranges
 pub mod Legal
+-- the first 23 bytes of a lent state
+pub mod First
 -- what they are asked first, and with what they are refused
 pub mod Asking
 -- image and registers convert without loss
 pub mod ThereAndBack
 -- the image's order and the awaited codes, listed twice
 pub mod TablesAgree
--- the ranges asked in pieces, some of them as one number
-pub mod Ranges
 -- 2. Events.
 -- what it says of registers and memory that a data write or read is taken
 pub mod Access

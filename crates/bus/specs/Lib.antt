@@ -25,7 +25,9 @@ pub mod Recorded
 pub mod Stretch
 -- for functions inside the crate: bytes put and compared side by side
 pub mod Pieces
--- for them too: a stretch of reads, from an offset on
+-- for them too: the registers by the names that code has
+pub mod Held
+-- and a stretch of reads, from an offset on
 pub mod Reads
 -- 2. Laws, each proved in the file of that name in proofs/.
 -- why some of them take bytes below 256

@@ -9,30 +9,30 @@ ghost use Rattle.bus.specs.OnState.{on_state, numbered, access_on};
 
 use crate::answer::Answer;
 use crate::calls::{Reply, refuse};
-use crate::lent::obey;
-use crate::places::{AWAITED, COLUMN, FRESH, load};
-use constants::refusal::{TAKEN, TOO_SHORT};
+use crate::obey::obey;
+use crate::places::{Held, Place, load};
+use constants::refusal::{TAKEN, TOO_SHORT, number_met};
 use constants::sizes::IMAGE_SIZE;
 
 // A command byte, which no memory is asked for: its number.
 pub fn command(state: &mut [u8], byte: u8) -> u8
     ensures { (memory : List ℕ) → called (numbered result) state.new memory ≡ on_state (command_byte byte) state.old memory }
 {
-    if state.len() < IMAGE_SIZE {
+    let Some(image) = state.first_chunk_mut::<IMAGE_SIZE>() else {
         return TOO_SHORT;
-    }
-    let named = codes::meaning_of(state[AWAITED], byte);
-    obey(state, named)
+    };
+    let named = codes::meaning_of(image.at(Place::Awaited), byte);
+    number_met(obey(image, named))
 }
 
 // A data byte written: its number.
 pub fn write(state: &mut [u8], memory: &mut [u8], byte: u8) -> u8
     ensures { called (numbered result) state.new memory.new ≡ on_state (data_written byte) state.old memory.old }
 {
-    if state.len() < IMAGE_SIZE {
+    let Some(image) = state.first_chunk::<IMAGE_SIZE>() else {
         return TOO_SHORT;
-    }
-    let registers = load(state);
+    };
+    let registers = load(image);
     let reply = conclude_data(registers.write(memory, byte), state);
     reply.number
 }
@@ -41,10 +41,10 @@ pub fn write(state: &mut [u8], memory: &mut [u8], byte: u8) -> u8
 pub fn read(state: &mut [u8], memory: &[u8]) -> Reply
     ensures { called result state.new memory.now ≡ on_state data_read state.old memory.now }
 {
-    if state.len() < IMAGE_SIZE {
+    let Some(image) = state.first_chunk::<IMAGE_SIZE>() else {
         return refuse(TOO_SHORT);
-    }
-    let registers = load(state);
+    };
+    let registers = load(image);
     conclude_data(registers.read(memory), state)
 }
 
@@ -52,10 +52,10 @@ pub fn read(state: &mut [u8], memory: &[u8]) -> Reply
 pub fn access(state: &[u8], memory: &[u8]) -> u8
     ensures { result ≡ access_on state.now memory.now }
 {
-    if state.len() < IMAGE_SIZE {
+    let Some(image) = state.first_chunk::<IMAGE_SIZE>() else {
         return TOO_SHORT;
-    }
-    let registers = load(state);
+    };
+    let registers = load(image);
     registers.access(memory.len())
 }
 
@@ -63,10 +63,7 @@ pub fn access(state: &[u8], memory: &[u8]) -> u8
 pub fn awaited(state: &[u8]) -> u8
     ensures { result ≡ get_or state.now places.awaited 0 }
 {
-    if state.len() <= AWAITED {
-        return 0;
-    }
-    state[AWAITED]
+    state.get(Place::Awaited as usize).copied().unwrap_or(0)
 }
 
 // Replies a data byte's answer, and stores what it changes of the registers, column and fresh: these two bytes alone.
@@ -77,8 +74,8 @@ fn conclude_data(answer: Answer, state: &mut [u8]) -> Reply
     match answer {
         Answer::Taken(after) => {
             let registers = after.registers;
-            state[COLUMN] = registers.column;
-            state[FRESH] = registers.fresh;
+            state[Place::Column as usize] = registers.column;
+            state[Place::Fresh as usize] = registers.fresh;
             Reply {
                 number: TAKEN,
                 byte: after.byte,
