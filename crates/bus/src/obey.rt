@@ -6,7 +6,7 @@ ghost use Rattle.bus.specs.Registers.{◌with◌≔◌};
 ghost use Rattle.bus.specs.Places as places;
 ghost use Rattle.bus.specs.Held.{place_of};
 ghost use Rattle.bus.specs.Events.{obeyed, silently, enter, leave, software_reset};
-ghost use Rattle.bus.specs.declared.answer.Answer.{Answer};
+ghost use Rattle.bus.specs.Answer.{Answer};
 
 use crate::places::{Held, Place};
 use codes::Command;
@@ -16,7 +16,8 @@ use constants::refusal::Refusal;
 #[tactic(auto, unfolding(crate::specs::Events::obeyed))]
 pub(crate) fn obey<H: Held>(held: &mut H, named: Command) -> Result<(), Refusal>
     requires { CommandInRange named }
-    ensures { let met = obeyed named (H.registers held.old with places.awaited ≔ 0) in MatchResult result (λ done. met ≡ silently (H.registers held.new)) (λ refusal. (met ≡ Answer.Refused (number_of_refusal refusal)) × (H.registers held.new ≡ H.registers held.old)) }
+    ensures met { let met = obeyed named (H.registers held.old with places.awaited ≔ 0) in MatchResult result (λ done. met ≡ silently (H.registers held.new)) (λ refusal. (met ≡ Answer.Refused (number_of_refusal refusal)) × (H.registers held.new ≡ H.registers held.old)) }
+    ensures size { H.size held.new ≡ H.size held.old }
 {
     match named {
         Command::ColumnLow(low) => set_low(held, low),
@@ -55,7 +56,8 @@ pub(crate) fn obey<H: Held>(held: &mut H, named: Command) -> Result<(), Refusal>
 
 // Sets one register, and what every command taken sets: no code is awaited, unless that is the register, and fresh is 1.
 fn set<H: Held>(held: &mut H, place: Place, value: u8)
-    ensures { H.registers held.new ≡ (H.registers held.old with places.awaited ≔ 0 with place_of place ≔ value with places.fresh ≔ 1) }
+    ensures registers { H.registers held.new ≡ (H.registers held.old with places.awaited ≔ 0 with place_of place ≔ value with places.fresh ≔ 1) }
+    ensures size { H.size held.new ≡ H.size held.old }
 {
     held.put(Place::Awaited, 0);
     held.put(place, value);
@@ -65,7 +67,8 @@ fn set<H: Held>(held: &mut H, place: Place, value: u8)
 // 00 to 0F: the low half of the column.
 fn set_low<H: Held>(held: &mut H, low: u8)
     requires { low < 16 }
-    ensures { H.registers held.new ≡ (H.registers held.old with places.awaited ≔ 0 with places.column ≔ (H.registers held.old).column / 16 * 16 + low with places.fresh ≔ 1) }
+    ensures registers { H.registers held.new ≡ (H.registers held.old with places.awaited ≔ 0 with places.column ≔ (H.registers held.old).column / 16 * 16 + low with places.fresh ≔ 1) }
+    ensures size { H.size held.new ≡ H.size held.old }
 {
     let column = held.at(Place::Column);
     set(held, Place::Column, column / 16 * 16 + low);
@@ -74,7 +77,8 @@ fn set_low<H: Held>(held: &mut H, low: u8)
 // 10 to 1F: the high half of the column.
 fn set_high<H: Held>(held: &mut H, high: u8)
     requires { high < 16 }
-    ensures { H.registers held.new ≡ (H.registers held.old with places.awaited ≔ 0 with places.column ≔ high * 16 + (H.registers held.old).column % 16 with places.fresh ≔ 1) }
+    ensures registers { H.registers held.new ≡ (H.registers held.old with places.awaited ≔ 0 with places.column ≔ high * 16 + (H.registers held.old).column % 16 with places.fresh ≔ 1) }
+    ensures size { H.size held.new ≡ H.size held.old }
 {
     let column = held.at(Place::Column);
     set(held, Place::Column, high * 16 + column % 16);
@@ -82,7 +86,8 @@ fn set_high<H: Held>(held: &mut H, high: u8)
 
 // AC and AD: the indicator off or on, and its mode.
 fn indicate<H: Held>(held: &mut H, indicator: u8, mode: u8)
-    ensures { H.registers held.new ≡ (H.registers held.old with places.awaited ≔ 0 with places.indicator ≔ indicator with places.mode ≔ mode with places.fresh ≔ 1) }
+    ensures registers { H.registers held.new ≡ (H.registers held.old with places.awaited ≔ 0 with places.indicator ≔ indicator with places.mode ≔ mode with places.fresh ≔ 1) }
+    ensures size { H.size held.new ≡ H.size held.old }
 {
     held.put(Place::Indicator, indicator);
     set(held, Place::Mode, mode);
@@ -90,7 +95,8 @@ fn indicate<H: Held>(held: &mut H, indicator: u8, mode: u8)
 
 // E0: read-modify-write is entered and the column saved, unless it is entered already.
 fn enter<H: Held>(held: &mut H)
-    ensures { H.registers held.new ≡ (enter (H.registers held.old with places.awaited ≔ 0) with places.fresh ≔ 1) }
+    ensures registers { H.registers held.new ≡ (enter (H.registers held.old with places.awaited ≔ 0) with places.fresh ≔ 1) }
+    ensures size { H.size held.new ≡ H.size held.old }
 {
     if held.at(Place::Modify) == 1 {
         return set(held, Place::Awaited, 0);
@@ -102,7 +108,8 @@ fn enter<H: Held>(held: &mut H)
 
 // EE: read-modify-write is left and the column put back, unless it is left already.
 fn leave<H: Held>(held: &mut H)
-    ensures { H.registers held.new ≡ (leave (H.registers held.old with places.awaited ≔ 0) with places.fresh ≔ 1) }
+    ensures registers { H.registers held.new ≡ (leave (H.registers held.old with places.awaited ≔ 0) with places.fresh ≔ 1) }
+    ensures size { H.size held.new ≡ H.size held.old }
 {
     if held.at(Place::Modify) == 1 {
         let saved = held.at(Place::Saved);
@@ -115,7 +122,8 @@ fn leave<H: Held>(held: &mut H)
 
 // E2: the registers that a software reset sets.
 fn software_reset<H: Held>(held: &mut H)
-    ensures { H.registers held.new ≡ (software_reset (H.registers held.old with places.awaited ≔ 0) with places.fresh ≔ 1) }
+    ensures registers { H.registers held.new ≡ (software_reset (H.registers held.old with places.awaited ≔ 0) with places.fresh ≔ 1) }
+    ensures size { H.size held.new ≡ H.size held.old }
 {
     held.put(Place::Page, 0);
     held.put(Place::Column, 0);

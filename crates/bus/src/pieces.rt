@@ -11,7 +11,6 @@ use crate::data::{address, kept};
 use crate::put::{CHUNK, put};
 use crate::registers::Registers;
 use crate::same::{agree, repeats};
-use constants::refusal::TAKEN;
 use constants::sizes::WIDTH;
 
 // A piece written, from the column on; it ends at column 131 or before it.
@@ -55,13 +54,12 @@ pub fn pass(registers: Registers, memory: &[u8], bytes: &[u8]) -> Passed
     if bytes.len() < CHUNK {
         return so_far(registers, 0);
     }
-    let number = registers.access(memory.len());
-    if number == TAKEN {
-        let dummies = dummy_reads(registers.fresh);
-        let ready = registers.with_fresh(after_dummy(registers.fresh));
-        return pass_bytes(ready, memory, bytes, dummies);
-    }
-    so_far(registers, 0)
+    let Ok(()) = registers.access(memory.len()) else {
+        return so_far(registers, 0);
+    };
+    let dummies = dummy_reads(registers.fresh);
+    let ready = registers.with_fresh(after_dummy(registers.fresh));
+    pass_bytes(ready, memory, bytes, dummies)
 }
 
 // Passes over reads that are no dummy reads, so many being passed over before them.

@@ -1,5 +1,5 @@
 // The registers by name, the two forms in which they are held, and the registers of an image.
-ghost use Rattle.std.specs.Prelude.{◌≡◌, get_or};
+ghost use Rattle.std.specs.Prelude.{◌≡◌, ℕ, length, get_or};
 ghost use Rattle.bus.specs.Registers.{image_of, registers_of, ◌with◌≔◌};
 ghost use Rattle.bus.specs.Held.{place_of};
 ghost use Rattle.bus.specs.declared.registers.Registers.{Registers as Those};
@@ -39,17 +39,23 @@ pub enum Place {
 pub trait Held {
     ghost registers: { Self → Those };
 
+    // The bytes that they lie in, whose number stays.
+    ghost size: { Self → ℕ };
+
     // One register.
     fn at(&self, place: Place) -> u8
         ensures { result ≡ get_or (image_of (registers self.now)) (place_of place) 0 };
 
     // Sets one register.
     fn put(&mut self, place: Place, value: u8)
-        ensures { registers self.new ≡ (registers self.old with place_of place ≔ value) };
+        ensures registers { registers self.new ≡ (registers self.old with place_of place ≔ value) }
+        ensures size { size self.new ≡ size self.old };
 }
 
 impl Held for Registers {
     ghost registers = { λ r. r };
+
+    ghost size = { λ r. 0 };
 
     fn at(&self, place: Place) -> u8 {
         match place {
@@ -110,6 +116,8 @@ impl Held for Registers {
 
 impl Held for [u8; IMAGE_SIZE] {
     ghost registers = { registers_of };
+
+    ghost size = { length };
 
     fn at(&self, place: Place) -> u8 {
         self[place as usize]

@@ -1,5 +1,6 @@
--- `bus::registers::Registers::command` meets its contract: the command that a byte is has its number in range, and what obeying it leaves is the definition.
+-- `bus::registers::Registers::command` meets its contract: what the byte is, obeyed.
 use mathlib.Core.Path.{sym}
+use Rattle.std.proofs.lemmas.Result.{err_from_is_err_and}
 use Rattle.codes.proofs.InRange.{meaning_in_range}
 use Rattle.bus.specs.Events.{command}
 use Rattle.bus.proofs.registers.Registers.command.Goals as goal
@@ -7,10 +8,12 @@ use Rattle.bus.proofs.registers.Registers.command.Goals as goal
 pub obey-requires : goal.obey-requires
 obey-requires c = rw c.meaning_of-named.ensures (meaning_in_range _ _ search)
 
-pub returns-in-Ok : goal.returns-in-Ok
+pub returns-in_err-obey : goal.returns-in_err-obey
 unfolding command
-returns-in-Ok c = rw (← c.meaning_of-named.ensures) (sym c.in-Ok.ensures)
+returns-in_err-obey c =
+    let p = err_from_is_err_and c.from_residual.result c.from_residual.ensures.1 in
+    rw (p.1, p.2, ← c.meaning_of-named.ensures) (sym c.in_err-obey.ensures.met.0)
 
-pub returns-in-Err : goal.returns-in-Err
+pub returns : goal.returns
 unfolding command
-returns-in-Err c = rw (← c.meaning_of-named.ensures, c.from.ensures) (sym c.in-Err.ensures.0)
+returns c = rw (← c.meaning_of-named.ensures) (sym c.in_ok-obey.ensures.met)
