@@ -30,12 +30,6 @@ module _ (s d : List ℕ) (e : length d ≡ length s) where
       ap (λ front. front ++ drop (suc j) d) (sym (take-suc s j 0 h)) ∙
       ap (λ k. over k s d) (sym (add-one j))
 
-  -- all
-  pub over_all : (j : ℕ) → j ≡ length s → over j s d ≡ s
-  over_all j h =
-      let all : drop j d ≡ [] = rw (h, ← e) (drop-length d) in
-      rw (all, h, take-length s) (append-nil s)
-
 -- what holds below x and at x holds below x + 1
 pub one_more : (P : ℕ → Type 0) (x : ℕ) → ((i : ℕ) → i < x → P i) → P x → (i : ℕ) → i < x + 1 → P i
 one_more P x below here i h = by (ltb i x) refl

@@ -1,10 +1,10 @@
 -- `bus::put::put_each` meets its contract: the first i are put, and the rest is as it was.
-use mathlib.Core.Path.{◌≡◌, refl, sym, ◌∙◌, ap}
+use mathlib.Core.Path.{◌≡◌, sym, ◌∙◌, ap}
 use mathlib.Core.List.{map}
 use native.Mathlib.Omega.{arith}
 use lib.ListN.{length, get_or, set, length-map}
 use Rattle.bus.specs.Memory.{kept}
-use Rattle.bus.proofs.SideBySide.{over, over_more, over_all, get_d_kept}
+use Rattle.bus.proofs.SideBySide.{over, over_more, get_d_kept}
 use Rattle.bus.proofs.put.put_each.Goals as goal
 
 pub loop-i-preserved : goal.loop-i-preserved

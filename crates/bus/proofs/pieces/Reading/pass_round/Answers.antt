@@ -1,5 +1,5 @@
 -- `bus::pieces::Reading::pass_round` meets its contract: what is left of the stretch decides, piece by piece.
-use mathlib.Core.Path.{◌≡◌, refl, sym, ◌∙◌, ap}
+use mathlib.Core.Path.{◌≡◌, sym, ◌∙◌, ap}
 use mathlib.Core.List.{map}
 use Prim.Native.Nat.{ℕ, ◌+◌, ◌≤◌, ◌<◌, ◌-◌}
 use native.Mathlib.Omega.{arith}
@@ -13,9 +13,8 @@ use Rattle.bus.specs.Memory.{address, kept}
 use Rattle.bus.specs.Recorded.{read_as, chip_of, replay}
 use Rattle.bus.specs.Stretch.{stretch, stretched}
 use Rattle.bus.proofs.Access.{opened}
-use Rattle.bus.proofs.StretchLaws.{all_left}
-use Rattle.bus.specs.Reads.{reads_from, column_at}
-use Rattle.bus.proofs.SideBySide.{length_part, in_part}
+use Rattle.bus.specs.Reads.{column_at}
+use Rattle.bus.proofs.SideBySide.{in_part}
 use Rattle.bus.proofs.PieceLaws.{read_piece, still_allowed, part_given}
 use Rattle.bus.proofs.pieces.Reading.pass_round.Goals as goal
 
