@@ -17,11 +17,5 @@ pub extern "C" fn ssd1815b_wide_draw(
 ) -> u8
     ensures { drawn result frame.new ≡ draw_wide (both_lent left_state.now left_memory.now right_state.now right_memory.now) frame.old }
 {
-    number_met(widepicture::draw::draw(
-        left_state,
-        left_memory,
-        right_state,
-        right_memory,
-        frame,
-    ))
+    number_met(widepicture::draw::draw(left_state, left_memory, right_state, right_memory, frame))
 }
