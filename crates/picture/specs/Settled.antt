@@ -6,7 +6,7 @@ use Rattle.picture.specs.Rows.{scan_of}
 use Rattle.picture.specs.Draw.{drawn, draw}
 use Rattle.picture.specs.DrawLine.{draw_line}
 use Rattle.picture.specs.declared.rows.PanelRow.{PanelRow}
-use Rattle.picture.specs.declared.rows.Shown.{Shown}
+use Rattle.picture.specs.Shown.{Shown}
 use Rattle.constants.specs.Settles.{Settles}
 
 pub record Settled : Type 0 where

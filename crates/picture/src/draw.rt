@@ -1,6 +1,5 @@
 // The calls that draw: a whole frame, lent state image, memory and frame; and one row of it.
-ghost use Rattle.std.specs.Prelude.{◌≡◌, ◌++◌, ◌≤◌, length, drop};
-ghost use Rattle.constants.specs.Sizes.{memory_size, frame_size};
+ghost use Rattle.std.specs.Prelude.{◌≡◌};
 ghost use Rattle.picture.specs.Frame.{frame};
 ghost use Rattle.picture.specs.Draw.{drawn, draw};
 ghost use Rattle.picture.specs.DrawLine.{draw_line};
@@ -17,38 +16,34 @@ use constants::sizes::{FRAME_ROWS, FRAME_SIZE, HEIGHT, MEMORY_SIZE, WIDTH};
 pub fn draw(state: &[u8], memory: &[u8], frame: &mut [u8]) -> u8
     ensures { drawn result frame.new ≡ draw state.now memory.now frame.old }
 {
-    if frame.len() < FRAME_SIZE {
+    let Some(places) = frame.first_chunk_mut() else {
         return TOO_SHORT;
-    }
-    match ask(state, memory) {
-        Asked::Found(registers) => {
-            draw_frame(registers, memory, frame);
-            TAKEN
-        }
-        Asked::Refused(number) => number,
-    }
+    };
+    let registers = match ask(state, memory) {
+        Asked::Found(registers) => registers,
+        Asked::Refused(number) => return number,
+    };
+    let Some(memory) = memory.first_chunk() else {
+        return TOO_SHORT;
+    };
+    draw_frame(registers, memory, places);
+    TAKEN
 }
 
 // Draws the frame. Bits are drawn with all rows in view; each row of one shade by itself, which the compiler makes one fill of them.
-fn draw_frame(registers: Registers, memory: &[u8], places: &mut [u8])
-    requires { (memory_size ≤ length memory.now) × (frame_size ≤ length places.old) }
-    ensures { places.new ≡ frame registers memory.now ++ drop frame_size places.old }
+fn draw_frame(registers: Registers, memory: &[u8; MEMORY_SIZE], places: &mut [u8; FRAME_SIZE])
+    ensures { places.new ≡ frame registers memory.now }
 {
-    if registers.on == 0 {
+    if registers.on == 0 || registers.entire == 1 {
         draw_rows(registers, memory, places);
-        return;
+    } else {
+        draw_whole(registers, memory, places);
     }
-    if registers.entire == 1 {
-        draw_rows(registers, memory, places);
-        return;
-    }
-    draw_whole(registers, memory, places);
 }
 
 // Draws each row into its own part of the frame.
-fn draw_rows(registers: Registers, memory: &[u8], places: &mut [u8])
-    requires { (memory_size ≤ length memory.now) × (frame_size ≤ length places.old) }
-    ensures { places.new ≡ frame registers memory.now ++ drop frame_size places.old }
+fn draw_rows(registers: Registers, memory: &[u8; MEMORY_SIZE], places: &mut [u8; FRAME_SIZE])
+    ensures { places.new ≡ frame registers memory.now }
 {
     for y in 0..FRAME_ROWS {
         let start = y * WIDTH;
@@ -66,14 +61,10 @@ fn draw_rows(registers: Registers, memory: &[u8], places: &mut [u8])
 pub fn draw_line(registers: Registers, memory: &[u8], row: PanelRow, places: &mut [u8])
     ensures { places.new ≡ draw_line registers memory.now row places.old }
 {
-    if row.0 > HEIGHT {
+    if row.0 > HEIGHT || places.len() != WIDTH {
         return;
     }
-    if memory.len() < MEMORY_SIZE {
-        return;
+    if let Some(memory) = memory.first_chunk() {
+        draw_row(registers, memory, row, places);
     }
-    if places.len() != WIDTH {
-        return;
-    }
-    draw_row(registers, memory, row, places);
 }
