@@ -12,8 +12,8 @@ use Rattle.picture.proofs.FirstBytes.{frame_first}
 use Rattle.picture.proofs.draw.draw.Goals as goal
 
 -- a part that is as it was lent leaves all as it was
-put_back : {n : ℕ} (was : List ℕ) {part : List ℕ} → part ≡ take n was → part ++ drop n was ≡ was
-put_back {n} was e = rw e (take-append-drop n was)
+put_back : (n : ℕ) (was : List ℕ) {part : List ℕ} → part ≡ take n was → part ++ drop n was ≡ was
+put_back n was e = rw e (take-append-drop n was)
 
 pub returns-in_default : goal.returns-in_default
 unfolding draw
@@ -23,7 +23,7 @@ pub returns-in-Refused : goal.returns-in-Refused
 unfolding draw draw_on
 returns-in-Refused c =
     let first = c.in-Some.ensures.cases in
-    rw (le-ltb _ _ first.enough, ← c.ask.ensures, c.in-Refused.is, put_back c.args.frame.now first.same)
+    rw (le-ltb _ _ first.enough, ← c.ask.ensures, c.in-Refused.is, put_back _ c.args.frame.now first.same)
 
 pub returns-in_default-first_chunk : goal.returns-in_default-first_chunk
 returns-in_default-first_chunk c =

@@ -1,5 +1,5 @@
 -- `picture::draw::draw_line` meets its contract: the row, the part and the memory are tested in turn.
-use mathlib.Core.Path.{◌≡◌, refl, ◌∙◌}
+use mathlib.Core.Path.{◌≡◌, refl, ◌∙◌, ap}
 use mathlib.Core.Logic.{◌≢◌}
 use mathlib.Core.Bool.{Bool, true, false, cond, ◌&&◌}
 use mathlib.Core.List.{List}
@@ -17,6 +17,7 @@ use Rattle.picture.specs.DrawLine.{draw_line}
 use Rattle.picture.specs.declared.rows.PanelRow.{PanelRow}
 use Rattle.picture.proofs.FirstBytes.{line_first}
 use Rattle.picture.proofs.draw.draw_line.Goals as goal
+use Rattle.picture.proofs.draw.draw_line.Goals.{then-row-gt-HEIGHT-via-then-row-gt-HEIGHT, then-row-gt-HEIGHT-via-else-row-gt-HEIGHT+then-places-ne-WIDTH}
 
 -- what is left, by the tests of the code
 module _ (r : Registers) (memory : List ℕ) (row : PanelRow) (was : List ℕ) where
@@ -41,7 +42,7 @@ module _ (r : Registers) (memory : List ℕ) (row : PanelRow) (was : List ℕ) w
 
     row_drawn : memory_size ≤ length memory → length was ≡ width → {first later : List ℕ} → first ≡ take memory_size memory → later ≡ line width (segment r first (row_shows (scan_of r) row)) → later ≡ draw_line r memory row was
     unfolding draw_line
-    row_drawn k e same drawn = drawn ∙ rw same (line_first r memory row) ∙ rw (lt-ltb row.0 frame_rows (omega arith), le-leb memory_size (length memory) k, eq-eqb (length was) width e)
+    row_drawn k e same drawn = drawn ∙ ap (λ (bytes : List ℕ). line width (segment r bytes (row_shows (scan_of r) row))) same ∙ line_first r memory row ∙ rw (lt-ltb row.0 frame_rows (omega arith), le-leb memory_size (length memory) k, eq-eqb (length was) width e)
 
 pub returns-then-row-gt-HEIGHT : goal.returns-then-row-gt-HEIGHT
 returns-then-row-gt-HEIGHT c =
