@@ -7,10 +7,14 @@ pub mod Legal
 pub mod Asking
 -- image and registers convert without loss
 pub mod ThereAndBack
+-- the image at the start of a lent state
+pub mod OwnImage
 -- the image's order and the awaited codes, listed twice
 pub mod TablesAgree
 -- the ranges asked in pieces, some of them as one number
 pub mod Ranges
+-- what a result of code stands for tells which result it is
+pub mod Results
 -- 2. Events.
 -- what it says of registers and memory that a data write or read is taken
 pub mod Access

@@ -88,6 +88,13 @@ in_part l from n i h = get_or-take n (drop from l) i 0 h ∙ get_or-drop from l 
 pub length_part : (l : List ℕ) (from n : ℕ) → from + n ≤ length l → length (take n (drop from l)) ≡ n
 length_part l from n h = length-take-le n (drop from l) (omega (arith, length-drop from l))
 
+-- what holds of each holds of one more
+pub each_more : {A : Type 0} (P : A → Type 0) (d : A) (l : List A) (a : A) → ((i : ℕ) → i < length l → P (get_or l i d)) → P a → (i : ℕ) → i < length (l ++ a ∷ []) → P (get_or (l ++ a ∷ []) i d)
+each_more P d [] a each last zero h = last
+each_more P d [] a each last (suc i) h = absurd (omega arith)
+each_more P d (b ∷ l) a each last zero h = each 0 (omega arith)
+each_more P d (b ∷ l) a each last (suc i) h = each_more P d l a (λ j k. each (suc j) (omega arith)) last i (omega arith)
+
 -- bytes of which no bit is set are 0
 pub or_zero : (a b : ℕ) → bit_or a b ≡ 0 → (a ≡ 0) × (b ≡ 0)
 or_zero a b e = (omega (arith, e, or_add_and a b, and_le_l a b, and_le_r a b), omega (arith, e, or_add_and a b, and_le_l a b, and_le_r a b))

@@ -3,38 +3,33 @@ ghost use Rattle.std.specs.Prelude.{◌≡◌};
 ghost use Rattle.codes.specs.Values.{CommandInRange};
 ghost use Rattle.bus.specs.Registers.{◌with◌≔◌};
 ghost use Rattle.bus.specs.Places as places;
-ghost use Rattle.bus.specs.Events.{command, obeyed, enter, leave, software_reset, reset_pin};
+ghost use Rattle.bus.specs.Answer.{answer_of};
+ghost use Rattle.bus.specs.Events.{command, obeyed, silently, enter, leave, software_reset, reset_pin};
 
-use crate::answer::{After, Answer};
 use crate::registers::Registers;
 use codes::Command;
-use constants::refusal::{NO_PAGE, NOT_ALLOWED, OUT_OF_RANGE, OUTSIDE_TABLE, TEST_MODE};
+use constants::refusal::Refusal;
 
 impl Registers {
     // A command byte: a command where no code is awaited, else the n of the awaited code.
-    pub fn command(self, byte: u8) -> Answer
-        ensures { result ≡ command byte self }
+    pub fn command(self, byte: u8) -> Result<Registers, Refusal>
+        ensures { answer_of result ≡ command byte self }
     {
         let named = codes::meaning_of(self.awaited, byte);
         self.obey(named)
     }
 
     // A pulse on the reset pin: the power-on state, whatever the state was.
-    pub fn reset_pin(self) -> Answer
-        ensures { result ≡ reset_pin self }
+    pub fn reset_pin(self) -> Registers
+        ensures { silently result ≡ reset_pin self }
     {
-        let registers = Registers::power_on();
-        Answer::Taken(After {
-            registers,
-            byte: 0,
-            dummy: false,
-        })
+        Registers::power_on()
     }
 
     // Obeys a command; no code is awaited then but one that this byte is, and every command byte taken sets fresh to 1.
-    fn obey(mut self, named: Command) -> Answer
+    fn obey(mut self, named: Command) -> Result<Registers, Refusal>
         requires { CommandInRange named }
-        ensures { result ≡ obeyed named (self with places.awaited ≔ 0) }
+        ensures { answer_of result ≡ obeyed named (self with places.awaited ≔ 0) }
     {
         self.awaited = 0;
         match named {
@@ -55,7 +50,7 @@ impl Registers {
             Command::IndicatorMode(mode) => self = self.indicated(1, mode),
             Command::DisplayOn(on) => self.on = on,
             Command::Page(page) => self.page = page,
-            Command::NoPage => return Answer::Refused(NO_PAGE),
+            Command::NoPage => return Err(Refusal::NoPage),
             Command::RowDirection(direction) => self.row_direction = direction,
             Command::Offset(offset) => self.offset = offset,
             Command::FramePhases(phases) => self.phases = phases,
@@ -64,17 +59,13 @@ impl Registers {
             Command::Nothing => {}
             Command::LeaveReadModifyWrite => self = self.leave(),
             Command::Await(code) => self.awaited = code,
-            Command::NotAllowed => return Answer::Refused(NOT_ALLOWED),
-            Command::NotAwaited => return Answer::Refused(OUT_OF_RANGE),
-            Command::TestMode => return Answer::Refused(TEST_MODE),
-            Command::Outside => return Answer::Refused(OUTSIDE_TABLE),
+            Command::NotAllowed => return Err(Refusal::NotAllowed),
+            Command::NotAwaited => return Err(Refusal::OutOfRange),
+            Command::TestMode => return Err(Refusal::TestMode),
+            Command::Outside => return Err(Refusal::OutsideTable),
         }
         self.fresh = 1;
-        Answer::Taken(After {
-            registers: self,
-            byte: 0,
-            dummy: false,
-        })
+        Ok(self)
     }
 
     // AC and AD: the indicator off or on, and its mode.

@@ -2,42 +2,36 @@
 ghost use Rattle.std.specs.Prelude.{◌≡◌, ◌+◌, ◌*◌, ◌≤◌, length, take, drop};
 ghost use Rattle.codes.specs.OneOf.{one_of};
 ghost use Rattle.constants.specs.Sizes.{image_size};
+ghost use Rattle.bus.specs.Answer.{asked_of};
 ghost use Rattle.bus.specs.Registers.{image_of, registers_of, largest_values};
 ghost use Rattle.bus.specs.Image.{within, awaited_codes, legal, short, asked_state, asked, stored};
 
 use crate::places::{AWAITED, FRESH, MODIFY, PAGE, QUARTER, SAVED, START, load};
 use crate::registers::Registers;
-use constants::refusal::{OUT_OF_RANGE, TOO_SHORT};
+use constants::refusal::Refusal;
 use constants::sizes::{IMAGE_SIZE, MEMORY_SIZE};
 
-// What a lent state and memory are found to be: taken up, with the registers, or refused 1 or 2.
-#[derive(Drop)]
-pub enum Asked {
-    Found(Registers),
-    Refused(u8),
-}
-
 // Asks a lent state and memory first for their lengths and then for the state's ranges.
-pub fn ask(state: &[u8], memory: &[u8]) -> Asked
-    ensures { result ≡ asked state.now memory.now }
+pub fn ask(state: &[u8], memory: &[u8]) -> Result<Registers, Refusal>
+    ensures { asked_of result ≡ asked state.now memory.now }
 {
     if short(state, memory) {
-        return Asked::Refused(TOO_SHORT);
+        return Err(Refusal::TooShort);
     }
     ask_state(state)
 }
 
 // Asks a lent state alone, first for its length and then for its ranges.
-pub fn ask_state(state: &[u8]) -> Asked
-    ensures { result ≡ asked_state state.now }
+pub fn ask_state(state: &[u8]) -> Result<Registers, Refusal>
+    ensures { asked_of result ≡ asked_state state.now }
 {
     if state.len() < IMAGE_SIZE {
-        return Asked::Refused(TOO_SHORT);
+        return Err(Refusal::TooShort);
     }
     if legal(state) {
-        return Asked::Found(load(state));
+        return Ok(load(state));
     }
-    Asked::Refused(OUT_OF_RANGE)
+    Err(Refusal::OutOfRange)
 }
 
 // Whether a lent state or memory is too short.

@@ -3,6 +3,7 @@ ghost use Rattle.std.specs.Prelude.{◌≡◌, ◌+◌, ◌*◌, ◌/◌, ◌%�
 ghost use Rattle.codes.specs.Values.{CommandInRange};
 ghost use Rattle.constants.specs.Sizes.{image_size};
 ghost use Rattle.constants.specs.Numbers.{taken};
+ghost use Rattle.constants.specs.Refusals.{number_met};
 ghost use Rattle.bus.specs.Registers.{registers_of, ◌with◌≔◌};
 ghost use Rattle.bus.specs.Places as places;
 ghost use Rattle.bus.specs.Image.{stored};
@@ -15,12 +16,12 @@ use crate::places::{
     SAVED, START,
 };
 use codes::Command;
-use constants::refusal::{NO_PAGE, NOT_ALLOWED, OUT_OF_RANGE, OUTSIDE_TABLE, TAKEN, TEST_MODE};
+use constants::refusal::Refusal;
 
 // Obeys a command, as `Registers::obey` does, and says its number.
-pub(crate) fn obey(state: &mut [u8], named: Command) -> u8
+pub(crate) fn obey(state: &mut [u8], named: Command) -> Result<(), Refusal>
     requires { (image_size ≤ length state.old) × CommandInRange named }
-    ensures { (result ≡ number_of (obeyed named (registers_of state.old with places.awaited ≔ 0))) × (state.new ≡ state_after (obeyed named (registers_of state.old with places.awaited ≔ 0)) state.old) }
+    ensures { (number_met result ≡ number_of (obeyed named (registers_of state.old with places.awaited ≔ 0))) × (state.new ≡ state_after (obeyed named (registers_of state.old with places.awaited ≔ 0)) state.old) }
 {
     match named {
         Command::ColumnLow(low) => set_low(state, low),
@@ -40,7 +41,7 @@ pub(crate) fn obey(state: &mut [u8], named: Command) -> u8
         Command::IndicatorMode(mode) => indicate(state, 1, mode),
         Command::DisplayOn(on) => set(state, ON, on),
         Command::Page(page) => set(state, PAGE, page),
-        Command::NoPage => NO_PAGE,
+        Command::NoPage => Err(Refusal::NoPage),
         Command::RowDirection(direction) => set(state, ROW_DIRECTION, direction),
         Command::Offset(offset) => set(state, OFFSET, offset),
         Command::FramePhases(phases) => set(state, PHASES, phases),
@@ -49,55 +50,55 @@ pub(crate) fn obey(state: &mut [u8], named: Command) -> u8
         Command::Nothing => set(state, AWAITED, 0),
         Command::LeaveReadModifyWrite => leave(state),
         Command::Await(code) => set(state, AWAITED, code),
-        Command::NotAllowed => NOT_ALLOWED,
-        Command::NotAwaited => OUT_OF_RANGE,
-        Command::TestMode => TEST_MODE,
-        Command::Outside => OUTSIDE_TABLE,
+        Command::NotAllowed => Err(Refusal::NotAllowed),
+        Command::NotAwaited => Err(Refusal::OutOfRange),
+        Command::TestMode => Err(Refusal::TestMode),
+        Command::Outside => Err(Refusal::OutsideTable),
     }
 }
 
 // Sets one register, and what every command taken sets: no code is awaited, unless that is the register, and fresh is 1.
-fn set(state: &mut [u8], place: usize, value: u8) -> u8
+fn set(state: &mut [u8], place: usize, value: u8) -> Result<(), Refusal>
     requires { (image_size ≤ length state.old) × (place < image_size) }
-    ensures { (result ≡ taken) × (state.new ≡ stored (registers_of state.old with places.awaited ≔ 0 with place ≔ value with places.fresh ≔ 1) state.old) }
+    ensures { (number_met result ≡ taken) × (state.new ≡ stored (registers_of state.old with places.awaited ≔ 0 with place ≔ value with places.fresh ≔ 1) state.old) }
 {
     state[AWAITED] = 0;
     state[place] = value;
     state[FRESH] = 1;
-    TAKEN
+    Ok(())
 }
 
 // 00 to 0F: the low half of the column.
-fn set_low(state: &mut [u8], low: u8) -> u8
+fn set_low(state: &mut [u8], low: u8) -> Result<(), Refusal>
     requires { (image_size ≤ length state.old) × (low < 16) }
-    ensures { (result ≡ taken) × (state.new ≡ stored (registers_of state.old with places.awaited ≔ 0 with places.column ≔ get_or state.old places.column 0 / 16 * 16 + low with places.fresh ≔ 1) state.old) }
+    ensures { (number_met result ≡ taken) × (state.new ≡ stored (registers_of state.old with places.awaited ≔ 0 with places.column ≔ get_or state.old places.column 0 / 16 * 16 + low with places.fresh ≔ 1) state.old) }
 {
     let column = state[COLUMN];
     set(state, COLUMN, column / 16 * 16 + low)
 }
 
 // 10 to 1F: the high half of the column.
-fn set_high(state: &mut [u8], high: u8) -> u8
+fn set_high(state: &mut [u8], high: u8) -> Result<(), Refusal>
     requires { (image_size ≤ length state.old) × (high < 16) }
-    ensures { (result ≡ taken) × (state.new ≡ stored (registers_of state.old with places.awaited ≔ 0 with places.column ≔ high * 16 + get_or state.old places.column 0 % 16 with places.fresh ≔ 1) state.old) }
+    ensures { (number_met result ≡ taken) × (state.new ≡ stored (registers_of state.old with places.awaited ≔ 0 with places.column ≔ high * 16 + get_or state.old places.column 0 % 16 with places.fresh ≔ 1) state.old) }
 {
     let column = state[COLUMN];
     set(state, COLUMN, high * 16 + column % 16)
 }
 
 // AC and AD: the indicator off or on, and its mode.
-fn indicate(state: &mut [u8], indicator: u8, mode: u8) -> u8
+fn indicate(state: &mut [u8], indicator: u8, mode: u8) -> Result<(), Refusal>
     requires { image_size ≤ length state.old }
-    ensures { (result ≡ taken) × (state.new ≡ stored (registers_of state.old with places.awaited ≔ 0 with places.indicator ≔ indicator with places.mode ≔ mode with places.fresh ≔ 1) state.old) }
+    ensures { (number_met result ≡ taken) × (state.new ≡ stored (registers_of state.old with places.awaited ≔ 0 with places.indicator ≔ indicator with places.mode ≔ mode with places.fresh ≔ 1) state.old) }
 {
     state[INDICATOR] = indicator;
     set(state, MODE, mode)
 }
 
 // E0: read-modify-write is entered and the column saved, unless it is entered already.
-fn enter(state: &mut [u8]) -> u8
+fn enter(state: &mut [u8]) -> Result<(), Refusal>
     requires { image_size ≤ length state.old }
-    ensures { (result ≡ taken) × (state.new ≡ stored (enter (registers_of state.old with places.awaited ≔ 0) with places.fresh ≔ 1) state.old) }
+    ensures { (number_met result ≡ taken) × (state.new ≡ stored (enter (registers_of state.old with places.awaited ≔ 0) with places.fresh ≔ 1) state.old) }
 {
     if state[MODIFY] == 1 {
         return set(state, AWAITED, 0);
@@ -108,9 +109,9 @@ fn enter(state: &mut [u8]) -> u8
 }
 
 // EE: read-modify-write is left and the column put back, unless it is left already.
-fn leave(state: &mut [u8]) -> u8
+fn leave(state: &mut [u8]) -> Result<(), Refusal>
     requires { image_size ≤ length state.old }
-    ensures { (result ≡ taken) × (state.new ≡ stored (leave (registers_of state.old with places.awaited ≔ 0) with places.fresh ≔ 1) state.old) }
+    ensures { (number_met result ≡ taken) × (state.new ≡ stored (leave (registers_of state.old with places.awaited ≔ 0) with places.fresh ≔ 1) state.old) }
 {
     if state[MODIFY] == 1 {
         let saved = state[SAVED];
@@ -122,9 +123,9 @@ fn leave(state: &mut [u8]) -> u8
 }
 
 // E2: the registers that a software reset sets.
-fn software_reset(state: &mut [u8]) -> u8
+fn software_reset(state: &mut [u8]) -> Result<(), Refusal>
     requires { image_size ≤ length state.old }
-    ensures { (result ≡ taken) × (state.new ≡ stored (software_reset (registers_of state.old with places.awaited ≔ 0) with places.fresh ≔ 1) state.old) }
+    ensures { (number_met result ≡ taken) × (state.new ≡ stored (software_reset (registers_of state.old with places.awaited ≔ 0) with places.fresh ≔ 1) state.old) }
 {
     state[PAGE] = 0;
     state[COLUMN] = 0;

@@ -16,7 +16,7 @@ use Rattle.bus.specs.Image.{asked}
 use Rattle.bus.specs.Registers.{registers_of}
 use Rattle.bus.specs.Calls.{Called, call}
 use Rattle.bus.specs.declared.registers.Registers.{Registers}
-use Rattle.bus.specs.declared.image.Asked.{Asked}
+use Rattle.bus.specs.Answer.{Asked}
 use Rattle.bus.specs.Bytes.{Bytes}
 use Rattle.bus.proofs.Asking.{found_legal}
 use Rattle.trace.specs.Records.{Trace, ended, cut, ◌then◌, split, records_in}

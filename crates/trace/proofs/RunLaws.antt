@@ -9,7 +9,7 @@ use Rattle.constants.specs.Numbers.{taken}
 use Rattle.bus.specs.Registers.{registers_of}
 use Rattle.bus.specs.Image.{asked, Accepted}
 use Rattle.bus.specs.declared.registers.Registers.{Registers}
-use Rattle.bus.specs.declared.image.Asked.{Asked}
+use Rattle.bus.specs.Answer.{Asked}
 use Rattle.bus.proofs.Asking.{found_legal}
 use Rattle.trace.specs.Records.{split}
 use Rattle.trace.specs.Kinds.{Recorded, chip_of, the_chip}

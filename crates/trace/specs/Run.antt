@@ -2,7 +2,7 @@
 use Rattle.std.specs.Prelude.{ℕ, List}
 use Rattle.bus.specs.Chip.{Chip}
 use Rattle.bus.specs.Image.{asked, stored}
-use Rattle.bus.specs.declared.image.Asked.{Asked}
+use Rattle.bus.specs.Answer.{Asked}
 use Rattle.trace.specs.Records.{split}
 use Rattle.trace.specs.Play.{Played, play}
 use Rattle.trace.specs.Kinds.{chip_of, the_chip}

@@ -9,7 +9,7 @@ use Rattle.constants.specs.Numbers.{too_short}
 use Rattle.constants.specs.Sizes.{memory_size}
 use Rattle.bus.specs.Image.{short, asked_state}
 use Rattle.bus.specs.declared.registers.Registers.{Registers}
-use Rattle.bus.specs.declared.image.Asked.{Asked}
+use Rattle.bus.specs.Answer.{Asked}
 use Rattle.bus.proofs.Legal.{long}
 use Rattle.widebus.specs.Pair.{Pair, Lent}
 use Rattle.widebus.specs.Asked.{any_short, both_found, asked_both}

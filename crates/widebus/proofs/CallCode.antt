@@ -12,8 +12,8 @@ use Rattle.bus.specs.Result.{on_result}
 use Rattle.bus.specs.Calls.{Called, called, reply_of, call}
 use Rattle.bus.specs.CallsOnChip.{imaged_in}
 use Rattle.bus.specs.OnState.{on_state, numbered}
-use Rattle.bus.specs.declared.answer.Answer.{Answer}
-use Rattle.bus.specs.declared.calls.Reply.{Reply}
+use Rattle.bus.specs.Answer.{Answer}
+use Rattle.bus.specs.Answer.{Reply}
 use Rattle.bus.proofs.CallsOnChip.{calls_on_chip}
 use Rattle.bus.proofs.OnState.{on_accepted_lem}
 use Rattle.widebus.specs.Selection.{selection_of, result_of}

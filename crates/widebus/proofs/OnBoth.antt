@@ -18,8 +18,8 @@ use Rattle.bus.specs.Chip.{Event, command_byte, data_written, step}
 use Rattle.bus.specs.Calls.{Called, called, reply_of, state_after, refused, concluded}
 use Rattle.bus.specs.OnState.{on_state, numbered, access_on}
 use Rattle.bus.specs.declared.registers.Registers.{Registers}
-use Rattle.bus.specs.declared.answer.Answer.{Answer}
-use Rattle.bus.specs.declared.image.Asked.{Asked}
+use Rattle.bus.specs.Answer.{Answer}
+use Rattle.bus.specs.Answer.{Asked}
 use Rattle.bus.proofs.Answers.{StandsFor, met_by, step_answers}
 use Rattle.bus.proofs.OnState.{long_state}
 use Rattle.bus.proofs.ThereAndBack.{there_and_back}

@@ -8,7 +8,7 @@ use Rattle.constants.proofs.Settles.{equation}
 use Rattle.bus.specs.Chip.{Chip}
 use Rattle.bus.specs.Result.{Result, on_result}
 use Rattle.bus.specs.Stretch.{Stretched}
-use Rattle.bus.specs.declared.calls.Reply.{Reply}
+use Rattle.bus.specs.Answer.{Reply}
 use Rattle.widebus.specs.Selection.{result_of}
 use Rattle.widebus.specs.Pair.{Pair, both_lent}
 use Rattle.widebus.specs.Page.{Handed}

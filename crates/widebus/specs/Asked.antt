@@ -2,7 +2,7 @@
 use Rattle.std.specs.Prelude.{Bool, cond, ◌||◌}
 use Rattle.constants.specs.Numbers.{too_short}
 use Rattle.bus.specs.Image.{short, asked_state}
-use Rattle.bus.specs.declared.image.Asked.{Asked}
+use Rattle.bus.specs.Answer.{Asked}
 use Rattle.widebus.specs.Pair.{Pair, Lent}
 use Rattle.widebus.specs.declared.both.BothAsked.{BothAsked}
 

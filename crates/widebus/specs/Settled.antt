@@ -4,7 +4,7 @@ use Rattle.constants.specs.Settles.{Settles}
 use Rattle.bus.specs.Chip.{command_byte, data_written, data_read, reset_pulse}
 use Rattle.bus.specs.Recorded.{recorded_command, recorded_write}
 use Rattle.bus.specs.Stretch.{stretch}
-use Rattle.bus.specs.declared.calls.Reply.{Reply}
+use Rattle.bus.specs.Answer.{Reply}
 use Rattle.widebus.specs.Selection.{selection_of, result_of}
 use Rattle.widebus.specs.Pair.{both_lent, chips_of}
 use Rattle.widebus.specs.Asked.{asked_both}

@@ -3,7 +3,7 @@ use Rattle.std.specs.Prelude.{ℕ, false, cond, List, eqb}
 use Rattle.constants.specs.Numbers.{taken}
 use Rattle.bus.specs.Image.{stored}
 use Rattle.bus.specs.declared.registers.Registers.{Registers}
-use Rattle.bus.specs.declared.calls.Reply.{Reply}
+use Rattle.bus.specs.Answer.{Reply}
 use Rattle.bus.specs.Chip.{Chip}
 use Rattle.bus.specs.Stretch.{Stretched, stretched}
 use Rattle.widebus.specs.Pair.{Pair, chips_of}
