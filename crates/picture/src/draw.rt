@@ -1,5 +1,6 @@
 // The calls that draw: a whole frame, lent state image, memory and frame; and one row of it.
 ghost use Rattle.std.specs.Prelude.{◌≡◌};
+ghost use Rattle.constants.specs.Refusals.{number_met};
 ghost use Rattle.picture.specs.Frame.{frame};
 ghost use Rattle.picture.specs.Draw.{drawn, draw};
 ghost use Rattle.picture.specs.DrawLine.{draw_line};
@@ -7,27 +8,24 @@ ghost use Rattle.picture.specs.DrawLine.{draw_line};
 use crate::row::draw_row;
 use crate::rows::PanelRow;
 use crate::whole::draw_whole;
-use bus::image::{Asked, ask};
+use bus::image::ask;
 use bus::registers::Registers;
-use constants::refusal::{TAKEN, TOO_SHORT};
+use constants::refusal::Refusal;
 use constants::sizes::{FRAME_ROWS, FRAME_SIZE, HEIGHT, MEMORY_SIZE, WIDTH};
 
 // Draws the frame, or refuses and writes nothing.
-pub fn draw(state: &[u8], memory: &[u8], frame: &mut [u8]) -> u8
-    ensures { drawn result frame.new ≡ draw state.now memory.now frame.old }
+pub fn draw(state: &[u8], memory: &[u8], frame: &mut [u8]) -> Result<(), Refusal>
+    ensures { drawn (number_met result) frame.new ≡ draw state.now memory.now frame.old }
 {
     let Some(places) = frame.first_chunk_mut() else {
-        return TOO_SHORT;
+        return Err(Refusal::TooShort);
     };
-    let registers = match ask(state, memory) {
-        Asked::Found(registers) => registers,
-        Asked::Refused(number) => return number,
-    };
+    let registers = ask(state, memory)?;
     let Some(memory) = memory.first_chunk() else {
-        return TOO_SHORT;
+        return Err(Refusal::TooShort);
     };
     draw_frame(registers, memory, places);
-    TAKEN
+    Ok(())
 }
 
 // Draws the frame. Bits are drawn with all rows in view; each row of one shade by itself, which the compiler makes one fill of them.

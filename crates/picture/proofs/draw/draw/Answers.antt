@@ -5,6 +5,7 @@ use Prim.Native.Nat.{ℕ}
 use native.Mathlib.Omega.{arith}
 use borrow.Author.Tests.{lt-ltb, le-ltb}
 use lib.ListN.{take, drop, take-append-drop}
+use Rattle.std.proofs.lemmas.Result.{err_from_is_err_and}
 use Rattle.bus.proofs.Legal.{long}
 use Rattle.picture.specs.Draw.{draw, draw_on}
 use Rattle.bus.proofs.Asking.{found_legal}
@@ -19,20 +20,20 @@ pub returns-in_default : goal.returns-in_default
 unfolding draw
 returns-in_default c = rw (lt-ltb _ _ c.in_default.ensures.cases)
 
-pub returns-in-Refused : goal.returns-in-Refused
+pub returns-in_err-registers : goal.returns-in_err-registers
 unfolding draw draw_on
-returns-in-Refused c =
+returns-in_err-registers c =
     let first = c.in-Some.ensures.cases in
-    rw (le-ltb _ _ first.enough, ← c.ask.ensures, c.in-Refused.is, put_back _ c.args.frame.now first.same)
+    let p = err_from_is_err_and c.from_residual.result c.from_residual.ensures.1 in
+    rw (p.1, p.2, le-ltb _ _ first.enough, ← c.in_err-registers.ensures, put_back _ c.args.frame.now first.same)
 
 pub returns-in_default-first_chunk : goal.returns-in_default-first_chunk
 returns-in_default-first_chunk c =
     let a = c.args in
-    let found = found_legal a.state.now a.memory.now (sym c.ask.ensures ∙ c.in-Found.is) in
+    let found = found_legal a.state.now a.memory.now (sym c.in_ok-registers.ensures) in
     absurd (omega (arith, (long a.state.now a.memory.now found.0).1, c.in_default-first_chunk.ensures.cases))
 
 pub returns : goal.returns
 unfolding draw draw_on
 returns c =
-    let a = c.args in
-    rw (le-ltb _ _ c.in-Some.ensures.cases.enough, ← c.ask.ensures, c.in-Found.is, c.draw_frame.ensures, c.in-Some-first_chunk.ensures.cases.same, frame_first c.in-Found.registers a.memory.now)
+    rw (le-ltb _ _ c.in-Some.ensures.cases.enough, ← c.in_ok-registers.ensures, c.draw_frame.ensures, c.in-Some-first_chunk.ensures.cases.same, frame_first c.in_ok-registers.registers c.args.memory.now)
