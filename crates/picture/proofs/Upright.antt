@@ -65,19 +65,19 @@ byte_turned byte k (suc (suc reverse)) l m = absurd (omega arith)
 
 -- the bits of a RAM row, made of the page that it lies in: as some registers show it, and of a memory that is upright
 pub row_bits : (r : Registers) (memory : List ℕ) (row : RamRow) {page b : ℕ} {shown bits : List ℕ} → page ≡ row.0 / 8 → b ≡ row.0 % 8
-    → shown ≡ line width (λ x. bit_xor (get_or memory (address page (column_of width r.column_direction x)) 0) (255 * bit_and r.reverse 1)) → bits ≡ line width (λ x. get_or shown x 0 / 2 ^ b % 2) → bits ≡ line width (shown_bit r memory row)
-unfolding bit shown_bit turned
+    → shown ≡ line width (upright_byte r.column_direction (bit_and r.reverse 1) memory page) → bits ≡ line width (λ x. get_or shown x 0 / 2 ^ b % 2) → bits ≡ line width (shown_bit r memory row)
+unfolding bit shown_bit turned upright_byte
 row_bits r memory row {page = page} p q s made =
     made ∙
-    line_same width _ _ (λ x h. rw (s, line_at width (λ x. bit_xor (get_or memory (address page (column_of width r.column_direction x)) 0) (255 * bit_and r.reverse 1)) x h, p, q, and_mask r.reverse 1)
+    line_same width _ _ (λ x h. rw (s, line_at width (upright_byte r.column_direction (bit_and r.reverse 1) memory page) x h, p, q, and_mask r.reverse 1)
     (byte_turned (get_or memory (address (row.0 / 8) (column_of width r.column_direction x)) 0) (row.0 % 8) (r.reverse % 2) (omega arith) (omega arith) ∙ rw (turned, add-mod-mod)))
 
 pub upright_bits : (upright : List ℕ) (row : RamRow) {page b : ℕ} {shown bits : List ℕ} → page ≡ row.0 / 8 → b ≡ row.0 % 8
-    → shown ≡ line width (λ x. bit_xor (get_or upright (address page (column_of width 0 x)) 0) 0) → bits ≡ line width (λ x. get_or shown x 0 / 2 ^ b % 2) → bits ≡ line width (bit address upright row)
-unfolding bit column_of
+    → shown ≡ line width (upright_byte 0 0 upright page) → bits ≡ line width (λ x. get_or shown x 0 / 2 ^ b % 2) → bits ≡ line width (bit address upright row)
+unfolding bit column_of upright_byte
 upright_bits upright row {page = page} p q s made =
     made ∙
-    line_same width _ _ (λ x h. rw (s, line_at width (λ x. bit_xor (get_or upright (address page (column_of width 0 x)) 0) 0) x h, p, q, xor_zero_r (get_or upright (address (row.0 / 8) x) 0)))
+    line_same width _ _ (λ x h. rw (s, line_at width (upright_byte 0 0 upright page) x h, p, q, xor_zero_r (get_or upright (address (row.0 / 8) x) 0)))
 
 -- a memory that is upright for some registers: its bits are what the registers show
 abbrev pub Upright : Registers → List ℕ → List ℕ → Type 0

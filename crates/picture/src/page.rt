@@ -1,19 +1,26 @@
 // One page of a memory as it is shown, and the bits of a RAM row, which lie in it.
 ghost use Rattle.std.specs.Prelude.{◌≡◌, ◌<◌, ◌/◌, ◌%◌, ◌^◌, get_or};
-ghost use Rattle.std.specs.Int.Bits.{bit_xor};
 ghost use Rattle.constants.specs.Sizes.{width, pages};
-ghost use Rattle.bus.specs.Memory.{address};
-ghost use Rattle.picture.specs.Scan.{column_of};
 ghost use Rattle.picture.specs.Frame.{line};
+ghost use Rattle.picture.specs.Upright.{upright_byte};
 
 use constants::sizes::{MEMORY_SIZE, WIDTH};
 use std::array;
 
-// A page as it is shown from left to right, some bits of each byte turned round.
-pub fn shown_page(memory: &[u8; MEMORY_SIZE], page: u8, direction: u8, flip: u8) -> [u8; WIDTH]
-    requires { page < pages }
-    ensures { result ≡ line width (λ x. bit_xor (get_or memory.now (address page (column_of width direction x)) 0) flip) }
+// All bits of a byte.
+const ALL_BITS: u8 = 255;
+
+// A page as it is shown from left to right, all bits turned round where reverse is 1.
+pub fn shown_page(
+    memory: &[u8; MEMORY_SIZE],
+    page: u8,
+    direction: u8,
+    reverse: u8,
+) -> [u8; WIDTH]
+    requires { (page < pages) × (reverse < 2) }
+    ensures { result ≡ line width (upright_byte direction reverse memory.now page) }
 {
+    let flip = ALL_BITS * reverse;
     let first = usize::from(page) * WIDTH;
     if direction == 0 {
         return array::from_fn(|x| memory[first + x] ^ flip);

@@ -6,15 +6,9 @@ ghost use Rattle.picture.specs.Rows.{scan_of};
 ghost use Rattle.picture.specs.Frame.{segment, shown_bit, line};
 
 use crate::page::{bits_of, shown_page};
-use crate::rows::{PanelRow, RamRow, row_shows};
+use crate::rows::{ALL_ROWS, PanelRow, RamRow, row_shows};
 use bus::registers::Registers;
-use constants::sizes::{HEIGHT, MEMORY_SIZE, WIDTH};
-
-// The multiplex with which all 64 rows are in use.
-pub const ALL_ROWS: u8 = HEIGHT - 1;
-
-// All bits of a byte.
-pub const ALL_BITS: u8 = 255;
+use constants::sizes::{MEMORY_SIZE, WIDTH};
 
 // Draws one row of the frame into its own 132 bytes. Where all 64 rows are in use entire on lights every one, and the rule is not asked (DECISIONS 38).
 pub fn draw_row(
@@ -53,7 +47,7 @@ fn shown_bits(registers: Registers, memory: &[u8; MEMORY_SIZE], row: RamRow) -> 
     requires { row.0 ≤ height }
     ensures { result ≡ line width (shown_bit registers memory.now row) }
 {
-    let flip = ALL_BITS * (registers.reverse & 1);
-    let page = shown_page(memory, row.page(), registers.column_direction, flip);
+    let reverse = registers.reverse & 1;
+    let page = shown_page(memory, row.page(), registers.column_direction, reverse);
     bits_of(&page, row.bit())
 }

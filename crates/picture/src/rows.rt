@@ -8,6 +8,9 @@ ghost use Rattle.picture.specs.Shown.{shown_of};
 use bus::registers::Registers;
 use constants::sizes::HEIGHT;
 
+// The multiplex with which all 64 rows are in use.
+pub const ALL_ROWS: u8 = HEIGHT - 1;
+
 // A panel row, counted from the top of the glass; the icon line comes after the last.
 #[derive(Clone, Copy)]
 pub struct PanelRow(pub u8);

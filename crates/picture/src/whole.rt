@@ -6,7 +6,6 @@ ghost use Rattle.picture.specs.Frame.{line, grid, frame};
 ghost use Rattle.picture.specs.Upright.{upright_byte, WithinRam, RowsOf, seen};
 
 use crate::page::{bits_of, shown_page};
-use crate::row::ALL_BITS;
 use crate::rows::{PanelRow, RamRow, row_shows};
 use bus::registers::Registers;
 use constants::sizes::{FRAME_ROWS, FRAME_SIZE, MEMORY_SIZE, PAGES, WIDTH};
@@ -41,7 +40,7 @@ fn rows_shown(registers: Registers) -> [Option<RamRow>; FRAME_ROWS]
     array::from_fn(|y| row_shows(registers, PanelRow(y as u8)))
 }
 
-// Brings each page upright, shades turned round where reverse is 1. A loop over `chunks_exact_mut` would leave nothing known of the pages.
+// Brings each page upright. The part is cut by hand: after a loop over `chunks_exact_mut` a proof knows no byte of the pages.
 fn bring_upright(
     direction: u8,
     reverse: u8,
@@ -51,11 +50,10 @@ fn bring_upright(
     requires { reverse < 2 }
     ensures { upright.new ≡ grid width pages (upright_byte direction reverse memory.now) }
 {
-    let flip = ALL_BITS * reverse;
     for p in 0..PAGES {
         let start = usize::from(p) * WIDTH;
         let end = start + WIDTH;
-        upright[start..end].copy_from_slice(&shown_page(memory, p, direction, flip));
+        upright[start..end].copy_from_slice(&shown_page(memory, p, direction, reverse));
     }
 }
 

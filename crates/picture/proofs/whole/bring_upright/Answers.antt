@@ -13,7 +13,6 @@ unfolding grid
 loop-p-init c = (omega arith, refl)
 
 pub loop-p-preserved : goal.loop-p-preserved
-unfolding upright_byte
 loop-p-preserved c =
     let a = c.args in
     let p = c.loop-p.p in
