@@ -10,7 +10,8 @@ use std::array;
 // All bits of a byte.
 const ALL_BITS: u8 = 255;
 
-// A page as it is shown from left to right, all bits turned round where reverse is 1.
+// A page as it is shown from left to right, all bits turned round where reverse is 1. Put into its callers, where it is no array in memory.
+#[inline(always)]
 pub fn shown_page(
     memory: &[u8; MEMORY_SIZE],
     page: u8,
@@ -30,6 +31,7 @@ pub fn shown_page(
 }
 
 // A bit of each byte of a page. With the bit known where it is drawn 16 places are drawn at once; with the bit as a number a frame takes 12 % longer.
+#[inline(always)]
 pub fn bits_of(page: &[u8; WIDTH], bit: u8) -> [u8; WIDTH]
     requires { bit < 8 }
     ensures { result ≡ line width (λ x. get_or page.now x 0 / 2 ^ bit % 2) }

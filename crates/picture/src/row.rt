@@ -10,7 +10,8 @@ use crate::rows::{ALL_ROWS, PanelRow, RamRow, row_shows};
 use bus::registers::Registers;
 use constants::sizes::{MEMORY_SIZE, WIDTH};
 
-// Draws one row of the frame into its own 132 bytes. Where all 64 rows are in use entire on lights every one, and the rule is not asked (DECISIONS 38).
+// Draws one row of the frame into its own 132 bytes. Where all 64 rows are in use entire on lights every one, and the rule is not asked (DECISIONS 38). Put into its callers' loops, so that rows of one shade become one fill.
+#[inline(always)]
 pub fn draw_row(
     registers: Registers,
     memory: &[u8; MEMORY_SIZE],
@@ -43,6 +44,7 @@ pub fn draw_row(
 }
 
 // The bits of a RAM row as they are shown, its columns in the column direction.
+#[inline(always)]
 fn shown_bits(registers: Registers, memory: &[u8; MEMORY_SIZE], row: RamRow) -> [u8; WIDTH]
     requires { row.0 ≤ height }
     ensures { result ≡ line width (shown_bit registers memory.now row) }

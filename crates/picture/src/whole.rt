@@ -21,16 +21,11 @@ pub fn draw_whole(
     ensures { places.new ≡ frame registers memory.now }
 {
     let rows = rows_shown(registers);
-    let reverse = registers.reverse & 1;
-    if registers.column_direction == 0 {
-        if reverse == 0 {
-            draw_upright(&rows, memory, places);
-            return;
-        }
+    if registers.column_direction == 0 && registers.reverse & 1 == 0 {
+        draw_upright(&rows, memory, places);
+    } else {
+        draw_turned(registers, &rows, memory, places);
     }
-    let mut upright = [0; MEMORY_SIZE];
-    bring_upright(registers.column_direction, reverse, memory, &mut upright);
-    draw_upright(&rows, &upright, places);
 }
 
 // The RAM row that each row of the frame shows, or none.
@@ -38,6 +33,22 @@ fn rows_shown(registers: Registers) -> [Option<RamRow>; FRAME_ROWS]
     ensures { RowsOf registers result }
 {
     array::from_fn(|y| row_shows(registers, PanelRow(y as u8)))
+}
+
+// Draws the frame of a memory that is not upright as it lies. A function of its own, so that only such frames clear an array.
+fn draw_turned(
+    registers: Registers,
+    rows: &[Option<RamRow>; FRAME_ROWS],
+    memory: &[u8; MEMORY_SIZE],
+    places: &mut [u8; FRAME_SIZE],
+)
+    requires { (registers.on ≢ 0) × (registers.entire ≢ 1) × RowsOf registers rows.now }
+    ensures { places.new ≡ frame registers memory.now }
+{
+    let mut upright = [0; MEMORY_SIZE];
+    let reverse = registers.reverse & 1;
+    bring_upright(registers.column_direction, reverse, memory, &mut upright);
+    draw_upright(rows, &upright, places);
 }
 
 // Brings each page upright. The part is cut by hand: after a loop over `chunks_exact_mut` a proof knows no byte of the pages.
