@@ -6,7 +6,6 @@ use native.Mathlib.Omega.{arith}
 use borrow.Author.Tests.{eqb-false}
 use lib.ListN.{length, get_or, take, drop, length-drop}
 use lib.Seq.{drop-drop}
-use Rattle.constants.specs.Sizes.{width}
 use Rattle.constants.specs.Numbers.{taken}
 use Rattle.bus.specs.Places.{column}
 use Rattle.bus.specs.Registers.{◌with◌≔◌}
@@ -20,9 +19,6 @@ use Rattle.bus.proofs.SideBySide.{length_part, in_part}
 use Rattle.bus.proofs.PieceLaws.{read_piece, still_allowed, part_given}
 use Rattle.bus.proofs.pieces.Reading.pass_round.Goals as goal
 
-pub loop-memory-init : goal.loop-memory-init
-loop-memory-init c = let s = c.args.self in (0, omega arith, refl, s.allowed, s.no_dummy, c.requires, all_left replay read_as c.args.bytes.now _)
-
 pub piece_size-requires : goal.piece_size-requires
 piece_size-requires c = let some = eqb-false _ _ (sym c.is_empty.ensures ∙ c.loop-memory-test.true) in ((opened _ _ c.loop-memory.invariant.3).column, omega (arith, some))
 
@@ -31,15 +27,6 @@ overflow_add-to c = let o = opened _ _ c.loop-memory.invariant.3 in omega (arith
 
 pub slice_bounds-agree-end : goal.slice_bounds-agree-end
 slice_bounds-agree-end c = let o = opened _ _ c.loop-memory.invariant.3 in omega (arith, c.address-from.ensures, o.page, o.column, o.enough, c.split_at.ensures.front_len)
-
-pub agree-requires : goal.agree-requires
-agree-requires c =
-    let loop = c.loop-memory in
-    let from = c.address-from.result in
-    let size = length c.split_at.result.0.now in
-    let o = opened _ _ loop.invariant.3 in
-    let places = length_part c.args.self.memory.now from (from + size - from) (omega (arith, c.address-from.ensures, o.page, o.column, o.enough, c.split_at.ensures.front_len)) in
-    omega (arith, places)
 
 pub loop-memory-preserved : goal.loop-memory-preserved
 loop-memory-preserved c =
@@ -70,14 +57,3 @@ loop-memory-preserved c =
       loop.invariant.5,
       loop.invariant.6 ∙ part_given replay read_as bytes at n inside _ _ read,
     )
-
-pub overflow_sub-result : goal.overflow_sub-result
-overflow_sub-result c = let at = c.loop-memory.invariant.0 in omega (arith, ap length c.loop-memory.invariant.2, length-drop at c.args.bytes.now)
-
-pub returns : goal.returns
-returns c =
-    let loop = c.loop-memory in
-    let bytes = c.args.bytes.now in
-    let at = loop.invariant.0 in
-    let count : at ≡ length bytes - length loop.left.now = omega (arith, ap length loop.invariant.2, length-drop at bytes, loop.invariant.1) in
-    (omega arith, loop.invariant.6 ∙ ap (λ k. reads_from k bytes (chip_of loop.registers c.args.self.memory.now)) count)
