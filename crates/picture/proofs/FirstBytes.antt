@@ -1,10 +1,10 @@
 -- Drawing asks the 1,188 bytes of a memory, and none that follow them.
 -- Assumes nothing.
 use mathlib.Core.Path.{◌≡◌, refl}
-use mathlib.Core.List.{List}
+use mathlib.Core.List.{List, ◌++◌}
 use Prim.Native.Nat.{ℕ, ◌/◌, ◌<◌}
 use native.Mathlib.Omega.{arith}
-use lib.ListN.{take}
+use lib.ListN.{take, drop, take-append-drop}
 use lib.Seq.{get_or-take}
 use Rattle.constants.specs.Sizes.{width, memory_size, height, frame_rows}
 use Rattle.bus.specs.Memory.{address}
@@ -18,6 +18,10 @@ use Rattle.picture.specs.declared.rows.PanelRow.{PanelRow}
 use Rattle.picture.proofs.Lines.{line_same, grid_same}
 use Rattle.picture.proofs.RamRows.{shows_within}
 use Rattle.picture.proofs.Upright.{column_within}
+
+-- a part that is as it was lent leaves all as it was
+pub put_back : (n : ℕ) (was : List ℕ) {part : List ℕ} → part ≡ take n was → part ++ drop n was ≡ was
+put_back n was e = rw e (take-append-drop n was)
 
 module _ (r : Registers) (memory : List ℕ) where
   segment_first : (shown : Shown) (x : ℕ) → WithinRam height shown → x < width → segment r (take memory_size memory) shown x ≡ segment r memory shown x

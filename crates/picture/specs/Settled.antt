@@ -1,7 +1,6 @@
 -- Any two results that satisfy what a public call of this crate states are equal: its answer, and what it leaves of the lent frame. A field has the name of its call.
-use Rattle.std.specs.Prelude.{ℕ, ◌≡◌, List, Option, Result}
-use Rattle.constants.specs.Refusals.{number_met}
-use Rattle.constants.specs.declared.refusal.Refusal.{Refusal}
+use Rattle.std.specs.Prelude.{ℕ, ◌≡◌, List, Option}
+use Rattle.constants.specs.Refusals.{Met, number_met}
 use Rattle.bus.specs.declared.registers.Registers.{Registers}
 use Rattle.picture.specs.Scan.{row_shows}
 use Rattle.picture.specs.Rows.{scan_of}
@@ -14,7 +13,7 @@ use Rattle.constants.specs.Settles.{Settles}
 
 pub record Settled : Type 0 where
   -- result, frame
-  pub «draw::draw» : (state memory was : List ℕ) → Settles (λ (o : Result Unit Refusal × List ℕ). drawn (number_met o.0) o.1 ≡ draw state memory was)
+  pub «draw::draw» : (state memory was : List ℕ) → Settles (λ (o : Met × List ℕ). drawn (number_met o.0) o.1 ≡ draw state memory was)
   -- the lent part
   pub draw::draw_line : (r : Registers) (memory : List ℕ) (row : PanelRow) (was : List ℕ) → Settles (λ (later : List ℕ). later ≡ draw_line r memory row was)
   pub rows::row_shows : (r : Registers) (row : PanelRow) → Settles (λ (shown : Option RamRow). shown_of shown ≡ row_shows (scan_of r) row)

@@ -9,12 +9,8 @@ use Rattle.std.proofs.lemmas.Result.{err_from_is_err_and}
 use Rattle.bus.proofs.Legal.{long}
 use Rattle.picture.specs.Draw.{draw, draw_on}
 use Rattle.bus.proofs.Asking.{found_legal}
-use Rattle.picture.proofs.FirstBytes.{frame_first}
+use Rattle.picture.proofs.FirstBytes.{frame_first, put_back}
 use Rattle.picture.proofs.draw.draw.Goals as goal
-
--- a part that is as it was lent leaves all as it was
-put_back : (n : ℕ) (was : List ℕ) {part : List ℕ} → part ≡ take n was → part ++ drop n was ≡ was
-put_back n was e = rw e (take-append-drop n was)
 
 pub returns-in_default : goal.returns-in_default
 unfolding draw
