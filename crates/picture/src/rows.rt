@@ -44,7 +44,7 @@ impl PanelRow {
     fn belongs_to(self, registers: Registers) -> Com
         ensures { result ≡ com_of (scan_of registers) self }
     {
-        let sum = (self.0 as u16) + shifted_by(registers);
+        let sum = u16::from(self.0) + shifted_by(registers);
         Com(around(sum))
     }
 }
@@ -63,11 +63,11 @@ impl Com {
         ensures { result ≡ ram_row_of (scan_of registers) self }
     {
         if registers.row_direction == 0 {
-            let sum = (registers.start as u16) + (self.0 as u16);
+            let sum = u16::from(registers.start) + u16::from(self.0);
             return RamRow(around(sum));
         }
         let turned = self.turned_round(registers.multiplex);
-        let sum = (registers.start as u16) + (turned.0 as u16);
+        let sum = u16::from(registers.start) + u16::from(turned.0);
         RamRow(around(sum))
     }
 
@@ -98,14 +98,14 @@ pub fn row_shows(registers: Registers, row: PanelRow) -> Option<RamRow>
 fn shifted_by(registers: Registers) -> u16
     ensures { result ≡ shift registers }
 {
-    (registers.offset as u16) + rows_not_above(registers)
+    u16::from(registers.offset) + rows_not_above(registers)
 }
 
 // The panel rows that are not above the band where the offset is 0, which is 64 - t: half of 64 + M, rounded up. As a sum it is worked out once a frame (DECISIONS 104).
 fn rows_not_above(registers: Registers) -> u16
     ensures { result ≡ height - rows_above registers }
 {
-    let panel_rows = HEIGHT as u16;
+    let panel_rows = u16::from(HEIGHT);
     let in_use = rows_in_use(registers);
     if in_use < panel_rows {
         return (panel_rows + in_use + 1) >> 1;
@@ -117,14 +117,14 @@ fn rows_not_above(registers: Registers) -> u16
 fn rows_in_use(registers: Registers) -> u16
     ensures { result ≡ rows_in_use registers }
 {
-    (registers.multiplex as u16) + 1
+    u16::from(registers.multiplex) + 1
 }
 
 // A row counted on past the last panel row comes round to the first. Its low byte comes to the same row, since 256 is four times round, and from there two steps are enough (DECISIONS 165).
 fn around(row: u16) -> u8
     ensures { result ≡ row % height }
 {
-    let panel_rows = HEIGHT as u16;
+    let panel_rows = u16::from(HEIGHT);
     let twice = panel_rows + panel_rows;
     let low = row & 0xFF;
     let left = once_around(low, twice);
