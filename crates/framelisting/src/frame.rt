@@ -50,6 +50,7 @@ fn put_header(text: &mut [u8], at: usize, width: usize) -> usize
 }
 
 // Puts the lines of the 65 rows.
+#[tactic(auto, using(crate::proofs::RowsOfFrame::within))]
 fn put_lines(text: &mut [u8], at: usize, width: usize, frame: &[u8]) -> usize
     requires width_in_bounds { frame_rows * width ≤ length frame.now }
     requires countable { Countable at (lines width frame.now frame_rows 0) }
