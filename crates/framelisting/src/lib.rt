@@ -15,24 +15,14 @@ mod row;
 mod text;
 
 // Lists a frame into a lent buffer, after a stopped run's number and offset, and answers the text's length; number 0 is taken, and says nothing of a run.
-pub fn list(
-    number: u8,
-    offset: usize,
-    frame: &[u8],
-    text: &mut [u8],
-) -> Result<usize, Refusal>
+pub fn list(number: u8, offset: usize, frame: &[u8], text: &mut [u8]) -> Result<usize, Refusal>
     ensures { outcome (listed_of result) text.new ≡ listed number offset frame.now text.old }
 {
     list_across::<WIDTH, LONGEST_LISTING>(number, offset, frame, text)
 }
 
 // Lists a wide frame in the same way.
-pub fn list_wide(
-    number: u8,
-    offset: usize,
-    frame: &[u8],
-    text: &mut [u8],
-) -> Result<usize, Refusal>
+pub fn list_wide(number: u8, offset: usize, frame: &[u8], text: &mut [u8]) -> Result<usize, Refusal>
     ensures { outcome (listed_of result) text.new ≡ listed_wide number offset frame.now text.old }
 {
     list_across::<WIDE_WIDTH, LONGEST_WIDE_LISTING>(number, offset, frame, text)

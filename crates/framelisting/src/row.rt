@@ -85,6 +85,7 @@ fn put_run(text: &mut [u8], at: usize, first: usize, last: usize) -> usize
 }
 
 // Puts a run of places of up to three digits where the buffer has room for it.
+#[tactic(auto, using(crate::proofs::SmallNumbers::small_length))]
 fn put_small_run(text: &mut [u8], at: usize, first: usize, last: usize) -> usize
     requires { (first < 1000) × (last < 1000) × (at + 8 ≤ length text.old) }
     ensures { Put text.old at (run_text (record { first = first; last = last })) result text.new }

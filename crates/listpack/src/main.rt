@@ -5,7 +5,7 @@ mod pack;
 
 use constants::sizes::LONGEST_LISTING;
 use pack::{Entry, HEADER_SIZE, entry_at, hung_by};
-use standardinput::{Input, read_input};
+use standardinput::read_input;
 use std::io;
 
 // Bytes of the longest pack.
@@ -13,8 +13,7 @@ const LONGEST_PACK: usize = 131072;
 
 fn main(rt: HostRuntime) {
     let mut pack = [0u8; LONGEST_PACK + 1];
-    let read = read_input(rt.stdin(), &mut pack);
-    let Input::Read(count) = read else {
+    let Ok(count) = read_input(rt.stdin(), &mut pack) else {
         let _ = eprintln!(rt; "listpack: standard input cannot be read");
         return;
     };

@@ -9,7 +9,6 @@ ghost use Rattle.tracelisting.specs.TraceListing.{listing_of_trace, text_for, pr
 
 use bus::start::Hung;
 use constants::sizes::{FRAME_SIZE, IMAGE_SIZE, LONGEST_LISTING, LONGEST_TRACE, MEMORY_SIZE};
-use framelisting::Listed;
 
 // Puts what the listing program prints for its input, from the start as the module hangs, into a buffer that is long enough for any listing, and answers the text's length.
 pub fn list_input(hung: Hung, input: &[u8], text: &mut [u8]) -> usize
@@ -34,10 +33,7 @@ fn list_trace(hung: Hung, trace: &[u8], text: &mut [u8]) -> usize
     bus::start::start(hung, &mut state, &mut memory);
     let stop = trace::run::run(&mut state, &mut memory, trace);
     picture::draw::draw(&state, &memory, &mut frame);
-    match framelisting::list(stop.number, stop.offset, &frame, text) {
-        Listed::Written(length) => length,
-        Listed::Refused(_) => 0,
-    }
+    framelisting::list(stop.number, stop.offset, &frame, text).unwrap_or(0)
 }
 
 // Puts a line into such a buffer, and answers its length.
@@ -48,10 +44,6 @@ fn put_notice(line: &[u8], text: &mut [u8]) -> usize
     if text.len() < LONGEST_LISTING {
         return 0;
     }
-    let mut i = 0;
-    while i < line.len() {
-        text[i] = line[i];
-        i += 1;
-    }
-    i
+    text[..line.len()].copy_from_slice(line);
+    line.len()
 }
