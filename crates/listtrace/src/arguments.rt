@@ -11,7 +11,7 @@ pub fn start_asked(count: usize, word: &[u8]) -> Option<Hung>
     if count < 2 {
         return Some(Hung::UpsideDown);
     }
-    if count == 2 && word == b"--upright" {
+    if count == 2 && word == b"--upright".as_slice() {
         return Some(Hung::Upright);
     }
     None
