@@ -34,11 +34,11 @@ fn list_pack(rt: &impl Print, pack: &[u8]) -> io::Result<()> {
 // Lists the entries of a pack in turn. The last line says how many there are, or where the pack is cut.
 fn list_entries(rt: &impl Print, pack: &[u8]) -> io::Result<()> {
     let mut at = 0;
-    let mut count = 0;
+    let mut count = 0usize;
     loop {
         match entry_at(pack, at) {
-            Entry::Nothing => return print_count(rt, count),
-            Entry::Cut => return print_cut(rt, at),
+            Entry::Nothing => return println!(rt; "{count} traces"),
+            Entry::Cut => return println!(rt; "pack cut short at {at}"),
             Entry::Whole(sizes) => {
                 let name = at + HEADER_SIZE;
                 let trace = name + sizes.name;
@@ -59,14 +59,4 @@ fn list_entry(rt: &impl Print, name: &[u8], trace: &[u8]) -> io::Result<()> {
     rt.write_all(name)?;
     rt.write_all(b"\n")?;
     rt.write_all(&text[..length])
-}
-
-// Ends the listing of a whole pack.
-fn print_count(rt: &impl Print, count: usize) -> io::Result<()> {
-    println!(rt; "{count} traces")
-}
-
-// Ends the listing of a pack that is cut short at an offset.
-fn print_cut(rt: &impl Print, at: usize) -> io::Result<()> {
-    println!(rt; "pack cut short at {at}")
 }

@@ -24,6 +24,7 @@ pub enum Entry {
 }
 
 // What stands at an offset of the pack: a header's eight bytes are the length of the name and that of the trace, both little-endian.
+#[tactic(auto, unfolding(crate::specs::Pack::entry_of))]
 pub fn entry_at(pack: &[u8], at: usize) -> Entry
     ensures { result ≡ entry_of (drop at pack.now) }
 {

@@ -10,11 +10,11 @@ use Rattle.listpack.proofs.list_entries.Goals as goal
 use Rattle.listpack.proofs.list_entries.Goals.{In-Whole}
 
 -- the entry at the loop's offset is within the pack
-fits : (g : given.Over) (d : In-Whole g) → d.loop-sizes.at + header_size + d.in-Whole.sizes.name + d.in-Whole.sizes.trace ≤ length d.args.pack.now
-fits g d = within d.args.pack.now d.loop-sizes.at d.in-Whole.sizes (sym d.entry_at.ensures ∙ d.in-Whole.is)
+fits : (g : given.Over) (d : In-Whole g) → d.loop-count.at + header_size + d.in-Whole.sizes.name + d.in-Whole.sizes.trace ≤ length d.args.pack.now
+fits g d = within d.args.pack.now d.loop-count.at d.in-Whole.sizes (sym d.entry_at.ensures ∙ d.in-Whole.is)
 
-pub loop-sizes-init : goal.loop-sizes-init
-loop-sizes-init g c = (omega arith, omega arith)
+pub loop-count-init : goal.loop-count-init
+loop-count-init g c = (omega arith, omega arith)
 
 pub overflow_add-name : goal.overflow_add-name
 overflow_add-name g c = omega (arith, fits g (goal.at.overflow_add-name g c).In-Whole)
@@ -34,8 +34,8 @@ slice_bounds-list_entry-end-in-Whole g c = omega (arith, fits g (goal.at.slice_b
 pub overflow_add-count : goal.overflow_add-count
 overflow_add-count g c = omega (arith, fits g (goal.at.overflow_add-count g c).In-Whole)
 
-pub loop-sizes-smaller : goal.loop-sizes-smaller
-loop-sizes-smaller g c = omega (arith, fits g (goal.at.loop-sizes-smaller g c).In-Whole)
+pub loop-count-smaller : goal.loop-count-smaller
+loop-count-smaller g c = omega (arith, fits g (goal.at.loop-count-smaller g c).In-Whole)
 
-pub loop-sizes-preserved : goal.loop-sizes-preserved
-loop-sizes-preserved g c = (omega (arith, fits g (goal.at.loop-sizes-preserved g c).In-Whole), omega (arith, fits g (goal.at.loop-sizes-preserved g c).In-Whole))
+pub loop-count-preserved : goal.loop-count-preserved
+loop-count-preserved g c = (omega (arith, fits g (goal.at.loop-count-preserved g c).In-Whole), omega (arith, fits g (goal.at.loop-count-preserved g c).In-Whole))
