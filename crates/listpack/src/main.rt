@@ -32,6 +32,7 @@ fn list_pack(rt: &impl Print, pack: &[u8]) -> io::Result<()> {
 }
 
 // Lists the entries of a pack in turn. The last line says how many there are, or where the pack is cut.
+#[tactic(auto, using(crate::proofs::Entries::within))]
 fn list_entries(rt: &impl Print, pack: &[u8]) -> io::Result<()> {
     let mut at = 0;
     let mut count = 0usize;
