@@ -12,10 +12,10 @@ use Rattle.constants.specs.Refusals.{Met, number_of_refusal, number_met}
 use Rattle.constants.specs.declared.refusal.Refusal.{Refusal}
 
 -- the refusal with a number
-refusal_of : ℕ → Refusal
+unfoldable pub refusal_of : ℕ → Refusal
 refusal_of n = get_or (Refusal.TooShort ∷ Refusal.TooShort ∷ Refusal.OutOfRange ∷ Refusal.OutsideTable ∷ Refusal.NoPage ∷ Refusal.NotAllowed ∷ Refusal.CodeAwaited ∷ Refusal.ColumnAbove ∷ Refusal.HeaderCut ∷ Refusal.KindUnknown ∷ Refusal.ReadDiffers ∷ Refusal.ListTooSmall ∷ Refusal.FrameByteAbove ∷ Refusal.NoSelection ∷ Refusal.BothSelected ∷ Refusal.TestMode ∷ []) n Refusal.TooShort
 
-undone : (refusal : Refusal) → refusal_of (number_of_refusal refusal) ≡ refusal
+pub undone : (refusal : Refusal) → refusal_of (number_of_refusal refusal) ≡ refusal
 unfolding refusal_of
 undone Refusal.TooShort = refl
 undone Refusal.OutOfRange = refl
@@ -54,10 +54,10 @@ refusal_not_taken Refusal.BothSelected = refl
 refusal_not_taken Refusal.TestMode = refl
 
 -- what is met is settled by its number
-met_of : ℕ → Met
+unfoldable pub met_of : ℕ → Met
 met_of n = get_or (Ok tt ∷ Err Refusal.TooShort ∷ Err Refusal.OutOfRange ∷ Err Refusal.OutsideTable ∷ Err Refusal.NoPage ∷ Err Refusal.NotAllowed ∷ Err Refusal.CodeAwaited ∷ Err Refusal.ColumnAbove ∷ Err Refusal.HeaderCut ∷ Err Refusal.KindUnknown ∷ Err Refusal.ReadDiffers ∷ Err Refusal.ListTooSmall ∷ Err Refusal.FrameByteAbove ∷ Err Refusal.NoSelection ∷ Err Refusal.BothSelected ∷ Err Refusal.TestMode ∷ []) n (Ok tt)
 
-met_undone : (met : Met) → met_of (number_met met) ≡ met
+pub met_undone : (met : Met) → met_of (number_met met) ≡ met
 unfolding met_of
 met_undone (Ok tt) = refl
 met_undone (Err Refusal.TooShort) = refl

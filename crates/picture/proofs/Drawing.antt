@@ -14,7 +14,7 @@ use Rattle.constants.specs.Sizes.{frame_rows, frame_size, width}
 use Rattle.constants.specs.Numbers.{taken, too_short, out_of_range}
 use Rattle.bus.specs.Registers.{registers_of}
 use Rattle.bus.specs.Image.{short, legal, asked}
-use Rattle.bus.specs.declared.image.Asked.{Asked}
+use Rattle.bus.specs.Answer.{Asked}
 use Rattle.bus.specs.declared.registers.Registers.{Registers}
 use Rattle.bus.proofs.Tests.{chosen}
 use Rattle.picture.specs.Scan.{panel_row, row_shows}

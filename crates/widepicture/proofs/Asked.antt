@@ -10,7 +10,7 @@ use Rattle.constants.specs.Numbers.{taken, too_short, out_of_range}
 use Rattle.constants.specs.Sizes.{image_size, memory_size, wide_frame_size}
 use Rattle.bus.specs.Registers.{registers_of}
 use Rattle.bus.specs.Image.{short, legal, asked_state}
-use Rattle.bus.specs.declared.image.Asked.{Asked}
+use Rattle.bus.specs.Answer.{Asked}
 use Rattle.bus.proofs.Legal.{long}
 use Rattle.picture.specs.Draw.{drawn}
 use Rattle.widebus.specs.Pair.{Pair, Lent, chips_of}

@@ -15,7 +15,7 @@ use Rattle.constants.specs.Sizes.{frame_size, wide_frame_size}
 use Rattle.constants.specs.Numbers.{taken, too_short, out_of_range}
 use Rattle.bus.specs.Registers.{registers_of}
 use Rattle.bus.specs.Image.{short, legal, asked_state, asked}
-use Rattle.bus.specs.declared.image.Asked.{Asked}
+use Rattle.bus.specs.Answer.{Asked}
 use Rattle.picture.specs.Frame.{frame}
 use Rattle.picture.specs.Draw.{Drawn, drawn, draw_on, draw}
 use Rattle.widebus.specs.Pair.{Pair, Lent, at}

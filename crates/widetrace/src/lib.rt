@@ -2,6 +2,5 @@
 #![tactic(auto)]
 
 mod heed;
-mod kept;
 pub mod run;
 mod side;
