@@ -1,8 +1,9 @@
 // The three countings of rows, and the row rule that converts between them.
-ghost use Rattle.std.specs.Prelude.{◌≡◌, ◌≤◌, ◌<◌, ◌-◌, ◌*◌, ◌%◌};
+ghost use Rattle.std.specs.Prelude.{◌≡◌, ◌≤◌, ◌<◌, ◌-◌, ◌*◌, ◌/◌, ◌%◌};
 ghost use Rattle.constants.specs.Sizes.{height};
 ghost use Rattle.picture.specs.Scan.{com_number, com_of, used, ram_row_of, row_shows};
 ghost use Rattle.picture.specs.Rows.{rows_in_use, rows_above, shift, scan_of};
+ghost use Rattle.picture.specs.Shown.{shown_of};
 
 use bus::registers::Registers;
 use constants::sizes::HEIGHT;
@@ -15,15 +16,24 @@ pub struct PanelRow(pub u8);
 #[derive(Clone, Copy)]
 pub struct Com(pub u8);
 
-// A row of the display memory.
+// A row of the display memory: row 8p + b is bit b of page p.
 #[derive(Clone, Copy)]
 pub struct RamRow(pub u8);
 
-// What a row of the frame shows: nothing, or the bits of a RAM row.
-#[derive(Drop)]
-pub enum Shown {
-    Dark,
-    Ram(RamRow),
+impl RamRow {
+    // The page that the row lies in: all but the low three bits of its number.
+    pub(crate) fn page(self) -> u8
+        ensures { result ≡ self.0 / 8 }
+    {
+        self.0 >> 3
+    }
+
+    // The bit that the row is of each byte of its page: the low three bits.
+    pub(crate) fn bit(self) -> u8
+        ensures { result ≡ self.0 % 8 }
+    {
+        self.0 & 7
+    }
 }
 
 impl PanelRow {
@@ -67,18 +77,18 @@ impl Com {
     }
 }
 
-// What a row of the frame shows: a panel row, or the icon line after the last of them.
-pub fn row_shows(registers: Registers, row: PanelRow) -> Shown
-    ensures { result ≡ row_shows (scan_of registers) row }
+// The RAM row that a row of the frame shows, or none: a panel row's, or the icon line's after the last of them.
+pub fn row_shows(registers: Registers, row: PanelRow) -> Option<RamRow>
+    ensures { shown_of result ≡ row_shows (scan_of registers) row }
 {
     if row.0 < HEIGHT {
         let com = row.belongs_to(registers);
         if com.used(registers) {
-            return Shown::Ram(com.shows(registers));
+            return Some(com.shows(registers));
         }
-        return Shown::Dark;
+        return None;
     }
-    Shown::Ram(RamRow(HEIGHT))
+    Some(RamRow(HEIGHT))
 }
 
 // The shift from a panel row to its COM: the offset less the rows above the band, counted on by 64.
