@@ -14,8 +14,7 @@ use Rattle.bus.specs.Registers.{power_on, image_of}
 use Rattle.bus.specs.Image.{short, stored}
 use Rattle.bus.specs.Start.{registers_at_start, memory_at_start, started, start_of}
 use Rattle.bus.specs.declared.start.Hung.{Hung}
-use Rattle.trace.specs.Run.{ran, run}
-use Rattle.trace.specs.declared.run.Stop.{Stop}
+use Rattle.trace.specs.Run.{Stop, ran, run}
 use Rattle.picture.specs.Draw.{drawn, draw}
 use Rattle.framelisting.specs.Text.{listing_of}
 use Rattle.constants.specs.Refusals.{number_of_refusal}

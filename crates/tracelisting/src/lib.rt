@@ -8,6 +8,7 @@ ghost use Rattle.constants.specs.Sizes.{longest_listing};
 ghost use Rattle.tracelisting.specs.TraceListing.{listing_of_trace, text_for, printed, printed_of};
 
 use bus::start::Hung;
+use constants::refusal::number_met;
 use constants::sizes::{FRAME_SIZE, IMAGE_SIZE, LONGEST_LISTING, LONGEST_TRACE, MEMORY_SIZE};
 
 // Puts what the listing program prints for its input, from the start as the module hangs, into a buffer that is long enough for any listing, and answers the text's length.
@@ -30,10 +31,11 @@ fn list_trace(hung: Hung, trace: &[u8], text: &mut [u8]) -> usize
     let mut state = [0u8; IMAGE_SIZE];
     let mut memory = [0u8; MEMORY_SIZE];
     let mut frame = [0u8; FRAME_SIZE];
-    bus::start::start(hung, &mut state, &mut memory);
+    let _ = bus::start::start(hung, &mut state, &mut memory);
     let stop = trace::run::run(&mut state, &mut memory, trace);
-    picture::draw::draw(&state, &memory, &mut frame);
-    framelisting::list(stop.number, stop.offset, &frame, text).unwrap_or(0)
+    let _ = picture::draw::draw(&state, &memory, &mut frame);
+    let number = number_met(stop.outcome);
+    framelisting::list(number, stop.offset, &frame, text).unwrap_or(0)
 }
 
 // Puts a line into such a buffer, and answers its length.
