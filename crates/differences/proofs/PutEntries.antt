@@ -10,7 +10,7 @@ use lib.Seq.{sets, length-sets, sets-eq}
 use Rattle.differences.specs.Entries.{entries}
 use Rattle.differences.specs.Put.{Room, Put}
 use Rattle.differences.specs.Compare.{outcome, listed}
-use Rattle.differences.specs.declared.compared.Compared.{Compared}
+use Rattle.differences.specs.Compared.{Compared}
 use Rattle.differences.proofs.Entries.{entries_length}
 use Rattle.differences.proofs.Listed.{listed_all}
 

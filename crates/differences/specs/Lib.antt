@@ -6,6 +6,8 @@ pub mod Runs
 pub mod Bytes
 -- an entry as bytes
 pub mod Entries
+-- what a comparison answers
+pub mod Compared
 -- the whole outcome of each call
 pub mod Compare
 -- what the code's own functions state

@@ -4,41 +4,41 @@ ghost use Rattle.constants.specs.Sizes.{width, frame_rows, frame_size, frame_ent
 ghost use Rattle.differences.specs.Runs.{runs_of};
 ghost use Rattle.differences.specs.Entries.{run_entry};
 ghost use Rattle.differences.specs.Put.{Room, Put, SameRows};
+ghost use Rattle.differences.specs.Compared.{compared_of};
 ghost use Rattle.differences.specs.Compare.{outcome, any_above, compare_frames};
 
-use crate::compared::Compared;
 use crate::count::count_rows;
 use crate::row::put_row;
 use crate::same::{look, same};
-use constants::refusal::{FRAME_BYTE_ABOVE, LIST_TOO_SMALL, TOO_SHORT};
+use constants::refusal::Refusal;
 use constants::sizes::{FRAME_ENTRY_SIZE, FRAME_ROWS, FRAME_SIZE, LONGEST_FRAME_LIST, WIDTH};
 
 // Bytes of five rows.
 const FIVE_ROWS: usize = 660;
 
 // Lists each run of differing places of two frames into a lent buffer, or refuses and writes nothing.
-pub fn compare_frames(first: &[u8], second: &[u8], list: &mut [u8]) -> Compared
-    ensures { outcome result list.new ≡ compare_frames first.now second.now list.old }
+pub fn compare_frames(first: &[u8], second: &[u8], list: &mut [u8]) -> Result<usize, Refusal>
+    ensures { outcome (compared_of result) list.new ≡ compare_frames first.now second.now list.old }
 {
     if first.len() < FRAME_SIZE {
-        return Compared::Refused(TOO_SHORT);
+        return Err(Refusal::TooShort);
     }
     if second.len() < FRAME_SIZE {
-        return Compared::Refused(TOO_SHORT);
+        return Err(Refusal::TooShort);
     }
     let seen = look(first, second);
     if seen.above {
-        return Compared::Refused(FRAME_BYTE_ABOVE);
+        return Err(Refusal::FrameByteAbove);
     }
     if seen.same {
-        return Compared::Listed(0);
+        return Ok(0);
     }
     if any_above(second) {
-        Compared::Refused(FRAME_BYTE_ABOVE)
+        Err(Refusal::FrameByteAbove)
     } else if too_small(first, second, list.len()) {
-        Compared::Refused(LIST_TOO_SMALL)
+        Err(Refusal::ListTooSmall)
     } else {
-        Compared::Listed(put_rows(list, first, second))
+        Ok(put_rows(list, first, second))
     }
 }
 

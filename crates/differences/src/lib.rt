@@ -1,7 +1,6 @@
 // Order 1 of document 02: where two frames, or two memories, differ, as entries in a lent list buffer.
 #![tactic(auto)]
 
-pub mod compared;
 mod count;
 pub mod frames;
 pub mod memories;

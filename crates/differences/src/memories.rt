@@ -4,28 +4,28 @@ ghost use Rattle.constants.specs.Sizes.{memory_size, memory_entry_size};
 ghost use Rattle.differences.specs.Bytes.{bytes_of};
 ghost use Rattle.differences.specs.Entries.{byte_entry};
 ghost use Rattle.differences.specs.Put.{Room, Put};
+ghost use Rattle.differences.specs.Compared.{compared_of};
 ghost use Rattle.differences.specs.Compare.{outcome, compare_memories};
 
-use crate::compared::Compared;
 use crate::count::count_pages;
 use crate::page::put_page;
-use constants::refusal::{LIST_TOO_SMALL, TOO_SHORT};
+use constants::refusal::Refusal;
 use constants::sizes::{LONGEST_MEMORY_LIST, MEMORY_ENTRY_SIZE, MEMORY_SIZE, PAGES, WIDTH};
 
 // Lists each differing byte of two memories into a lent buffer, or refuses and writes nothing.
-pub fn compare_memories(first: &[u8], second: &[u8], list: &mut [u8]) -> Compared
-    ensures { outcome result list.new ≡ compare_memories first.now second.now list.old }
+pub fn compare_memories(first: &[u8], second: &[u8], list: &mut [u8]) -> Result<usize, Refusal>
+    ensures { outcome (compared_of result) list.new ≡ compare_memories first.now second.now list.old }
 {
     if first.len() < MEMORY_SIZE {
-        return Compared::Refused(TOO_SHORT);
+        return Err(Refusal::TooShort);
     }
     if second.len() < MEMORY_SIZE {
-        return Compared::Refused(TOO_SHORT);
+        return Err(Refusal::TooShort);
     }
     if too_small(first, second, list.len()) {
-        return Compared::Refused(LIST_TOO_SMALL);
+        return Err(Refusal::ListTooSmall);
     }
-    Compared::Listed(put_pages(list, first, second))
+    Ok(put_pages(list, first, second))
 }
 
 // Whether a list buffer of so many bytes is too small for all entries; they are counted only where it does not hold every list.

@@ -11,7 +11,7 @@ use Rattle.constants.specs.Sizes.{frame_size, frame_entry_size}
 use Rattle.differences.specs.Runs.{runs_of}
 use Rattle.differences.specs.Entries.{run_entry}
 use Rattle.differences.specs.Compare.{outcome, Outcome, listed, any_above, compare_frames}
-use Rattle.differences.specs.declared.compared.Compared.{Compared}
+use Rattle.differences.specs.Compared.{Compared}
 use Rattle.differences.proofs.Entries.{run_sized}
 use Rattle.differences.proofs.Given.{none_above}
 use Rattle.differences.proofs.Listed.{listed_not}

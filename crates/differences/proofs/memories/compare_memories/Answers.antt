@@ -9,7 +9,7 @@ use Rattle.constants.specs.Sizes.{memory_size, memory_entry_size}
 use Rattle.differences.specs.Bytes.{bytes_of}
 use Rattle.differences.specs.Entries.{byte_entry}
 use Rattle.differences.specs.Compare.{outcome, listed, compare_memories}
-use Rattle.differences.specs.declared.compared.Compared.{Compared}
+use Rattle.differences.specs.Compared.{Compared}
 use Rattle.differences.proofs.Entries.{byte_sized}
 use Rattle.differences.proofs.Listed.{listed_not}
 use Rattle.differences.proofs.PutEntries.{put_listed}
