@@ -10,6 +10,10 @@ pub mod Entries
 pub mod Compared
 -- the whole outcome of each call
 pub mod Compare
+-- the code's own entries
+pub mod Found
+-- their laws
+pub mod Laws
 -- what the code's own functions state
 pub mod Put
 -- lists in order, and one of a list
