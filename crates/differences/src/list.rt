@@ -93,9 +93,7 @@ fn count_all<E: Entry, const BYTES: usize>(first: &[u8; BYTES], second: &[u8; BY
     let (second, _) = second.as_chunks::<WIDTH>();
     let mut count = 0;
     for (row, (was, is)) in first.iter().zip(second).enumerate() {
-        if was != is {
-            count += usize::from(E::count(row as u8, was, is));
-        }
+        count += usize::from(E::count(row as u8, was, is));
     }
     count
 }

@@ -54,6 +54,9 @@ impl Entry for Run {
 
     // The places where a run begins.
     fn count(_row: u8, first: &[u8; WIDTH], second: &[u8; WIDTH]) -> u8 {
+        if first == second {
+            return 0;
+        }
         let mut count = u8::from(first[0] != second[0]);
         for x in 1..WIDTH {
             let differs = first[x] != second[x];

@@ -9,7 +9,7 @@ use Rattle.std.specs.Simd.{first_chunks}
 use Rattle.std.proofs.lemmas.Slice.Zip.{either_empty_from_Zip}
 use Rattle.constants.specs.Sizes.{width}
 use Rattle.differences.proofs.Entries.{rows_few}
-use Rattle.differences.proofs.Along.{along, along_start, along_end, along_over, count_on, same_bytes}
+use Rattle.differences.proofs.Along.{along, along_start, along_end, count_on}
 use Rattle.differences.proofs.list.count_all.Goals as goal
 
 pub loop-row-init : goal.loop-row-init
@@ -30,22 +30,13 @@ overflow_add-count g c =
     let more = count_on g.E.Entry.found it.iter.a.rest.now it.iter.b.rest.now next.iter.a.rest.now next.iter.b.rest.now c.in-Some.was.now c.in-Some.is'.now it.count c.loop-row.count c.from-count.result _ steps.0.0 steps.0.1 c.loop-row.invariant.counted (c.from-count.ensures ∙ c.count.ensures ∙ rw steps.1) in
     omega (arith, more, rows_few width width g.E.Entry.found g.met.E.Entry.few c.args.first.now c.args.second.now (g.row.BYTES / width) 0)
 
-pub loop-row-preserved-then-ne : goal.loop-row-preserved-then-ne
-loop-row-preserved-then-ne g c =
-    let steps = c.in-Some.ensures.steps in
-    let it = c.loop-row.row-iterator in
-    let next = c.next.new.self in
-    let more = count_on g.E.Entry.found it.iter.a.rest.now it.iter.b.rest.now next.iter.a.rest.now next.iter.b.rest.now c.in-Some.was.now c.in-Some.is'.now it.count c.loop-row.count c.from-count.result _ steps.0.0 steps.0.1 c.loop-row.invariant.counted (c.from-count.ensures ∙ c.count.ensures ∙ rw steps.1) in
-    record { can = search rules; finite = search rules; left = omega (arith, steps.2, ap length steps.0.0, c.loop-row.invariant.left); counted = rw steps.2 more }
-
 pub loop-row-preserved : goal.loop-row-preserved
 loop-row-preserved g c =
     let steps = c.in-Some.ensures.steps in
     let it = c.loop-row.row-iterator in
     let next = c.next.new.self in
-    let same = same_bytes _ _ _ c.ne.ensures c.if-ne.false in
-    let over = along_over g.E.Entry.found it.iter.a.rest.now it.iter.b.rest.now next.iter.a.rest.now next.iter.b.rest.now c.in-Some.was.now c.in-Some.is'.now it.count g.met.E.Entry.none steps.0.0 steps.0.1 same in
-    record { can = search rules; finite = search rules; left = omega (arith, steps.2, ap length steps.0.0, c.loop-row.invariant.left); counted = rw (steps.2, ← over) c.loop-row.invariant.counted }
+    let more = count_on g.E.Entry.found it.iter.a.rest.now it.iter.b.rest.now next.iter.a.rest.now next.iter.b.rest.now c.in-Some.was.now c.in-Some.is'.now it.count c.loop-row.count c.from-count.result _ steps.0.0 steps.0.1 c.loop-row.invariant.counted (c.from-count.ensures ∙ c.count.ensures ∙ rw steps.1) in
+    record { can = search rules; finite = search rules; left = omega (arith, steps.2, ap length steps.0.0, c.loop-row.invariant.left); counted = rw steps.2 more }
 
 pub returns : goal.returns
 returns g c =

@@ -2,11 +2,18 @@
 use mathlib.Core.Path.{◌∙◌, sym}
 use native.Mathlib.Omega.{arith}
 use lib.ListN.{length-map}
+use lib.Pointwise.{bytes_decides}
 use Rattle.constants.specs.Sizes.{width}
-use Rattle.differences.specs.Laws.{runs_few}
+use Rattle.differences.specs.Laws.{runs_few, runs_found_none}
 use Rattle.differences.proofs.AlongRow.{runs_end}
 use Rattle.differences.proofs.Counting.{byte_of, runs_first, runs_next, any_row}
 use Rattle.differences.proofs.run.RunEntry.count.Goals as goal
+
+pub returns-then-eq : goal.returns-then-eq
+returns-then-eq c =
+    let a = c.args in
+    let same = (bytes_decides a.first.now a.second.now).0 (sym c.eq.ensures ∙ c.if-eq.true) in
+    rw (same, runs_found_none a._row a.second.now)
 
 pub loop-x-init : goal.loop-x-init
 loop-x-init c = runs_first width _ _ _ (omega arith) (c.from-count.ensures ∙ byte_of _)
