@@ -12,7 +12,7 @@ use constants::refusal::Refusal;
 use constants::sizes::MEMORY_SIZE;
 
 // How the module hangs in its cabinet: upside down in a new one, upright in an old one.
-#[derive(Drop)]
+#[derive(Clone, Copy, Debug, PartialEq, Eq)]
 pub enum Hung {
     UpsideDown,
     Upright,

@@ -4,9 +4,8 @@
 ghost use Rattle.std.specs.Prelude.{◌≡◌};
 ghost use Rattle.codes.specs.Table.{meaning_of, command_of, operand_of, offset_of, frame_phases_of};
 
-// A command byte, named, with the value that it carries: a command, or the n of a command of two bytes. The bytes that are refused are named beside them and stand in no
-// `Err`: document 01 names them so (specs/Table `table`, theorem `Others`), and a `Result` would have the other 25 twice, here and in specs/.
-#[derive(Clone, Copy)]
+// A command byte, named, with the value that it carries: a command, or the n of a command of two bytes. Bytes that are refused are cases too, since each row of the one table has its case, by which a listing marks it (specs/Table `table`, DECISIONS 174); a value of 0 or 1 is the register's number, as the image has it.
+#[derive(Clone, Copy, Debug, PartialEq, Eq)]
 pub enum Command {
     ColumnLow(u8),
     ColumnHigh(u8),
@@ -46,7 +45,7 @@ pub enum Command {
     Outside,
 }
 
-// What a command byte is where `awaited` is the awaited code. No code that awaits n is below 81; that is asked first for speed (DECISIONS 36).
+// What a command byte is where `awaited` is the awaited code, 0 for none, as the image has it. No code that awaits n is below 81; that is asked first for speed (DECISIONS 36).
 #[tactic(auto, unfolding(crate::specs::Table::table, crate::specs::Table::meaning_of, crate::specs::Table::operand_of, crate::specs::Table::operand_by))]
 pub fn meaning_of(awaited: u8, byte: u8) -> Command
     ensures { result ≡ meaning_of awaited byte }
@@ -105,7 +104,7 @@ fn command_of(byte: u8) -> Command
     }
 }
 
-// What n gives where `code` is awaited.
+// What n gives where `code` is awaited: the document's table, row by row; two rows have a rule of their own.
 #[tactic(auto, unfolding(crate::specs::Table::table, crate::specs::Table::operand_of, crate::specs::Table::operand_by))]
 fn operand_of(code: u8, n: u8) -> Command
     ensures { result ≡ operand_of code n }

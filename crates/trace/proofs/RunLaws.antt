@@ -18,7 +18,7 @@ use Rattle.trace.specs.ByCalls.{by_calls, run_by_calls}
 use Rattle.trace.specs.Run.{ran, stop_of, ran_of}
 use Rattle.trace.specs.Given.{EachTaken}
 use Rattle.trace.specs.RunLaws.{left_by, met_after, RunLaws, ChipAsMachine}
-use Rattle.trace.specs.declared.run.Stop.{Stop}
+use Rattle.trace.specs.Run.{Stop}
 use Rattle.trace.proofs.OneByOne.{one_by_one_lem}
 use Rattle.trace.proofs.RunOnLent.{run_found, run_empty, run_legal, run_joined, run_whole, run_past, run_lengths}
 use Rattle.trace.proofs.AnyMachine.{any_machine}

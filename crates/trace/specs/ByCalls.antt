@@ -8,7 +8,7 @@ use Rattle.trace.specs.Records.{split}
 use Rattle.trace.specs.Kinds.{Recorded, event, read_as, the_chip}
 use Rattle.trace.specs.OneByOne.{Placed, script_from}
 use Rattle.trace.specs.Run.{Ran, ran, stop_of}
-use Rattle.trace.specs.declared.run.Stop.{Stop}
+use Rattle.trace.specs.Run.{Stop}
 
 -- The call that a recorded event is made by.
 abbrev pub called_by : Recorded → Event
