@@ -5,6 +5,8 @@ ghost use Rattle.hostwide.specs.List.{list_reply, of_listed};
 
 use constants::refusal::hand_count;
 
+// A number for the refusal, and the length through a reference, as `ssd1815b_list` of crates/host has it: C's interface (host/ssd1815b.h).
+
 // Lists a wide frame, after a stopped run's number and offset: the text's length goes to where the host wants it, 0 where it is refused.
 #[unsafe(no_mangle)]
 pub extern "C" fn ssd1815b_wide_list(
