@@ -12,11 +12,7 @@ use constants::sizes::{FRAME_ROWS, FRAME_SIZE, MEMORY_SIZE, PAGES, WIDTH};
 use std::array;
 
 // Draws the frame of a display that is on and not entirely on.
-pub fn draw_whole(
-    registers: Registers,
-    memory: &[u8; MEMORY_SIZE],
-    places: &mut [u8; FRAME_SIZE],
-)
+pub fn draw_whole(registers: Registers, memory: &[u8; MEMORY_SIZE], places: &mut [u8; FRAME_SIZE])
     requires { (registers.on ≢ 0) × (registers.entire ≢ 1) }
     ensures { places.new ≡ frame registers memory.now }
 {
