@@ -25,7 +25,7 @@ pub fn shown_page(memory: &[u8; MEMORY_SIZE], page: u8, direction: u8, reverse: 
     array::from_fn(|x| memory[last - x] ^ flip)
 }
 
-// A bit of each byte of a page. With the bit known where it is drawn 16 places are drawn at once; with the bit as a number a frame takes 12 % longer.
+// A bit of each byte of a page. With the bit known where it is drawn 16 places are drawn at once; with the bit as a number a frame takes 12 to 16 % longer.
 #[inline(always)]
 pub fn bits_of(page: &[u8; WIDTH], bit: u8) -> [u8; WIDTH]
     requires { bit < 8 }

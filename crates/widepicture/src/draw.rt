@@ -57,7 +57,7 @@ fn draw_both(
     draw_half(Side::Right, registers.right, right_memory, places);
 }
 
-// Draws each row of one chip into its half of a wide row. A loop for each chip is what keeps the wide frame near twice the time of one.
+// Draws each row of one chip into its half of a wide row. A loop for each chip is what keeps the wide frame near twice the time of one. The part is cut by hand, as in picture's draw.rt.
 fn draw_half(
     side: Side,
     registers: Registers,

@@ -12,9 +12,9 @@ use Rattle.picture.proofs.whole.draw_shown.Goals as goal
 pub returns-in-None : goal.returns-in-None
 unfolding seen
 returns-in-None c =
-    filled_line width 0 c.args.places.now c.requires.1 c.fill.ensures.after ∙ line_same width _ _ (λ x h. rw c.in-None.is)
+    filled_line width _ c.args.places.now c.requires.1 c.fill.ensures.after ∙ line_same width _ _ (λ x h. rw c.in-None.is (omega arith))
 
 pub returns-in-Some : goal.returns-in-Some
 unfolding seen
 returns-in-Some c =
-    c.copy_from_slice.ensures.after ∙ upright_bits c.args.upright.now c.in-Some.row c.page.ensures c.bit.ensures c.shown_page-page.ensures c.bits_of.ensures ∙ line_same width _ _ (λ x h. rw c.in-Some.is)
+    c.copy_from_slice.ensures.after ∙ upright_bits c.args.upright.now c.in-Some.row (omega (arith, c.page.ensures)) (omega (arith, c.bit.ensures)) c.shown_page-page.ensures c.bits_of.ensures ∙ line_same width _ _ (λ x h. rw c.in-Some.is)
