@@ -4,7 +4,6 @@ use native.Mathlib.Omega.{arith}
 use borrow.Author.Tests.{eq-eqb, ne_eqb}
 use Rattle.constants.specs.Sizes.{width}
 use Rattle.picture.specs.Rows.{scan_of}
-use Rattle.picture.specs.Shown.{shown_of}
 use Rattle.picture.specs.Frame.{segment, while_on}
 use Rattle.picture.proofs.Lines.{line_same}
 use Rattle.picture.proofs.Made.{filled_line}

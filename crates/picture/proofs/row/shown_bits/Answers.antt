@@ -1,5 +1,4 @@
 -- `picture::row::shown_bits` meets its contract: the page as it is shown has the row's bits.
-use mathlib.Core.Path.{◌≡◌}
 use native.Mathlib.Omega.{arith}
 use borrow.Author.Rules.{rules}
 use lib.Bits.{mask_lt}

@@ -2,7 +2,6 @@
 use mathlib.Core.Path.{◌∙◌}
 use native.Mathlib.Omega.{arith}
 use Rattle.constants.specs.Sizes.{width}
-use Rattle.picture.specs.Shown.{shown_of}
 use Rattle.picture.specs.Upright.{seen}
 use Rattle.picture.proofs.Lines.{line_same}
 use Rattle.picture.proofs.Made.{filled_line}
