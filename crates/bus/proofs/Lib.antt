@@ -13,6 +13,8 @@ pub mod OwnImage
 pub mod First
 -- the image's order and the awaited codes, listed twice
 pub mod TablesAgree
+-- the ranges of registers side by side, asked as one number
+pub mod Ranges
 -- what a result of code stands for tells which result it is
 pub mod Results
 -- 2. Events.

@@ -46,6 +46,7 @@ pub enum Command {
 }
 
 // What a command byte is where `awaited` is the awaited code, 0 for none, as the image has it. No code that awaits n is below 81; that is asked first for speed (DECISIONS 36).
+#[tactic(auto, unfolding(crate::specs::Table::table, crate::specs::Table::meaning_of, crate::specs::Table::operand_of, crate::specs::Table::operand_by))]
 pub fn meaning_of(awaited: u8, byte: u8) -> Command
     ensures { result ≡ meaning_of awaited byte }
 {
@@ -59,6 +60,7 @@ pub fn meaning_of(awaited: u8, byte: u8) -> Command
 }
 
 // The command that a byte is where no code is awaited.
+#[tactic(auto, unfolding(crate::specs::Table::table, crate::specs::Table::command_of, crate::specs::Table::command_by))]
 fn command_of(byte: u8) -> Command
     ensures { result ≡ command_of byte }
 {
@@ -103,6 +105,7 @@ fn command_of(byte: u8) -> Command
 }
 
 // What n gives where `code` is awaited: the document's table, row by row; two rows have a rule of their own.
+#[tactic(auto, unfolding(crate::specs::Table::table, crate::specs::Table::operand_of, crate::specs::Table::operand_by))]
 fn operand_of(code: u8, n: u8) -> Command
     ensures { result ≡ operand_of code n }
 {
@@ -118,6 +121,7 @@ fn operand_of(code: u8, n: u8) -> Command
 }
 
 // The n of D3: an offset of at most 3F.
+#[tactic(auto, unfolding(crate::specs::Table::offset_of))]
 fn offset_of(n: u8) -> Command
     ensures { result ≡ offset_of n }
 {
@@ -129,6 +133,7 @@ fn offset_of(n: u8) -> Command
 }
 
 // The n of D4: 00, 10, 20 or 30.
+#[tactic(auto, unfolding(crate::specs::Table::frame_phases_of))]
 fn frame_phases_of(n: u8) -> Command
     ensures { result ≡ frame_phases_of n }
 {

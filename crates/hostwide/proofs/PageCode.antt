@@ -11,7 +11,7 @@ use lib.Dec.{eqb}
 use lib.ListN.{length}
 use Rattle.std.specs.Prelude.{Err}
 use Rattle.constants.specs.Sizes.{memory_size}
-use Rattle.constants.specs.Numbers.{too_short, no_selection}
+use Rattle.constants.specs.Numbers.{no_selection}
 use Rattle.constants.specs.Refusals.{number_of_refusal}
 use Rattle.constants.specs.declared.refusal.Refusal.{Refusal}
 use Rattle.constants.proofs.Refusals.{refusal_not_taken}

@@ -8,7 +8,7 @@ use Rattle.std.specs.Prelude.{Ok, Err}
 use Rattle.constants.specs.Numbers.{taken, too_short, out_of_range, both_selected}
 use Rattle.constants.specs.Refusals.{Met, number_of_refusal, number_met}
 use Rattle.constants.specs.declared.refusal.Refusal.{Refusal}
-use Rattle.bus.specs.Image.{short, legal}
+use Rattle.bus.specs.Image.{legal}
 use Rattle.bus.specs.Registers.{power_on}
 use Rattle.bus.specs.Chip.{Event, reset_pulse}
 use Rattle.bus.specs.Events.{number_of, byte_of, dummy_of}

@@ -16,11 +16,10 @@ use Rattle.constants.specs.Refusals.{Met, number_met}
 use Rattle.bus.specs.Chip.{Chip, reset_pulse, step}
 use Rattle.bus.specs.Registers.{power_on}
 use Rattle.bus.specs.Events.{access, reset_pin}
-use Rattle.bus.specs.Result.{Result, refuses, gives, on_result}
+use Rattle.bus.specs.Result.{refuses, gives, on_result}
 use Rattle.bus.specs.Recorded.{Recorded, event, read_as, recorded_command, recorded_write, chip_of, happened, replay}
 use Rattle.bus.specs.Stretch.{Stretched, stretched, stretch, stretch_of}
 use Rattle.bus.specs.Bytes.{All}
-use Rattle.bus.specs.declared.registers.Registers.{Registers}
 use Rattle.bus.specs.declared.stretch.Stretch.{Stretch}
 use Rattle.bus.proofs.StretchLaws.{stretches, the_chip_never_zero}
 use Rattle.widebus.specs.Pair.{Pair, ◌beside◌, chips_of}

@@ -14,6 +14,8 @@ use bus::accepted::{access, awaited};
 use bus::image::ask_state;
 use constants::refusal::Refusal;
 
+// State and memory of both chips stay four parameters. A struct of each chip's two was tried: every body takes it apart again, since what one field lends is not read while the other is lent, the promise says `left.exit.1.0.now` for `left_memory.new`, and C lends memories to be read by three calls and to be changed by one (host/ssd1815b.h), which is a struct for each.
+
 // A command byte.
 pub fn command(
     left_state: &mut [u8],

@@ -148,9 +148,9 @@ module _ (side : Side) (selection : Selection) where
 
   -- the code's stretch of a record that the chip obeys ends as the record does
   module _ (kind at : ℕ) (bytes : List ℕ) where
-    pub ends_as_obeyed : heed_of side selection kind at bytes ≡ Heed.Obeys → {events : List Recorded} → events_of kind bytes ≡ gives events → (r : Registers) (m : List ℕ) {s : Stretch} {later : List ℕ} → stretch_of s later ≡ stretch replay events (chip_of r m)
+    pub ends_as_obeyed : heed_of side selection kind at bytes ≡ Heed.Obeys → {events : List Recorded} → events_of kind bytes ≡ gives events → (r : Registers) (m : List ℕ) (s : Stretch) (later : List ℕ) → stretch_of s later ≡ stretch replay events (chip_of r m)
         → play_record (the_side side) (record { kind = kind; payload = bytes; place = at }) (one_side (chip_of r m) selection) ≡ with_selection selection (ending_at (at + header_size) (stretch_of s later))
     unfolding heeded play_record
-    ends_as_obeyed o {events} b r m h =
+    ends_as_obeyed o {events} b r m s later h =
         plays_as_heeded kind at bytes (chip_of r m) ∙ rw (o, b)
         (ap (with_selection selection) (are_stretches the_chip the_chip_never_zero events (at + header_size) (chip_of r m) ∙ ap (λ (x : Stretched Chip). ending_at (at + header_size) x) (sym h)))

@@ -2,14 +2,19 @@
 -- Assumes nothing.
 use mathlib.Core.Path.{◌≡◌, refl, sym, ◌∙◌, ap, subst}
 use mathlib.Core.Logic.{◌≢◌}
+use mathlib.Core.Bool.{true, false, false≢true}
 use mathlib.Core.List.{List, ◌++◌}
 use Prim.Native.Nat.{ℕ, ◌≤◌}
 use native.Mathlib.Omega.{arith}
 use native.Mathlib.Nat.{zero-add}
+use borrow.Author.Tests.{eqb-false}
 use lib.ListN.{length, take, drop}
+use Rattle.std.specs.Prelude.{Ok, Err}
+use Rattle.std.specs.Result.{is_ok}
 use Rattle.constants.specs.Sizes.{memory_size}
 use Rattle.constants.specs.Numbers.{taken}
-use Rattle.constants.specs.Refusals.{number_met}
+use Rattle.constants.specs.Refusals.{Met, number_met}
+use Rattle.constants.proofs.Refusals.{refusal_not_taken}
 use Rattle.trace.specs.Records.{split_from, split}
 use Rattle.trace.specs.Play.{Played, played, play}
 use Rattle.trace.specs.Kinds.{chip_of}
@@ -84,3 +89,12 @@ module _ (both : Both) (trace left right : List ℕ) (first : SidePlayed) (lm : 
           ap (λ (x : Played OneSide). joined (side_played_of second rm) x (side_played_of second rm)) z_whole
           ∙ ap (λ (y : Played OneSide). joined y (play (the_side Side.Left) (up_to y.offset (split trace)) (starting both Side.Left left)) y) q_whole
           ∙ sym (by_sides.1 (λ zero. number (ap (λ (y : Played OneSide). y.number) q_whole ∙ zero)))
+
+-- where nothing is refused, the number is that of what is taken; and where something is, it is not
+pub all_taken : (met : Met) → is_ok met ≡ true → number_met met ≡ taken
+all_taken (Ok all) e = refl
+all_taken (Err refusal) e = absurd (false≢true e)
+
+pub not_taken : (met : Met) → is_ok met ≡ false → number_met met ≢ taken
+not_taken (Ok all) e zero = false≢true (sym e)
+not_taken (Err refusal) e zero = eqb-false _ _ (refusal_not_taken refusal) zero

@@ -104,7 +104,7 @@ module _ (trace : List ℕ) (at : ℕ) (header : Header) (h : front_of (drop at 
 
       module _ (o : heed ≡ Heed.Obeys) (named : Kind) (b : events_of header.kind bytes ≡ gives (recorded_in named bytes)) (r : Registers) (m : List ℕ) (s : Stretch) (later : List ℕ) (ends : stretch_of s later ≡ stretch replay (recorded_in named bytes) (chip_of r m)) where
         as_obeyed : play_record (the_side side) (shortened limit (record_at at (drop at trace))) (one_side (chip_of r m) selection) ≡ with_selection selection (ending_at from (stretch_of s later))
-        as_obeyed = its_play (one_side (chip_of r m) selection) ∙ ends_as_obeyed side selection header.kind at bytes (sym g ∙ o) b r m ends
+        as_obeyed = its_play (one_side (chip_of r m) selection) ∙ ends_as_obeyed side selection header.kind at bytes (sym g ∙ o) b r m s later ends
 
         pub obeys_all : s.outcome ≡ Ok tt → play_record (the_side side) (shortened limit (record_at at (drop at trace))) (one_side (chip_of r m) selection) ≡ done (one_side (chip_of s.registers later) selection)
         obeys_all met = as_obeyed ∙ rw met

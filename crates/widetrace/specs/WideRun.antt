@@ -8,7 +8,7 @@ use Rattle.trace.specs.Run.{stop_of}
 use Rattle.trace.specs.Run.{Stop}
 use Rattle.widebus.specs.Pair.{Pair, ◌beside◌, Lent, lent, chips_of}
 use Rattle.widebus.specs.Asked.{asked_both}
-use Rattle.widebus.specs.declared.both.BothAsked.{BothAsked}
+use Rattle.widebus.specs.Asked.{BothAsked}
 use Rattle.widebus.specs.declared.selection.Selection.{Selection}
 use Rattle.widetrace.specs.Terminal.{Terminal, terminal, the_terminal}
 

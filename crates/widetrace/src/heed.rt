@@ -1,10 +1,12 @@
 // What a record of a wide trace is to one chip of the terminal.
-ghost use Rattle.std.specs.Prelude.{◌≡◌, ◌+◌, ◌<◌, ◌^◌};
+ghost use Rattle.std.specs.Prelude.{◌≡◌, ◌+◌, ◌<◌, ◌^◌, cond};
 ghost use Rattle.constants.specs.Sizes.{header_size};
+ghost use Rattle.widebus.specs.Selection.{result_of};
 ghost use Rattle.widetrace.specs.EachChip.{hears};
 ghost use Rattle.widetrace.specs.Terminal.{selected_by};
 ghost use Rattle.widetrace.specs.Code.{heed_met, Obeys};
 ghost use Rattle.widetrace.specs.Heeding.{selected_before, heed_of};
+ghost use Rattle.widetrace.specs.declared.heed.Heed.{Heed};
 
 use constants::refusal::Refusal;
 use constants::sizes::HEADER_SIZE;
@@ -43,13 +45,13 @@ pub fn heed_of(
         length: payload.len(),
     };
     match Kind::try_from(header) {
-        Ok(Kind::Reads) if payload.is_empty() => Ok(Heed::Passes(selection)),
-        Ok(Kind::Reads) if selection == Selection::Both => Err(Halt {
+        Ok(kind) if kind != Kind::Reads => Ok(for_selected(side, selection, kind)),
+        Ok(_) if payload.is_empty() => Ok(Heed::Passes(selection)),
+        Ok(_) if selection == Selection::Both => Err(Halt {
             refusal: Refusal::BothSelected,
             offset: at + HEADER_SIZE,
         }),
-        Ok(kind) if hears(side, selection) => Ok(Heed::Obeys(kind)),
-        Ok(_) => Ok(Heed::Passes(selection)),
+        Ok(kind) => Ok(for_selected(side, selection, kind)),
         Err(refusal) => Err(Halt {
             refusal,
             offset: at,
@@ -57,20 +59,39 @@ pub fn heed_of(
     }
 }
 
+// A record for the selected chips: a chip that hears it obeys it.
+fn for_selected(side: Side, selection: Selection, kind: Kind) -> Heed
+    ensures { result ≡ cond (hears side selection) (Heed.Obeys kind) (Heed.Passes selection) }
+{
+    if hears(side, selection) {
+        Heed::Obeys(kind)
+    } else {
+        Heed::Passes(selection)
+    }
+}
+
 // A select record at an offset: one byte, which says who is selected.
 fn selected(payload: &[u8], at: usize) -> Result<Heed, Halt>
     ensures heeds { heed_met result ≡ selected_before at (selected_by payload.now) }
+    ensures passes { Obeys result 5 payload.now }
 {
-    let next = match payload {
-        [number] => Selection::try_from(*number),
-        _ => Err(Refusal::NoSelection),
-    };
-    match next {
+    match chosen(payload) {
         Ok(next) => Ok(Heed::Passes(next)),
         Err(refusal) => Err(Halt {
             refusal,
             offset: at,
         }),
+    }
+}
+
+// Who is selected by the payload of a select record.
+#[tactic(auto, unfolding(crate::specs::Terminal::selected_by))]
+fn chosen(payload: &[u8]) -> Result<Selection, Refusal>
+    ensures { result_of result ≡ selected_by payload.now }
+{
+    match payload {
+        [number] => Selection::try_from(*number),
+        _ => Err(Refusal::NoSelection),
     }
 }
 

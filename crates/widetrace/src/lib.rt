@@ -2,5 +2,6 @@
 #![tactic(auto)]
 
 mod heed;
+mod kept;
 pub mod run;
 mod side;

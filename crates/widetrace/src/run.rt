@@ -10,9 +10,9 @@ ghost use Rattle.widetrace.specs.Code.{wide_played, wide_played_of};
 ghost use Rattle.widetrace.specs.WideRun.{wide_ran, wide_run};
 ghost use Rattle.widebus.specs.declared.selection.Selection.{Selection};
 
+use crate::kept::{copied, put_back};
 use crate::side::play_side;
 use bus::registers::Registers;
-use constants::sizes::MEMORY_SIZE;
 use trace::run::Stop;
 use widebus::both::{Both, ask};
 use widebus::selection::{Selection, Side};
@@ -61,7 +61,7 @@ fn play(
     requires { memory_size ≤ length left_memory.old }
     ensures { wide_played_of result left_memory.new right_memory.new ≡ play the_terminal (split trace.now) (terminal (chips_of registers left_memory.old right_memory.old) Selection.Both) }
 {
-    let kept: [u8; MEMORY_SIZE] = *left_memory.first_chunk().unwrap();
+    let kept = copied(left_memory);
     let first = play_side(Side::Left, registers.left, left_memory, trace, trace.len());
     let reached = first.stop;
     let second = play_side(
@@ -76,7 +76,7 @@ fn play(
         let selection = first.selection;
         return ended(reached, selection, first.registers, second.registers);
     }
-    left_memory[..MEMORY_SIZE].copy_from_slice(&kept);
+    put_back(kept, left_memory);
     let again = play_side(Side::Left, registers.left, left_memory, trace, stop.offset);
     let selection = second.selection;
     ended(stop, selection, again.registers, second.registers)

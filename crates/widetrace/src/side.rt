@@ -51,14 +51,18 @@ pub fn play_side(
                             let offset = from + stretch.count;
                             return end(Err(refusal), offset, count, registers, selection);
                         }
+                        at = from + header.length;
+                        count += 1;
                     }
-                    Ok(Heed::Passes(next)) => selection = next,
+                    Ok(Heed::Passes(next)) => {
+                        selection = next;
+                        at = from + header.length;
+                        count += 1;
+                    }
                     Err(halt) => {
                         return end(Err(halt.refusal), halt.offset, count, registers, selection);
                     }
                 }
-                at = from + header.length;
-                count += 1;
             }
         }
     }
@@ -66,6 +70,7 @@ pub fn play_side(
 }
 
 // How many bytes of a payload that begins at an offset lie before a limit.
+#[tactic(auto, unfolding(crate::specs::Sides::size_before))]
 fn size_before(limit: usize, from: usize, size: usize) -> usize
     ensures { result ≡ size_before limit from size }
 {

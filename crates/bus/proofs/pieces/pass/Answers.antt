@@ -6,8 +6,7 @@ use Rattle.constants.specs.Numbers.{taken}
 use Rattle.bus.specs.Places.{fresh}
 use Rattle.bus.specs.Registers.{◌with◌≔◌}
 use Rattle.bus.specs.Events.{access}
-use Rattle.bus.specs.Recorded.{read_as, chip_of, replay}
-use Rattle.bus.proofs.StretchLaws.{all_left}
+use Rattle.bus.specs.Recorded.{chip_of}
 use Rattle.bus.specs.Reads.{PassedOver, reads_from, after_dummy}
 use Rattle.bus.proofs.PieceLaws.{dummy_first, further, part_to_the_end, still_ready, dummy_once, not_fresh}
 use Rattle.bus.proofs.pieces.pass.Goals as goal

@@ -1,5 +1,5 @@
 -- `bus::pieces::write_round` meets its contract: what is left of the stretch decides, piece by piece.
-use mathlib.Core.Path.{◌≡◌, refl, sym, ◌∙◌, ap}
+use mathlib.Core.Path.{◌≡◌, sym, ◌∙◌, ap}
 use mathlib.Core.List.{map}
 use Prim.Native.Nat.{◌+◌, ◌≤◌}
 use native.Mathlib.Omega.{arith}
@@ -13,7 +13,7 @@ use Rattle.bus.specs.Events.{access}
 use Rattle.bus.specs.Recorded.{recorded_write, chip_of, replay}
 use Rattle.bus.specs.Stretch.{stretch, stretched}
 use Rattle.bus.proofs.Access.{opened}
-use Rattle.bus.proofs.StretchLaws.{stretch_from, all_left, none_left}
+use Rattle.bus.proofs.StretchLaws.{stretch_from, none_left}
 use Rattle.bus.proofs.PieceLaws.{part_given}
 use Rattle.bus.proofs.pieces.write_round.Goals as goal
 

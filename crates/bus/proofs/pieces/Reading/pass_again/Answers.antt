@@ -5,7 +5,7 @@ use lib.ListN.{get_or}
 use Rattle.bus.specs.Memory.{kept}
 use Rattle.bus.specs.Recorded.{read_as, replay}
 use Rattle.bus.proofs.Access.{opened, address_inside}
-use Rattle.bus.proofs.StretchLaws.{all_left, none_left}
+use Rattle.bus.proofs.StretchLaws.{none_left}
 use Rattle.bus.proofs.PieceLaws.{again_read}
 use Rattle.bus.proofs.pieces.Reading.pass_again.Goals as goal
 

@@ -1,5 +1,5 @@
 -- `bus::pieces::Reading::pass_round` meets its contract: what is left of the stretch decides, piece by piece.
-use mathlib.Core.Path.{◌≡◌, refl, sym, ◌∙◌, ap}
+use mathlib.Core.Path.{◌≡◌, sym, ◌∙◌, ap}
 use mathlib.Core.List.{map}
 use Prim.Native.Nat.{ℕ, ◌+◌, ◌≤◌, ◌<◌, ◌-◌}
 use native.Mathlib.Omega.{arith}
@@ -13,9 +13,8 @@ use Rattle.bus.specs.Memory.{address, kept}
 use Rattle.bus.specs.Recorded.{read_as, chip_of, replay}
 use Rattle.bus.specs.Stretch.{stretch, stretched}
 use Rattle.bus.proofs.Access.{opened}
-use Rattle.bus.proofs.StretchLaws.{all_left}
-use Rattle.bus.specs.Reads.{reads_from, column_at}
-use Rattle.bus.proofs.SideBySide.{length_part, in_part}
+use Rattle.bus.specs.Reads.{column_at}
+use Rattle.std.proofs.lemmas.Simd.{get_or-chunk}
 use Rattle.bus.proofs.PieceLaws.{read_piece, still_allowed, part_given}
 use Rattle.bus.proofs.pieces.Reading.pass_round.Goals as goal
 
@@ -46,7 +45,7 @@ loop-memory-preserved c =
     let part : piece ≡ take n (drop at bytes) = c.split_at.ensures.front ∙ ap (λ l. take n l) left in
     let rest : c.split_at.result.1.now ≡ drop (at + n) bytes = c.split_at.ensures.back ∙ ap (λ l. drop n l) left ∙ drop-drop n at bytes in
     let moved : c.with_column-registers.result ≡ (r with column ≔ column_at (r.column + n)) = c.with_column-registers.ensures ∙ ap (λ k. r with column ≔ k) (c.column_after.ensures ∙ ap (λ k. column_at (r.column + k)) long) in
-    let agree : (i : ℕ) → i < length piece → kept r.page (get_or memory (address r.page r.column + i) 0) ≡ get_or piece i 0 = λ i h. ap (λ k. kept r.page (get_or memory (k + i) 0)) (sym lies) ∙ ap (λ k. kept r.page k) (sym (in_part memory from m i (omega (arith, h)))) ∙ c.agree.ensures c.if-agree.true i h in
+    let agree : (i : ℕ) → i < length piece → kept r.page (get_or memory (address r.page r.column + i) 0) ≡ get_or piece i 0 = λ i h. ap (λ k. kept r.page (get_or memory (k + i) 0)) (sym lies) ∙ ap (λ k. kept r.page k) (sym (get_or-chunk from m memory i 0 (omega (arith, h)))) ∙ c.agree.ensures c.if-agree.true i h in
     let read : stretch replay (map read_as (take n (drop at bytes))) (chip_of r memory) ≡ stretched (chip_of (r with column ≔ column_at (r.column + n)) memory) n taken = ap (λ l. stretch replay (map read_as l) (chip_of r memory)) (sym part) ∙ read_piece piece r memory (omega (arith, long)) loop.invariant.3 loop.invariant.4 loop.invariant.5 (omega (arith, long)) agree ∙ ap (λ k. stretched (chip_of (r with column ≔ column_at (r.column + k)) memory) k taken) long in
     rw moved (
       at + n,
