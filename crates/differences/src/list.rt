@@ -112,7 +112,7 @@ fn put_all<E: Entry, const BYTES: usize, const CHUNK: usize>(
     let (second, _) = second.as_chunks::<CHUNK>();
     let mut next = 0;
     for (chunk, (was, is)) in first.iter().zip(second).enumerate() {
-        if was != is {
+        if *was != *is {
             next = put_rows::<E, CHUNK>(list, next, chunk * (CHUNK / WIDTH), was, is);
         }
     }
@@ -131,11 +131,11 @@ fn put_rows<E: Entry, const CHUNK: usize>(
     requires room { Room E.SIZE list.old at (by_rows width (λ (p : ℕ). E.found (from + p)) first.now second.now (CHUNK / width) 0) }
     ensures { Put E.SIZE E.bytes list.old at (by_rows width (λ (p : ℕ). E.found (from + p)) first.now second.now (CHUNK / width) 0) result list.new }
 {
-    let (first, _) = first.as_chunks::<WIDTH>();
-    let (second, _) = second.as_chunks::<WIDTH>();
+    let (rows, _) = first.as_chunks::<WIDTH>();
+    let (others, _) = second.as_chunks::<WIDTH>();
     let mut next = at;
-    for (row, (was, is)) in first.iter().zip(second).enumerate() {
-        if was != is {
+    for (row, (was, is)) in rows.iter().zip(others).enumerate() {
+        if *was != *is {
             next = E::put(list, next, (from + row) as u8, was, is);
         }
     }

@@ -108,7 +108,7 @@ fn uniform(row: &[u8; WIDTH]) -> bool
 }
 
 // Puts the runs of a row: each from the differing place where it begins to its end, and the next from there on.
-// `while`, as `x` goes on after each run's last place and not by one.
+// A `while`: `x` goes on after each run's last place, and a `for` goes on by one.
 fn put_runs(
     list: &mut [u8],
     at: usize,
