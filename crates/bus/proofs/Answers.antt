@@ -19,8 +19,8 @@ use Rattle.bus.specs.Events.{number_of, obeyed, command, access, write, read, re
 use Rattle.bus.specs.Chip.{Event, command_byte, data_written, data_read, reset_pulse, step, Leaves}
 use Rattle.bus.specs.Given.{call_numbers}
 use Rattle.bus.specs.declared.registers.Registers.{Registers}
-use Rattle.bus.specs.declared.answer.After.{After}
-use Rattle.bus.specs.declared.answer.Answer.{Answer}
+use Rattle.bus.specs.Answer.{After}
+use Rattle.bus.specs.Answer.{Answer}
 
 -- a number that the call of an event can give
 abbrev pub Callable : ℕ → Type 0

@@ -15,8 +15,8 @@ use Rattle.bus.specs.Events.{number_of, byte_of, dummy_of, access, moved, write,
 use Rattle.bus.specs.Image.{short, legal, asked}
 use Rattle.bus.specs.declared.registers.Registers.{Registers}
 use Rattle.bus.specs.Calls.{reply_of}
-use Rattle.bus.specs.declared.answer.Answer.{Answer}
-use Rattle.bus.specs.declared.image.Asked.{Asked}
+use Rattle.bus.specs.Answer.{Answer}
+use Rattle.bus.specs.Answer.{Asked}
 use Rattle.bus.proofs.Answers.{Silent}
 
 module _ (state memory : List ℕ) where

@@ -13,7 +13,7 @@ use Rattle.bus.specs.Chip.{Event, command_byte, data_written, data_read, reset_p
 use Rattle.bus.specs.Image.{short, legal, asked}
 use Rattle.bus.specs.Calls.{asked_before}
 use Rattle.bus.specs.declared.registers.Registers.{Registers}
-use Rattle.bus.specs.declared.image.Asked.{Asked}
+use Rattle.bus.specs.Answer.{Asked}
 
 -- the two answers are never equal
 never : {n : ℕ} {r : Registers} → Asked.Refused n ≡ Asked.Found r → ⊥

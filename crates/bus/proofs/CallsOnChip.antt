@@ -18,7 +18,7 @@ use Rattle.bus.specs.Bytes.{All, IsByte}
 use Rattle.bus.specs.StaysLegal.{LegalRegisters, Keeps}
 use Rattle.bus.specs.CallsOnChip.{chip_in, imaged_in, lent, after_calls, CallsOnChip}
 use Rattle.bus.specs.declared.registers.Registers.{Registers}
-use Rattle.bus.specs.declared.answer.Answer.{Answer}
+use Rattle.bus.specs.Answer.{Answer}
 use Rattle.bus.specs.declared.start.Hung.{Hung}
 use Rattle.bus.proofs.Legal.{long}
 use Rattle.bus.proofs.Kept.{state_facts, step_keeps, start_legal}

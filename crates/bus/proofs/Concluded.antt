@@ -5,9 +5,9 @@ use mathlib.Core.List.{List}
 use Prim.Native.Nat.{ℕ}
 use Rattle.bus.specs.Chip.{Event, Outcome}
 use Rattle.bus.specs.Calls.{called, reply_of, state_after, refused, concluded, asked_before, call_on, call}
-use Rattle.bus.specs.declared.answer.Answer.{Answer}
-use Rattle.bus.specs.declared.image.Asked.{Asked}
-use Rattle.bus.specs.declared.calls.Reply.{Reply}
+use Rattle.bus.specs.Answer.{Answer}
+use Rattle.bus.specs.Answer.{Asked}
+use Rattle.bus.specs.Answer.{Reply}
 
 -- an answer that is replied and stored, with the memory that the event leaves
 pub as_concluded : (outcome : Outcome) (state : List ℕ) {answer : Answer} {reply : Reply} {later left : List ℕ} → answer ≡ outcome.answer → reply ≡ reply_of answer → later ≡ state_after answer state → left ≡ outcome.memory → called reply later left ≡ concluded outcome state

@@ -25,7 +25,7 @@ use Rattle.bus.specs.Bytes.{All, IsByte}
 use Rattle.bus.specs.CallsOnChip.{chip_in, imaged_in, lent}
 use Rattle.bus.specs.Directions.{undirected, SameButDirections, SameChips, after, from_start, SameAnswers, Directions}
 use Rattle.bus.specs.declared.registers.Registers.{Registers}
-use Rattle.bus.specs.declared.answer.Answer.{Answer}
+use Rattle.bus.specs.Answer.{Answer}
 use Rattle.bus.specs.declared.start.Hung.{Hung}
 use Rattle.bus.proofs.ThereAndBack.{image_with}
 use Rattle.bus.proofs.StaysLegal.{stays_legal}

@@ -28,12 +28,12 @@ use Rattle.bus.specs.Start.{registers_at_start}
 use Rattle.bus.specs.StaysLegal.{LegalRegisters, Keeps}
 use Rattle.bus.proofs.Legal.{long}
 use Rattle.bus.specs.declared.registers.Registers.{Registers}
-use Rattle.bus.specs.declared.answer.Answer.{Answer}
+use Rattle.bus.specs.Answer.{Answer}
 use Rattle.bus.specs.declared.start.Hung.{Hung}
 use Rattle.bus.proofs.Access.{opened}
 use Rattle.bus.proofs.Asking.{found_legal}
 use Rattle.bus.proofs.ThereAndBack.{image_registers, image_with}
-use Rattle.bus.specs.declared.image.Asked.{Asked}
+use Rattle.bus.specs.Answer.{Asked}
 
 -- the saved column is 0 while read-modify-write is 0, as a fact and as the test
 saved_fact : (modify saved : ℕ) → cond (eqb modify 0) (eqb saved 0) true ≡ true → modify ≡ 0 → saved ≡ 0

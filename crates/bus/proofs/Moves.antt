@@ -19,7 +19,7 @@ use Rattle.bus.specs.Events.{silently, obeyed, command, access, moved, write, du
 use Rattle.bus.specs.Chip.{Leaves}
 use Rattle.bus.specs.Moves.{DataMoves, ReadModifyWrite, Moves}
 use Rattle.bus.specs.declared.registers.Registers.{Registers}
-use Rattle.bus.specs.declared.answer.Answer.{Answer}
+use Rattle.bus.specs.Answer.{Answer}
 
 module _ (r : Registers) (memory : List ℕ) where
   -- what a taken read or write leaves, where a refused one leaves nothing

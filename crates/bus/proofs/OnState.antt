@@ -2,14 +2,15 @@
 -- Assumes nothing.
 use mathlib.Core.Path.{◌≡◌, refl, sym, ◌∙◌, ap}
 use mathlib.Core.Bool.{true, false}
-use mathlib.Core.List.{List}
+use mathlib.Core.List.{List, ◌++◌}
 use Prim.Native.Nat.{ℕ, ◌≤◌, ◌<◌}
 use borrow.Author.Tests.{lt-ltb, le-ltb}
-use lib.ListN.{length, get_or}
+use lib.ListN.{length, get_or, take, drop}
 use Rattle.codes.specs.Table.{meaning_of}
 use Rattle.codes.specs.declared.Command.{Command}
 use Rattle.constants.specs.Sizes.{image_size}
 use Rattle.constants.specs.Numbers.{too_short}
+use Rattle.constants.specs.Refusals.{Met, number_met}
 use Rattle.bus.specs.Places.{awaited}
 use Rattle.bus.specs.Registers.{registers_of, ◌with◌≔◌}
 use Rattle.bus.specs.Events.{number_of, byte_of, dummy_of, obeyed, command, access, write, written, read}
@@ -18,12 +19,13 @@ use Rattle.bus.specs.Image.{short, legal, asked}
 use Rattle.bus.specs.Calls.{called, reply_of, state_after, refused, concluded, asked_before, call_on, call}
 use Rattle.bus.specs.OnState.{on_state, numbered, access_on, OnAccepted}
 use Rattle.bus.specs.declared.registers.Registers.{Registers}
-use Rattle.bus.specs.declared.answer.Answer.{Answer}
-use Rattle.bus.specs.declared.calls.Reply.{Reply}
+use Rattle.bus.specs.Answer.{Answer}
+use Rattle.bus.specs.Answer.{Reply, reply_to}
 use Rattle.bus.proofs.Legal.{long}
-use Rattle.bus.proofs.Answers.{command_silent, step_silent}
+use Rattle.bus.proofs.Answers.{command_silent}
 use Rattle.bus.proofs.AskedFirst.{silent_reply}
 use Rattle.bus.proofs.Concluded.{as_concluded}
+use Rattle.bus.proofs.OwnImage.{registers_in, after_in}
 
 -- a number alone, as the reply to a refusal
 pub number_alone : (number : ℕ) → numbered number ≡ reply_of (Answer.Refused number)
@@ -46,6 +48,12 @@ module _ (event : Event) (state memory : List ℕ) where
       → called reply later left ≡ on_state event state memory
   answers h e p q m = as_concluded (step event (registers_of state) memory) state e p q m ∙ sym (long_state h)
 
+  -- one that is given in the image at the start of the state, and stored there
+  pub in_image : image_size ≤ length state → {image : List ℕ} → image ≡ take image_size state → {answer : Answer} {reply : Reply} {later left : List ℕ} → answer ≡ (step event (registers_of image) memory).answer → reply ≡ reply_of answer → later ≡ state_after answer image → left ≡ (step event (registers_of image) memory).memory
+      → called reply (later ++ drop image_size state) left ≡ on_state event state memory
+  in_image h i {answer} e p q m =
+      answers h (rw (i, registers_in state h) at e) p (ap (λ l. l ++ drop image_size state) (rw i at q) ∙ after_in state h answer) (rw (i, registers_in state h) at m)
+
   -- lengths and ranges asked, it is the call
   pub on_accepted_lem : short state memory ≡ false → legal state ≡ true → on_state event state memory ≡ call event state memory
   unfolding call call_on asked_before asked
@@ -57,28 +65,14 @@ module _ (event : Event) (state memory : List ℕ) where
       by data_read = rw (s, l)
       by reset_pulse = rw s
 
--- a command byte's number and state, as `lent::obey` gives them
-pub command_answers : (state : List ℕ) (byte : ℕ) → image_size ≤ length state → {named : Command} → named ≡ meaning_of (get_or state awaited 0) byte → {number : ℕ} {later : List ℕ}
-    → (number ≡ number_of (obeyed named (registers_of state with awaited ≔ 0))) × (later ≡ state_after (obeyed named (registers_of state with awaited ≔ 0)) state)
-    → (memory : List ℕ) → called (numbered number) later memory ≡ on_state (command_byte byte) state memory
+-- a command byte, obeyed in the image
+pub command_in_image : (state : List ℕ) (byte : ℕ) → image_size ≤ length state → {image : List ℕ} → image ≡ take image_size state → {named : Command} → named ≡ meaning_of (get_or image awaited 0) byte → (met : Met) {later : List ℕ}
+    → (number_met met ≡ number_of (obeyed named (registers_of image with awaited ≔ 0))) × (later ≡ state_after (obeyed named (registers_of image with awaited ≔ 0)) image)
+    → (memory : List ℕ) → called (reply_to met) (later ++ drop image_size state) memory ≡ on_state (command_byte byte) state memory
 unfolding step command
-command_answers state byte h e done memory =
+command_in_image state byte h {image} i e met done memory =
     let so = rw e at done in
-    answers (command_byte byte) state memory h {answer = command byte (registers_of state)} refl (silent_reply _ _ (command_silent byte (registers_of state)) so.0) so.1 refl
-
--- a data byte written, as its answer is concluded
-pub write_answers : (state memory : List ℕ) (byte : ℕ) → image_size ≤ length state → {r : Registers} → r ≡ registers_of state → {answer : Answer} {left : List ℕ} → (answer ≡ write r (length memory)) × (left ≡ written byte r memory)
-    → {reply : Reply} {later : List ℕ} → (reply ≡ reply_of answer) × (later ≡ state_after answer state) → called (numbered reply.number) later left ≡ on_state (data_written byte) state memory
-unfolding step reply_of
-write_answers state memory byte h l {answer} done {reply} done-with =
-    let so = rw l at done in
-    answers (data_written byte) state memory h so.0 (silent_reply reply.number answer (rw so.0 (step_silent (data_written byte) (registers_of state) memory refl)) (ap (λ (r : Reply). r.number) done-with.0)) done-with.1 so.1
-
--- a data byte read
-pub read_answers : (state memory : List ℕ) → image_size ≤ length state → {r : Registers} → r ≡ registers_of state → {answer : Answer} → answer ≡ read r memory
-    → {reply : Reply} {later : List ℕ} → (reply ≡ reply_of answer) × (later ≡ state_after answer state) → called reply later memory ≡ on_state data_read state memory
-unfolding step
-read_answers state memory h l done done-with = answers data_read state memory h (rw l at done) done-with.0 done-with.1 refl
+    in_image (command_byte byte) state memory h i {answer = command byte (registers_of image)} refl (silent_reply _ _ (command_silent byte (registers_of image)) so.0) so.1 refl
 
 -- what a data write or read meets
 module _ (state memory : List ℕ) where
@@ -86,9 +80,9 @@ module _ (state memory : List ℕ) where
   unfolding access_on
   access_short h = rw (lt-ltb _ _ h)
 
-  pub access_long : image_size ≤ length state → {r : Registers} → r ≡ registers_of state → {number : ℕ} → number ≡ access r (length memory) → number ≡ access_on state memory
+  pub access_long : image_size ≤ length state → {image : List ℕ} → image ≡ take image_size state → {number : ℕ} → number ≡ access (registers_of image) (length memory) → number ≡ access_on state memory
   unfolding access_on
-  access_long h l e = rw (le-ltb _ _ h, e, l)
+  access_long h i e = rw (le-ltb _ _ h) (rw (i, registers_in state h) at e)
 
 pub on_accepted : OnAccepted
 on_accepted = record { the_call = λ event state memory a. on_accepted_lem event state memory a.long_enough a.in_ranges }

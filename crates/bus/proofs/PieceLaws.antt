@@ -18,14 +18,14 @@ use Rattle.bus.specs.Places.{column, fresh}
 use Rattle.bus.specs.Registers.{◌with◌≔◌}
 use Rattle.bus.specs.Memory.{address, kept, onward}
 use Rattle.bus.specs.Events.{access, moved, write, written, read}
-use Rattle.bus.specs.Chip.{step}
+use Rattle.bus.specs.Chip.{Chip, step}
 use Rattle.bus.specs.Result.{Result, gives}
 use Rattle.bus.specs.Recorded.{recorded_write, read_as, chip_of, replay, happened, compared}
 use Rattle.bus.specs.Stretch.{stretch, stretched, counted_on}
 use Rattle.bus.specs.declared.registers.Registers.{Registers}
 use Rattle.bus.proofs.Access.{Open, opened}
 use Rattle.bus.proofs.StretchLaws.{stretch_from, stretches, turn_given, all_left}
-use Rattle.bus.specs.Reads.{dummy_reads, after_dummy, column_at}
+use Rattle.bus.specs.Reads.{reads_from, dummy_reads, after_dummy, column_at}
 
 -- what the four tests ask
 pub closed : (r : Registers) (size : ℕ) → Open r size → access r size ≡ taken
@@ -151,6 +151,13 @@ module _ {S E : Type 0} (step : E → S → Result S) (means : ℕ → E) (bytes
       ap (λ x. counted_on at (counted_on (length (map means part)) (stretch step (map means (drop n (drop at bytes))) x.state))) e ∙
       ap (λ l. counted_on at (counted_on (length (map means part)) (stretch step (map means l) t))) (drop-drop n at bytes) ∙
       ap (λ k. stretched later.state k later.number) sum
+
+-- Reads from an offset on, and of those some that are passed over.
+pub further : (bytes : List ℕ) (at n : ℕ) (c d : Chip) → stretch replay (map read_as (drop at bytes)) c ≡ reads_from n (drop at bytes) d → reads_from at bytes c ≡ reads_from (at + n) bytes d
+further bytes at n c d e =
+    let later = stretch replay (map read_as (drop (at + n) bytes)) d in
+    let sum : at + (n + later.count) ≡ at + n + later.count = omega arith in
+    ap (λ s. counted_on at s) e ∙ ap (λ l. counted_on at (counted_on n (stretch replay (map read_as l) d))) (drop-drop n at bytes) ∙ ap (λ k. stretched later.state k later.number) sum
 
 -- The dummy read comes first, where fresh is 1.
 pub dummy_first : (bytes : List ℕ) (r : Registers) (memory : List ℕ) → access r (length memory) ≡ taken → 0 < length bytes → stretch replay (map read_as bytes) (chip_of r memory) ≡ stretch_from replay read_as bytes (dummy_reads r.fresh) (chip_of (r with fresh ≔ after_dummy r.fresh) memory)

@@ -8,8 +8,8 @@ use lib.Dec.{eqb}
 use Rattle.constants.specs.Numbers.{read_differs}
 use Rattle.bus.specs.Chip.{Event, step, data_read}
 use Rattle.bus.specs.declared.registers.Registers.{Registers}
-use Rattle.bus.specs.declared.answer.After.{After}
-use Rattle.bus.specs.declared.answer.Answer.{Answer}
+use Rattle.bus.specs.Answer.{After}
+use Rattle.bus.specs.Answer.{Answer}
 use Rattle.bus.specs.Result.{refuses, gives}
 use Rattle.bus.specs.Recorded.{event, read_as, chip_of, happened, compared, replay}
 

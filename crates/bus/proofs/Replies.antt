@@ -24,9 +24,9 @@ use Rattle.bus.specs.Chip.{Event, command_byte, data_written, data_read, reset_p
 use Rattle.bus.specs.Image.{awaited_codes, short, legal, asked}
 use Rattle.bus.specs.Calls.{reply_of, concluded, refused, asked_before, call_on, call}
 use Rattle.bus.specs.declared.registers.Registers.{Registers}
-use Rattle.bus.specs.declared.answer.Answer.{Answer}
-use Rattle.bus.specs.declared.image.Asked.{Asked}
-use Rattle.bus.specs.declared.calls.Reply.{Reply}
+use Rattle.bus.specs.Answer.{Answer}
+use Rattle.bus.specs.Answer.{Asked}
+use Rattle.bus.specs.Answer.{Reply}
 use Rattle.bus.proofs.Legal.{long}
 use Rattle.bus.specs.StaysLegal.{LegalRegisters}
 use Rattle.bus.proofs.Kept.{bound, state_facts}

@@ -16,7 +16,7 @@ use Rattle.bus.specs.Calls.{state_after, concluded, asked_before, call_on, call}
 use Rattle.bus.specs.Bytes.{IsByte}
 use Rattle.bus.specs.StaysLegal.{LegalRegisters, Keeps, StaysLegal}
 use Rattle.bus.specs.declared.registers.Registers.{Registers}
-use Rattle.bus.specs.declared.answer.Answer.{Answer}
+use Rattle.bus.specs.Answer.{Answer}
 use Rattle.bus.specs.declared.start.Hung.{Hung}
 use Rattle.bus.proofs.Legal.{long}
 use Rattle.bus.proofs.Asking.{found_legal}

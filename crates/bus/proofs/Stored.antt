@@ -17,7 +17,7 @@ use Rattle.bus.proofs.Asking.{found_legal}
 use Rattle.bus.specs.StaysLegal.{LegalRegisters}
 use Rattle.bus.proofs.Kept.{facts_legal}
 use Rattle.bus.proofs.ThereAndBack.{image_registers}
-use Rattle.bus.specs.declared.image.Asked.{Asked}
+use Rattle.bus.specs.Answer.{Asked}
 
 -- what was found in a state and memory: they are long enough, and the registers are the state's
 pub record Sized (state memory : List ℕ) (r : Registers) : Type 0 where

@@ -18,7 +18,7 @@ use Rattle.bus.specs.Result.{Result, refuses, gives, on_result}
 use Rattle.bus.specs.Recorded.{event, read_as, chip_of, happened, compared, replay}
 use Rattle.bus.specs.Stretch.{Stretched, stretched, counted_on, stretch}
 use Rattle.bus.specs.StretchLaws.{NeverZero, StretchLaws, TheChipNeverZero}
-use Rattle.bus.specs.declared.answer.Answer.{Answer}
+use Rattle.bus.specs.Answer.{Answer}
 use Rattle.bus.proofs.Answers.{StandsFor, step_answers}
 
 -- the bytes from an offset on, with those before it taken

@@ -22,9 +22,9 @@ use Rattle.bus.specs.Registers.{image_of, registers_of, ◌with◌≔◌}
 use Rattle.bus.specs.Calls.{reply_of, state_after, concluded, refused, asked_before, call_on, call}
 use Rattle.bus.specs.Untouched.{pointed_at, Untouched, OneByteWritten}
 use Rattle.bus.specs.declared.registers.Registers.{Registers}
-use Rattle.bus.specs.declared.answer.After.{After}
-use Rattle.bus.specs.declared.answer.Answer.{Answer}
-use Rattle.bus.specs.declared.image.Asked.{Asked}
+use Rattle.bus.specs.Answer.{After}
+use Rattle.bus.specs.Answer.{Answer}
+use Rattle.bus.specs.Answer.{Asked}
 use Rattle.bus.proofs.Access.{opened, address_inside}
 use Rattle.bus.proofs.Asking.{OneOrTwo, asked_refusal, found_legal}
 

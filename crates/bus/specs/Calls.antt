@@ -5,9 +5,9 @@ use Rattle.bus.specs.Registers.{registers_of}
 use Rattle.bus.specs.Events.{number_of, byte_of, dummy_of}
 use Rattle.bus.specs.Chip.{Event, command_byte, data_written, data_read, reset_pulse, Outcome, step}
 use Rattle.bus.specs.Image.{short, asked, stored}
-use Rattle.bus.specs.declared.answer.Answer.{Answer}
-use Rattle.bus.specs.declared.image.Asked.{Asked}
-use Rattle.bus.specs.declared.calls.Reply.{Reply}
+use Rattle.bus.specs.Answer.{Answer}
+use Rattle.bus.specs.Answer.{Asked}
+use Rattle.bus.specs.Answer.{Reply}
 
 -- What a call replies, and the state and memory that it leaves.
 pub record Called : Type 0 where

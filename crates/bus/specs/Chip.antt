@@ -2,7 +2,7 @@
 use Rattle.std.specs.Prelude.{ℕ, List, [], ◌∷◌, length}
 use Rattle.bus.specs.Events.{command, write, written, read, reset_pin}
 use Rattle.bus.specs.declared.registers.Registers.{Registers}
-use Rattle.bus.specs.declared.answer.Answer.{Answer}
+use Rattle.bus.specs.Answer.{Answer}
 
 pub record Chip : Type 0 where
   pub registers : Registers

@@ -8,7 +8,7 @@ use Rattle.bus.specs.Places.{page, column, start_line, offset, multiplex, contra
 use Rattle.bus.specs.Registers.{◌with◌≔◌, power_on}
 use Rattle.bus.specs.Memory.{address, kept, onward}
 use Rattle.bus.specs.declared.registers.Registers.{Registers}
-use Rattle.bus.specs.declared.answer.Answer.{Answer}
+use Rattle.bus.specs.Answer.{Answer}
 
 -- The number, the byte and the dummy mark that each case of an answer stands for.
 unfoldable pub number_of : Answer → ℕ

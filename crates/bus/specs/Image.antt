@@ -6,7 +6,7 @@ use Rattle.constants.specs.Numbers.{too_short, out_of_range}
 use Rattle.bus.specs.Places.{awaited, modify, saved}
 use Rattle.bus.specs.Registers.{largest_values, image_of, registers_of}
 use Rattle.bus.specs.declared.registers.Registers.{Registers}
-use Rattle.bus.specs.declared.image.Asked.{Asked}
+use Rattle.bus.specs.Answer.{Asked}
 
 -- Each byte of an image is at most the largest value in the list beside it.
 unfoldable pub within : List ℕ → List ℕ → Bool

@@ -5,6 +5,8 @@ pub mod Places
 pub mod Registers
 -- where a byte lies, what of it is kept, the column after it
 pub mod Memory
+-- what an event answers and a call replies, and what the results of code stand for
+pub mod Answer
 -- what each of the four events answers, and the memory that a write leaves
 pub mod Events
 -- the chip as a machine: registers and memory, a step for each event
@@ -23,9 +25,13 @@ pub mod Result
 pub mod Recorded
 -- a stretch of events over any step: how far it came
 pub mod Stretch
--- for functions inside the crate: bytes put and compared side by side
+-- for functions inside the crate: what is asked before anything is loaded
+pub mod Accepts
+-- for them too: bytes put and compared side by side
 pub mod Pieces
--- for them too: a stretch of reads, from an offset on
+-- for them too: the registers by the names that code has
+pub mod Held
+-- and a stretch of reads, from an offset on
 pub mod Reads
 -- 2. Laws, each proved in the file of that name in proofs/.
 -- why some of them take bytes below 256

@@ -7,7 +7,7 @@ use Rattle.bus.specs.Events.{access}
 use Rattle.bus.specs.Chip.{Event, step}
 use Rattle.bus.specs.Image.{Accepted}
 use Rattle.bus.specs.Calls.{Called, refused, concluded, call}
-use Rattle.bus.specs.declared.calls.Reply.{Reply}
+use Rattle.bus.specs.Answer.{Reply}
 
 -- The event on the registers of the state, whatever they are; a state that is too short is refused 1.
 unfoldable pub on_state : Event → List ℕ → List ℕ → Called

@@ -4,7 +4,7 @@ use Rattle.constants.specs.Numbers.{read_differs}
 use Rattle.bus.specs.Chip.{Chip, Event, command_byte, data_written, data_read, step}
 use Rattle.bus.specs.Result.{Result, refuses, gives}
 use Rattle.bus.specs.declared.registers.Registers.{Registers}
-use Rattle.bus.specs.declared.answer.Answer.{Answer}
+use Rattle.bus.specs.Answer.{Answer}
 
 -- What was recorded: a bus event, or a read event with the byte that the firmware read.
 pub data Recorded : Type 0 where

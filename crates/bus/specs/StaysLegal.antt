@@ -8,7 +8,7 @@ use Rattle.bus.specs.Start.{registers_at_start, start_of}
 use Rattle.bus.specs.Calls.{call}
 use Rattle.bus.specs.Bytes.{IsByte}
 use Rattle.bus.specs.declared.registers.Registers.{Registers}
-use Rattle.bus.specs.declared.answer.Answer.{Answer}
+use Rattle.bus.specs.Answer.{Answer}
 use Rattle.bus.specs.declared.start.Hung.{Hung}
 
 -- Legal registers: each in its range, the awaited code one of seven, and the saved column 0 while read-modify-write is 0.

@@ -1,6 +1,7 @@
 -- A stretch: events in order, up to the first that is refused. Over any machine that has a step.
 use Rattle.std.specs.Prelude.{ℕ, ◌+◌, List, [], ◌∷◌}
 use Rattle.constants.specs.Numbers
+use Rattle.constants.specs.Refusals.{Met, number_met}
 use Rattle.bus.specs.Result.{Result, on_result}
 use Rattle.bus.specs.Chip.{Chip}
 use Rattle.bus.specs.Recorded.{chip_of}
@@ -27,8 +28,8 @@ stretch step (event ∷ rest) s = on_result (step event s) (λ number. stretched
 
 -- The code's, with the memory that is left beside it.
 abbrev pub stretch_of : Stretch → List ℕ → Stretched Chip
-stretch_of s memory = stretched (chip_of s.registers memory) s.count s.number
+stretch_of s memory = stretched (chip_of s.registers memory) s.count (number_met s.outcome)
 
--- The code's, stopped with a number after so many.
-abbrev pub halted_at : ℕ → ℕ → Registers → Stretch
-halted_at stop count r = record { registers = r; count = count; number = stop }
+-- The code's, stopped or all taken after so many.
+abbrev pub halted_at : Met → ℕ → Registers → Stretch
+halted_at outcome count r = record { registers = r; count = count; outcome = outcome }

@@ -1,16 +1,9 @@
-// What an event answers: the new state, or a refusal number.
+// What a taken read answers.
 use crate::registers::Registers;
 
-// What a taken event leaves and answers: the registers, the byte read, and whether the read was the dummy read.
-#[derive(Drop)]
-pub struct After {
+// The registers that a taken read leaves, and the byte; none where it was the dummy read.
+#[derive(Clone, Copy)]
+pub struct Read {
     pub registers: Registers,
-    pub byte: u8,
-    pub dummy: bool,
-}
-
-#[derive(Drop)]
-pub enum Answer {
-    Taken(After),
-    Refused(u8),
+    pub byte: Option<u8>,
 }

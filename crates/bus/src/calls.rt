@@ -1,107 +1,61 @@
 // The event calls, lent the state image and the display memory.
 ghost use Rattle.std.specs.Prelude.{◌≡◌};
+ghost use Rattle.bus.specs.Answer.{reply_to, reply_to_read};
 ghost use Rattle.bus.specs.Chip.{command_byte, data_written, data_read, reset_pulse};
-ghost use Rattle.bus.specs.Calls.{called, reply_of, state_after, call};
+ghost use Rattle.bus.specs.Calls.{called, call};
+ghost use Rattle.bus.specs.Accepts.{Accepts};
 
-use crate::answer::Answer;
+use crate::accepted;
 use crate::image::{legal, short};
 use crate::registers::Registers;
-use constants::refusal::{OUT_OF_RANGE, TAKEN, TOO_SHORT};
-
-// What a call answers: the number, the byte read, and whether the read was the dummy read.
-#[derive(Drop)]
-pub struct Reply {
-    pub number: u8,
-    pub byte: u8,
-    pub dummy: bool,
-}
+use constants::refusal::Refusal;
 
 // A command byte.
-pub fn command(state: &mut [u8], memory: &[u8], byte: u8) -> Reply
-    ensures { called result state.new memory.now ≡ call (command_byte byte) state.old memory.now }
+pub fn command(state: &mut [u8], memory: &[u8], byte: u8) -> Result<(), Refusal>
+    ensures { called (reply_to result) state.new memory.now ≡ call (command_byte byte) state.old memory.now }
 {
-    if short(state, memory) {
-        return refuse(TOO_SHORT);
-    }
-    if legal(state) {
-        let met = crate::accepted::command(state, byte);
-        return Reply {
-            number: met,
-            byte: 0,
-            dummy: false,
-        };
-    }
-    refuse(OUT_OF_RANGE)
+    accept(state, memory)?;
+    accepted::command(state, byte)
 }
 
 // A data byte written.
-pub fn write(state: &mut [u8], memory: &mut [u8], byte: u8) -> Reply
-    ensures { called result state.new memory.new ≡ call (data_written byte) state.old memory.old }
+pub fn write(state: &mut [u8], memory: &mut [u8], byte: u8) -> Result<(), Refusal>
+    ensures { called (reply_to result) state.new memory.new ≡ call (data_written byte) state.old memory.old }
 {
-    if short(state, memory) {
-        return refuse(TOO_SHORT);
-    }
-    if legal(state) {
-        let met = crate::accepted::write(state, memory, byte);
-        return Reply {
-            number: met,
-            byte: 0,
-            dummy: false,
-        };
-    }
-    refuse(OUT_OF_RANGE)
+    accept(state, memory)?;
+    accepted::write(state, memory, byte)
 }
 
-// A data byte read.
-pub fn read(state: &mut [u8], memory: &[u8]) -> Reply
-    ensures { called result state.new memory.now ≡ call data_read state.old memory.now }
+// A data byte read; none where it was the dummy read.
+pub fn read(state: &mut [u8], memory: &[u8]) -> Result<Option<u8>, Refusal>
+    ensures { called (reply_to_read result) state.new memory.now ≡ call data_read state.old memory.now }
 {
-    if short(state, memory) {
-        return refuse(TOO_SHORT);
-    }
-    if legal(state) {
-        return crate::accepted::read(state, memory);
-    }
-    refuse(OUT_OF_RANGE)
+    accept(state, memory)?;
+    accepted::read(state, memory)
 }
 
 // A pulse on the reset pin, which is asked for the lengths alone.
-pub fn reset_pin(state: &mut [u8], memory: &[u8]) -> Reply
-    ensures { called result state.new memory.now ≡ call reset_pulse state.old memory.now }
+pub fn reset_pin(state: &mut [u8], memory: &[u8]) -> Result<(), Refusal>
+    ensures { called (reply_to result) state.new memory.now ≡ call reset_pulse state.old memory.now }
 {
     if short(state, memory) {
-        return refuse(TOO_SHORT);
+        return Err(Refusal::TooShort);
     }
     // Any registers do: an image out of its ranges is not loaded.
-    let registers = Registers::power_on();
-    conclude(registers.reset_pin(), state)
+    let left = Registers::power_on().reset_pin();
+    left.store(state);
+    Ok(())
 }
 
-// Stores the registers of a taken event, and says its number, byte and dummy mark.
-pub fn conclude(answer: Answer, state: &mut [u8]) -> Reply
-    ensures { (result ≡ reply_of answer) × (state.new ≡ state_after answer state.old) }
+// Asks a lent state and memory for their lengths, and then the state for its ranges.
+fn accept(state: &[u8], memory: &[u8]) -> Result<(), Refusal>
+    ensures { Accepts result state.now memory.now }
 {
-    match answer {
-        Answer::Taken(after) => {
-            let registers = after.registers;
-            registers.store(state);
-            Reply {
-                number: TAKEN,
-                byte: after.byte,
-                dummy: after.dummy,
-            }
-        }
-        Answer::Refused(number) => refuse(number),
+    if short(state, memory) {
+        return Err(Refusal::TooShort);
     }
-}
-
-// The reply of a refusal.
-pub fn refuse(number: u8) -> Reply
-    ensures { result ≡ reply_of (Answer.Refused number) }
-{
-    Reply {
-        number,
-        byte: 0,
-        dummy: false,
+    if legal(state) {
+        return Ok(());
     }
+    Err(Refusal::OutOfRange)
 }

@@ -1,87 +1,72 @@
 // Data written to and read from the display memory.
 ghost use Rattle.std.specs.Prelude.{◌≡◌, ◌≤◌, length};
 ghost use Rattle.constants.specs.Sizes.{last_column};
+ghost use Rattle.constants.specs.Refusals.{number_met};
+ghost use Rattle.bus.specs.Answer.{answer_of, answer_of_read};
 ghost use Rattle.bus.specs.Memory.{address, kept, onward};
 ghost use Rattle.bus.specs.Events.{access, write, written, read};
 
-use crate::answer::{After, Answer};
+use crate::answer::Read;
 use crate::registers::Registers;
-use constants::refusal::{CODE_AWAITED, COLUMN_ABOVE, OUT_OF_RANGE, TAKEN, TOO_SHORT};
+use constants::refusal::Refusal;
 use constants::sizes::{ICON_PAGE, LAST_COLUMN, MEMORY_SIZE, PAGES, WIDTH};
 
 impl Registers {
     // A data byte written: one byte of the memory is stored, fresh is 1 and the column moves on.
-    pub fn write(self, memory: &mut [u8], byte: u8) -> Answer
-        ensures { (result ≡ write self (length memory.old)) × (memory.new ≡ written byte self memory.old) }
+    pub fn write(self, memory: &mut [u8], byte: u8) -> Result<Registers, Refusal>
+        ensures { (answer_of result ≡ write self (length memory.old)) × (memory.new ≡ written byte self memory.old) }
     {
-        let number = self.access(memory.len());
-        if number == TAKEN {
-            let at = address(self.page, self.column);
-            let bits = kept(self.page, byte);
-            memory[at] = bits;
-            let column = onward(self.column);
-            let registers = self.with_column(column).with_fresh(1);
-            return Answer::Taken(After {
-                registers,
-                byte: 0,
-                dummy: false,
-            });
-        }
-        Answer::Refused(number)
+        self.access(memory.len())?;
+        let at = address(self.page, self.column);
+        memory[at] = kept(self.page, byte);
+        Ok(self.with_column(onward(self.column)).with_fresh(1))
     }
 
     // A data byte read: the dummy read where fresh is 1, else the byte, and the column moves on outside read-modify-write.
-    pub fn read(self, memory: &[u8]) -> Answer
-        ensures { result ≡ read self memory.now }
+    pub fn read(self, memory: &[u8]) -> Result<Read, Refusal>
+        ensures { answer_of_read result ≡ read self memory.now }
     {
-        let number = self.access(memory.len());
-        if number == TAKEN {
-            // The last return alone moves the column on.
-            let column = onward(self.column);
-            let moved = self.with_column(column);
-            if self.fresh == 1 {
-                let registers = self.with_fresh(0);
-                return Answer::Taken(After {
-                    registers,
-                    byte: 0,
-                    dummy: true,
-                });
-            }
-            let at = address(self.page, self.column);
-            let byte = kept(self.page, memory[at]);
-            if self.modify == 1 {
-                return Answer::Taken(After {
-                    registers: self,
-                    byte,
-                    dummy: false,
-                });
-            }
-            return Answer::Taken(After {
-                registers: moved,
-                byte,
-                dummy: false,
+        self.access(memory.len())?;
+        // The last return alone moves the column on.
+        let moved = self.with_column(onward(self.column));
+        if self.fresh == 1 {
+            let registers = self.with_fresh(0);
+            return Ok(Read {
+                registers,
+                byte: None,
             });
         }
-        Answer::Refused(number)
+        let at = address(self.page, self.column);
+        let byte = Some(kept(self.page, memory[at]));
+        if self.modify == 1 {
+            return Ok(Read {
+                registers: self,
+                byte,
+            });
+        }
+        Ok(Read {
+            registers: moved,
+            byte,
+        })
     }
 
     // What a data write or read meets, at a memory of so many bytes: 1 and 2 as far as it uses them, then 6, then 7.
-    pub fn access(self, memory: usize) -> u8
-        ensures { result ≡ access self memory }
+    pub fn access(self, memory: usize) -> Result<(), Refusal>
+        ensures { number_met result ≡ access self memory }
     {
         if memory < MEMORY_SIZE {
-            return TOO_SHORT;
+            return Err(Refusal::TooShort);
         }
         if self.page < PAGES {
             if self.awaited == 0 {
                 if self.column <= LAST_COLUMN {
-                    return TAKEN;
+                    return Ok(());
                 }
-                return COLUMN_ABOVE;
+                return Err(Refusal::ColumnAbove);
             }
-            return CODE_AWAITED;
+            return Err(Refusal::CodeAwaited);
         }
-        OUT_OF_RANGE
+        Err(Refusal::OutOfRange)
     }
 }
 

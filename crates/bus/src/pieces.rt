@@ -5,14 +5,16 @@ ghost use Rattle.constants.specs.Numbers.{taken};
 ghost use Rattle.bus.specs.Events.{access};
 ghost use Rattle.bus.specs.Recorded.{recorded_write, read_as, chip_of, replay};
 ghost use Rattle.bus.specs.Stretch.{stretch, stretched};
-ghost use Rattle.bus.specs.Reads.{reads_from, column_at, dummy_reads, after_dummy};
+ghost use Rattle.bus.specs.Reads.{PassedOver, column_at, dummy_reads, after_dummy};
 
 use crate::data::{address, kept};
-use crate::put::{CHUNK, put};
+use crate::put::put;
 use crate::registers::Registers;
 use crate::same::{agree, repeats};
-use constants::refusal::TAKEN;
 use constants::sizes::WIDTH;
+
+// Fewer reads are read one by one.
+const FEWEST: usize = 32;
 
 // A piece written, from the column on; it ends at column 131 or before it.
 pub fn write_piece(registers: Registers, memory: &mut [u8], bytes: &[u8]) -> Registers
@@ -22,8 +24,9 @@ pub fn write_piece(registers: Registers, memory: &mut [u8], bytes: &[u8]) -> Reg
     let from = address(registers.page, registers.column);
     let to = from + bytes.len();
     put(registers.page, &mut memory[from..to], bytes);
-    let end = (registers.column as usize) + bytes.len();
-    registers.with_column(around(end)).with_fresh(1)
+    registers
+        .with_column(column_after(registers.column, bytes.len()))
+        .with_fresh(1)
 }
 
 // Bytes written up to column 131, and on from 0 of the same page.
@@ -31,12 +34,11 @@ pub fn write_round(mut registers: Registers, memory: &mut [u8], bytes: &[u8]) ->
     requires { (access registers (length memory.old) ≡ taken) × (0 < length bytes.now) }
     ensures { stretch replay (map recorded_write bytes.now) (chip_of registers memory.old) ≡ stretched (chip_of result memory.new) (length bytes.now) taken }
 {
-    let mut at = 0;
-    while at < bytes.len() {
-        let size = piece_size(registers.column, bytes.len() - at);
-        let to = at + size;
-        registers = write_piece(registers, memory, &bytes[at..to]);
-        at = to;
+    let mut left = bytes;
+    while !left.is_empty() {
+        let (piece, rest) = left.split_at(piece_size(registers.column, left.len()));
+        registers = write_piece(registers, memory, piece);
+        left = rest;
     }
     registers
 }
@@ -50,71 +52,89 @@ pub struct Passed {
 
 // Passes over reads that are as the firmware read them, as far as that can be told piece by piece.
 pub fn pass(registers: Registers, memory: &[u8], bytes: &[u8]) -> Passed
-    ensures { (result.count ≤ length bytes.now) × (stretch replay (map read_as bytes.now) (chip_of registers memory.now) ≡ reads_from result.count bytes.now (chip_of result.registers memory.now)) }
+    ensures { PassedOver result registers memory.now bytes.now }
 {
-    if bytes.len() < CHUNK {
-        return so_far(registers, 0);
+    if bytes.len() < FEWEST {
+        return Passed {
+            registers,
+            count: 0,
+        };
     }
-    let number = registers.access(memory.len());
-    if number == TAKEN {
-        let dummies = dummy_reads(registers.fresh);
-        let ready = registers.with_fresh(after_dummy(registers.fresh));
-        return pass_bytes(ready, memory, bytes, dummies);
+    let Ok(()) = registers.access(memory.len()) else {
+        return Passed {
+            registers,
+            count: 0,
+        };
+    };
+    let dummies = dummy_reads(registers.fresh);
+    let ready = registers.with_fresh(after_dummy(registers.fresh));
+    let reading = Reading {
+        registers: ready,
+        memory,
+    };
+    let passed = reading.pass(&bytes[dummies..]);
+    Passed {
+        registers: passed.registers,
+        count: dummies + passed.count,
     }
-    so_far(registers, 0)
 }
 
-// Passes over reads that are no dummy reads, so many being passed over before them.
-fn pass_bytes(registers: Registers, memory: &[u8], bytes: &[u8], count: usize) -> Passed
-    requires { (access registers (length memory.now) ≡ taken) × (count ≤ length bytes.now) × (registers.fresh ≢ 1) }
-    ensures { (result.count ≤ length bytes.now) × (reads_from count bytes.now (chip_of registers memory.now) ≡ reads_from result.count bytes.now (chip_of result.registers memory.now)) }
-{
-    if registers.modify == 1 {
-        return pass_again(registers, memory, bytes, count);
-    }
-    pass_round(registers, memory, bytes, count)
+// Registers and a memory at which data is read, and the next read is no dummy read.
+#[derive(Clone, Copy)]
+struct Reading<'a> {
+    registers: Registers,
+    memory: &'a [u8],
+    ghost allowed: { access registers (length memory.now) ≡ taken },
+    ghost no_dummy: { registers.fresh ≢ 1 },
 }
 
-// In read-modify-write one byte is read again and again.
-fn pass_again(registers: Registers, memory: &[u8], bytes: &[u8], count: usize) -> Passed
-    requires { (access registers (length memory.now) ≡ taken) × (count ≤ length bytes.now) × (registers.fresh ≢ 1) × (registers.modify ≡ 1) }
-    ensures { (result.count ≤ length bytes.now) × (reads_from count bytes.now (chip_of registers memory.now) ≡ reads_from result.count bytes.now (chip_of result.registers memory.now)) }
-{
-    let at = address(registers.page, registers.column);
-    let byte = kept(registers.page, memory[at]);
-    if repeats(byte, &bytes[count..bytes.len()]) {
-        return so_far(registers, bytes.len());
+impl<'a> Reading<'a> {
+    // Passes over reads, none of them a dummy read.
+    fn pass(self, bytes: &[u8]) -> Passed
+        ensures { PassedOver result self.entry.registers self.entry.memory.now bytes.now }
+    {
+        if self.registers.modify == 1 {
+            return self.pass_again(bytes);
+        }
+        self.pass_round(bytes)
     }
-    so_far(registers, count)
-}
 
-// Outside it up to column 131, and on from 0 of the same page.
-fn pass_round(mut registers: Registers, memory: &[u8], bytes: &[u8], count: usize) -> Passed
-    requires { (access registers (length memory.now) ≡ taken) × (count ≤ length bytes.now) × (registers.fresh ≢ 1) × (registers.modify ≢ 1) }
-    ensures { (result.count ≤ length bytes.now) × (reads_from count bytes.now (chip_of registers memory.now) ≡ reads_from result.count bytes.now (chip_of result.registers memory.now)) }
-{
-    let mut at = count;
-    while at < bytes.len() {
-        let size = piece_size(registers.column, bytes.len() - at);
-        let next = at + size;
-        let from = address(registers.page, registers.column);
-        let to = from + size;
-        if agree(registers.page, &memory[from..to], &bytes[at..next]) {
-            let end = (registers.column as usize) + size;
-            registers = registers.with_column(around(end));
-            at = next;
-        } else {
-            return so_far(registers, at);
+    // In read-modify-write one byte is read again and again.
+    fn pass_again(self, bytes: &[u8]) -> Passed
+        requires { self.registers.modify ≡ 1 }
+        ensures { PassedOver result self.entry.registers self.entry.memory.now bytes.now }
+    {
+        let registers = self.registers;
+        let at = address(registers.page, registers.column);
+        let byte = kept(registers.page, self.memory[at]);
+        let count = if repeats(byte, bytes) { bytes.len() } else { 0 };
+        Passed { registers, count }
+    }
+
+    // Outside it up to column 131, and on from 0 of the same page.
+    fn pass_round(self, bytes: &[u8]) -> Passed
+        requires { self.registers.modify ≢ 1 }
+        ensures { PassedOver result self.entry.registers self.entry.memory.now bytes.now }
+    {
+        let memory = self.memory;
+        let mut registers = self.registers;
+        let mut left = bytes;
+        while !left.is_empty() {
+            let (piece, after) = left.split_at(piece_size(registers.column, left.len()));
+            let from = address(registers.page, registers.column);
+            let to = from + piece.len();
+            if agree(registers.page, &memory[from..to], piece) {
+                registers = registers.with_column(column_after(registers.column, piece.len()));
+                left = after;
+            } else {
+                break;
+            }
+        }
+        Passed {
+            registers,
+            count: bytes.len() - left.len(),
         }
     }
-    so_far(registers, at)
-}
-
-// So many, and the registers after them.
-fn so_far(registers: Registers, count: usize) -> Passed
-    ensures { result ≡ record { registers = registers; count = count } }
-{
-    Passed { registers, count }
 }
 
 // How many bytes of those that are left lie up to column 131.
@@ -122,15 +142,14 @@ fn piece_size(column: u8, left: usize) -> usize
     requires { (column ≤ last_column) × (0 < left) }
     ensures { (0 < result) × (result ≤ left) × (column + result ≤ width) }
 {
-    let room = WIDTH - (column as usize);
-    if room < left { room } else { left }
+    left.min(WIDTH - usize::from(column))
 }
 
 // How many dummy reads come first.
 fn dummy_reads(fresh: u8) -> usize
     ensures { result ≡ dummy_reads fresh }
 {
-    if fresh == 1 { 1 } else { 0 }
+    usize::from(fresh == 1)
 }
 
 // Fresh after them.
@@ -140,10 +159,11 @@ fn after_dummy(fresh: u8) -> u8
     if fresh == 1 { 0 } else { fresh }
 }
 
-// The column where a piece has ended: after 131 comes 0.
-fn around(end: usize) -> u8
-    requires { end ≤ width }
-    ensures { result ≡ column_at end }
+// The column where a piece of so many bytes has ended: after 131 comes 0.
+fn column_after(column: u8, size: usize) -> u8
+    requires { column + size ≤ width }
+    ensures { result ≡ column_at (column + size) }
 {
+    let end = usize::from(column) + size;
     if end == WIDTH { 0 } else { end as u8 }
 }

@@ -45,12 +45,12 @@ pub struct Registers {
     pub fresh: u8,
 }
 
-// Awake, or in power save by its name.
-#[derive(Drop)]
+// Awake, or in power save by its name; C is handed the number.
+#[derive(Clone, Copy, Debug, PartialEq, Eq)]
 pub enum PowerState {
-    Awake,
-    Sleep,
-    Standby,
+    Awake = 0,
+    Sleep = 1,
+    Standby = 2,
 }
 
 impl Registers {

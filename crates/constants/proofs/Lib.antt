@@ -1,2 +1,4 @@
 -- Statements that are one equation have one result.
 pub mod Settles
+-- Each refusal has a number of its own.
+pub mod Refusals

@@ -21,7 +21,11 @@ number_of_refusal Refusal.NoSelection = no_selection
 number_of_refusal Refusal.BothSelected = both_selected
 number_of_refusal Refusal.TestMode = test_mode
 
--- The number of what is met: 0 where nothing is refused.
-abbrev pub number_met : Result Unit Refusal → ℕ
+-- What is met: nothing that speaks against it, or a refusal.
+abbrev pub Met : Type 0
+Met = Result Unit Refusal
+
+-- Its number: 0 where nothing is refused.
+abbrev pub number_met : Met → ℕ
 number_met (Ok done) = taken
 number_met (Err refusal) = number_of_refusal refusal

@@ -10,6 +10,7 @@ use constants::refusal::TAKEN;
 use constants::sizes::FRAME_ROWS;
 
 // Puts the listing at the start of the buffer, for a frame that is so wide.
+#[tactic(auto, using(crate::proofs::LengthsOfText::listing_length))]
 pub fn put_listing(text: &mut [u8], number: u8, offset: usize, width: usize, frame: &[u8]) -> usize
     requires width_in_bounds { frame_rows * width ≤ length frame.now }
     requires countable { Countable 0 (listing_across width number offset frame.now) }
@@ -22,6 +23,7 @@ pub fn put_listing(text: &mut [u8], number: u8, offset: usize, width: usize, fra
 }
 
 // Puts what a stopped run first prints; a run that was taken prints nothing.
+#[tactic(auto, using(crate::proofs::LengthsOfText::refused_length))]
 fn put_refused(text: &mut [u8], at: usize, number: u8, offset: usize) -> usize
     requires { Countable at (refused_text number offset) }
     ensures { Put text.old at (refused_text number offset) result text.new }
@@ -30,13 +32,14 @@ fn put_refused(text: &mut [u8], at: usize, number: u8, offset: usize) -> usize
         return at;
     }
     let next = put_bytes(text, at, b"refused ");
-    let next = put_number(text, next, number as usize);
+    let next = put_number(text, next, usize::from(number));
     let next = put_bytes(text, next, b" at ");
     let next = put_number(text, next, offset);
     put(text, next, b'\n')
 }
 
 // Puts the line that says how wide the frame is, and that it has 65 rows.
+#[tactic(auto, using(crate::proofs::LengthsOfText::header_length))]
 fn put_header(text: &mut [u8], at: usize, width: usize) -> usize
     requires { Countable at (header width frame_rows) }
     ensures { Put text.old at (header width frame_rows) result text.new }
@@ -47,18 +50,17 @@ fn put_header(text: &mut [u8], at: usize, width: usize) -> usize
 }
 
 // Puts the lines of the 65 rows.
+#[tactic(auto, using(crate::proofs::RowsOfFrame::within))]
 fn put_lines(text: &mut [u8], at: usize, width: usize, frame: &[u8]) -> usize
     requires width_in_bounds { frame_rows * width ≤ length frame.now }
     requires countable { Countable at (lines width frame.now frame_rows 0) }
     ensures { Put text.old at (lines width frame.now frame_rows 0) result text.new }
 {
     let mut next = at;
-    let mut p = 0;
-    while p < FRAME_ROWS {
+    for p in 0..FRAME_ROWS {
         let start = p * width;
         let end = start + width;
         next = put_line(text, next, p, &frame[start..end]);
-        p += 1;
     }
     next
 }

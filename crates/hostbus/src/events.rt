@@ -2,15 +2,16 @@
 ghost use Rattle.std.specs.Prelude.{◌≡◌};
 ghost use Rattle.bus.specs.Chip.{command_byte, data_written, data_read, reset_pulse};
 ghost use Rattle.bus.specs.Calls.{call};
-ghost use Rattle.hostbus.specs.Events.{flag, state_reply, write_reply, read_reply, of_state, of_both, of_read};
+ghost use Rattle.hostbus.specs.Events.{state_reply, write_reply, read_reply, of_state, of_both, of_read};
+
+use constants::refusal::{TAKEN, number_met};
 
 // A command byte.
 #[unsafe(no_mangle)]
 pub extern "C" fn ssd1815b_command(state: &mut [u8], memory: &[u8], byte: u8) -> u8
     ensures { state_reply result state.new ≡ of_state (call (command_byte byte) state.old memory.now) }
 {
-    let reply = bus::calls::command(state, memory, byte);
-    reply.number
+    number_met(bus::calls::command(state, memory, byte))
 }
 
 // A data byte written.
@@ -18,8 +19,7 @@ pub extern "C" fn ssd1815b_command(state: &mut [u8], memory: &[u8], byte: u8) ->
 pub extern "C" fn ssd1815b_write(state: &mut [u8], memory: &mut [u8], byte: u8) -> u8
     ensures { write_reply result state.new memory.new ≡ of_both (call (data_written byte) state.old memory.old) }
 {
-    let reply = bus::calls::write(state, memory, byte);
-    reply.number
+    number_met(bus::calls::write(state, memory, byte))
 }
 
 // A data byte read: the byte and the dummy mark go to where the host wants them.
@@ -32,10 +32,19 @@ pub extern "C" fn ssd1815b_read(
 ) -> u8
     ensures { read_reply result byte.new dummy.new state.new ≡ of_read (call data_read state.old memory.now) }
 {
-    let reply = bus::calls::read(state, memory);
-    *byte = reply.byte;
-    *dummy = mark(reply.dummy);
-    reply.number
+    *byte = 0;
+    *dummy = 0;
+    match bus::calls::read(state, memory) {
+        Ok(Some(read)) => {
+            *byte = read;
+            TAKEN
+        }
+        Ok(None) => {
+            *dummy = 1;
+            TAKEN
+        }
+        Err(refusal) => u8::from(refusal),
+    }
 }
 
 // A pulse on the reset pin.
@@ -43,13 +52,5 @@ pub extern "C" fn ssd1815b_read(
 pub extern "C" fn ssd1815b_reset(state: &mut [u8], memory: &[u8]) -> u8
     ensures { state_reply result state.new ≡ of_state (call reset_pulse state.old memory.now) }
 {
-    let reply = bus::calls::reset_pin(state, memory);
-    reply.number
-}
-
-// 1 for "dummy", else 0.
-fn mark(dummy: bool) -> u8
-    ensures { result ≡ flag dummy }
-{
-    if dummy { 1 } else { 0 }
+    number_met(bus::calls::reset_pin(state, memory))
 }

@@ -2,16 +2,9 @@
 ghost use Rattle.std.specs.Prelude.{◌≡◌};
 ghost use Rattle.hostbus.specs.PowerState.{power_reply, number_of_power, power_state_of};
 
-use bus::image::{Asked, ask_state};
+use bus::image::ask_state;
 use bus::registers::PowerState;
 use constants::refusal::TAKEN;
-
-// The numbers of the power states.
-const AWAKE: u8 = 0;
-
-const SLEEP: u8 = 1;
-
-const STANDBY: u8 = 2;
 
 // The power state of the registers goes to where the host wants it, awake where the state is refused.
 #[unsafe(no_mangle)]
@@ -19,24 +12,21 @@ pub extern "C" fn ssd1815b_power_state(state: &[u8], power: &mut u8) -> u8
     ensures { power_reply result power.new ≡ power_state_of state.now }
 {
     match ask_state(state) {
-        Asked::Found(registers) => {
+        Ok(registers) => {
             *power = power_number(registers.power_state());
             TAKEN
         }
-        Asked::Refused(number) => {
-            *power = AWAKE;
-            number
+        Err(refusal) => {
+            *power = power_number(PowerState::Awake);
+            u8::from(refusal)
         }
     }
 }
 
 // The number of a power state.
+#[tactic(auto, unfolding(crate::specs::PowerState::number_of_power))]
 fn power_number(power: PowerState) -> u8
     ensures { result ≡ number_of_power power }
 {
-    match power {
-        PowerState::Awake => AWAKE,
-        PowerState::Sleep => SLEEP,
-        PowerState::Standby => STANDBY,
-    }
+    power as u8
 }

@@ -3,7 +3,9 @@ ghost use Rattle.std.specs.Prelude.{◌≡◌};
 ghost use Rattle.bus.specs.Chip.{command_byte, data_written, data_read, reset_pulse};
 ghost use Rattle.widebus.specs.Pair.{both_lent};
 ghost use Rattle.widebus.specs.WideCalls.{wide_call};
-ghost use Rattle.hostwide.specs.Events.{flag, states_reply, lent_reply, read_reply, of_states, of_lent, of_read};
+ghost use Rattle.hostwide.specs.Events.{states_reply, lent_reply, read_reply, of_states, of_lent, of_read};
+
+use constants::refusal::{TAKEN, number_met};
 
 // A command byte.
 #[unsafe(no_mangle)]
@@ -17,15 +19,14 @@ pub extern "C" fn ssd1815b_wide_command(
 ) -> u8
     ensures { states_reply result left_state.new right_state.new ≡ of_states (wide_call selection (command_byte byte) (both_lent left_state.old left_memory.now right_state.old right_memory.now)) }
 {
-    let reply = widebus::calls::command(
+    number_met(widebus::calls::command(
         left_state,
         left_memory,
         right_state,
         right_memory,
         selection,
         byte,
-    );
-    reply.number
+    ))
 }
 
 // A data byte written.
@@ -40,15 +41,14 @@ pub extern "C" fn ssd1815b_wide_write(
 ) -> u8
     ensures { lent_reply result (both_lent left_state.new left_memory.new right_state.new right_memory.new) ≡ of_lent (wide_call selection (data_written byte) (both_lent left_state.old left_memory.old right_state.old right_memory.old)) }
 {
-    let reply = widebus::calls::write(
+    number_met(widebus::calls::write(
         left_state,
         left_memory,
         right_state,
         right_memory,
         selection,
         byte,
-    );
-    reply.number
+    ))
 }
 
 // A data byte read: the byte and the dummy mark go to where the host wants them.
@@ -64,16 +64,24 @@ pub extern "C" fn ssd1815b_wide_read(
 ) -> u8
     ensures { read_reply result byte.new dummy.new left_state.new right_state.new ≡ of_read (wide_call selection data_read (both_lent left_state.old left_memory.now right_state.old right_memory.now)) }
 {
-    let reply = widebus::calls::read(
+    match widebus::calls::read(
         left_state,
         left_memory,
         right_state,
         right_memory,
         selection,
-    );
-    *byte = reply.byte;
-    *dummy = mark(reply.dummy);
-    reply.number
+    ) {
+        Ok(read) => {
+            *byte = read.unwrap_or(0);
+            *dummy = u8::from(read.is_none());
+            TAKEN
+        }
+        Err(refusal) => {
+            *byte = 0;
+            *dummy = 0;
+            u8::from(refusal)
+        }
+    }
 }
 
 // A pulse on the reset pin.
@@ -87,19 +95,11 @@ pub extern "C" fn ssd1815b_wide_reset(
 ) -> u8
     ensures { states_reply result left_state.new right_state.new ≡ of_states (wide_call selection reset_pulse (both_lent left_state.old left_memory.now right_state.old right_memory.now)) }
 {
-    let reply = widebus::calls::reset_pin(
+    number_met(widebus::calls::reset_pin(
         left_state,
         left_memory,
         right_state,
         right_memory,
         selection,
-    );
-    reply.number
-}
-
-// 1 for "dummy", else 0.
-fn mark(dummy: bool) -> u8
-    ensures { result ≡ flag dummy }
-{
-    if dummy { 1 } else { 0 }
+    ))
 }

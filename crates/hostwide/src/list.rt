@@ -4,7 +4,6 @@ ghost use Rattle.framelisting.specs.Listing.{listed_wide};
 ghost use Rattle.hostwide.specs.List.{list_reply, of_listed};
 
 use constants::refusal::TAKEN;
-use framelisting::Listed;
 
 // Lists a wide frame, after a stopped run's number and offset: the text's length goes to where the host wants it, 0 where it is refused.
 #[unsafe(no_mangle)]
@@ -18,13 +17,13 @@ pub extern "C" fn ssd1815b_wide_list(
     ensures { list_reply result length.new text.new ≡ of_listed (listed_wide number offset frame.now text.old) }
 {
     match framelisting::list_wide(number, offset, frame, text) {
-        Listed::Written(written) => {
+        Ok(written) => {
             *length = written;
             TAKEN
         }
-        Listed::Refused(refusal) => {
+        Err(refusal) => {
             *length = 0;
-            refusal
+            u8::from(refusal)
         }
     }
 }

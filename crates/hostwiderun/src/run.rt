@@ -4,6 +4,8 @@ ghost use Rattle.trace.specs.Run.{stop_of};
 ghost use Rattle.widebus.specs.Pair.{both_lent};
 ghost use Rattle.widetrace.specs.WideRun.{wide_ran, wide_run};
 
+use constants::refusal::number_met;
+
 // Runs a trace: the offset where it stopped and the count of whole records done go to where the host wants them.
 #[unsafe(no_mangle)]
 pub extern "C" fn ssd1815b_wide_run(
@@ -20,5 +22,5 @@ pub extern "C" fn ssd1815b_wide_run(
     let stop = widetrace::run::run(left_state, left_memory, right_state, right_memory, bytes);
     *offset = stop.offset;
     *count = stop.count;
-    stop.number
+    number_met(stop.outcome)
 }

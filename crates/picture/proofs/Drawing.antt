@@ -14,7 +14,7 @@ use Rattle.constants.specs.Sizes.{frame_rows, frame_size, width}
 use Rattle.constants.specs.Numbers.{taken, too_short, out_of_range}
 use Rattle.bus.specs.Registers.{registers_of}
 use Rattle.bus.specs.Image.{short, legal, asked}
-use Rattle.bus.specs.declared.image.Asked.{Asked}
+use Rattle.bus.specs.Answer.{Asked}
 use Rattle.bus.specs.declared.registers.Registers.{Registers}
 use Rattle.bus.proofs.Tests.{chosen}
 use Rattle.picture.specs.Scan.{panel_row, row_shows}
@@ -22,7 +22,7 @@ use Rattle.picture.specs.Rows.{scan_of}
 use Rattle.picture.specs.Frame.{turned, shown_bit, while_on, segment, frame, place_of}
 use Rattle.picture.specs.Draw.{Drawn, drawn, draw_on, draw}
 use Rattle.picture.specs.Drawing.{DrawCall, Drawing}
-use Rattle.picture.specs.declared.rows.Shown.{Shown}
+use Rattle.picture.specs.Shown.{Shown}
 use Rattle.picture.proofs.Places.{frame_length, frame_row, frame_place, off_dark}
 
 -- the outcome by what the frame's length, the other two lengths and the ranges test to

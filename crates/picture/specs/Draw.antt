@@ -2,7 +2,7 @@
 use Rattle.std.specs.Prelude.{ℕ, cond, List, ◌++◌, ltb, length, drop}
 use Rattle.constants.specs.Numbers.{taken, too_short}
 use Rattle.bus.specs.Image.{asked}
-use Rattle.bus.specs.declared.image.Asked.{Asked}
+use Rattle.bus.specs.Answer.{Asked}
 use Rattle.constants.specs.Sizes.{frame_size}
 use Rattle.picture.specs.Frame.{frame}
 

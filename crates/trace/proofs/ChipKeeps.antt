@@ -9,7 +9,7 @@ use lib.ListN.{length, drop}
 use Rattle.codes.proofs.Tests.{chosen}
 use Rattle.constants.specs.Sizes.{memory_size}
 use Rattle.bus.specs.Chip.{Chip, data_read}
-use Rattle.bus.specs.declared.answer.Answer.{Answer}
+use Rattle.bus.specs.Answer.{Answer}
 use Rattle.bus.specs.Bytes.{All, Bytes, IsByte}
 use Rattle.bus.specs.StaysLegal.{LegalRegisters, Keeps}
 use Rattle.bus.proofs.Kept.{step_keeps}

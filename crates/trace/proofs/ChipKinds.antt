@@ -10,7 +10,10 @@ use lib.Dec.{eqb}
 use lib.ListN.{length, drop}
 use lib.Seq.{slice, length-slice}
 use Rattle.codes.proofs.Tests.{chosen}
+use Rattle.std.specs.Prelude.{Ok, Err}
 use Rattle.constants.specs.Numbers.{kind_unknown}
+use Rattle.constants.specs.Refusals.{number_of_refusal}
+use Rattle.constants.specs.declared.refusal.Refusal.{Refusal}
 use Rattle.constants.specs.Sizes.{header_size}
 use Rattle.bus.specs.Chip.{reset_pulse, Chip}
 use Rattle.trace.specs.Play.{Result, refuses, gives, stopped, play_events, play_record}
@@ -18,6 +21,8 @@ use Rattle.trace.specs.Given.{Unknown, no_kind, loaded, recorded_by}
 use Rattle.trace.specs.Kinds.{Recorded, event, recorded_command, recorded_write, read_as, events_of, the_chip}
 use Rattle.trace.specs.Records.{Record, record_at, length_of, kind_of, payload_of, whole}
 use Rattle.trace.specs.Front.{front_of}
+use Rattle.trace.specs.Code.{Named, recorded_in}
+use Rattle.trace.specs.declared.kind.Kind as code
 use Rattle.trace.specs.declared.records.Header.{Header}
 use Rattle.trace.specs.declared.records.Front.{Front}
 use Rattle.trace.proofs.WhatStands.{within_trace, the_record, front_whole}
@@ -53,6 +58,15 @@ module _ (trace : List ℕ) (at : ℕ) (header : Header) (h : front_of (drop at 
 
   slice_length : length payload ≡ header.length
   slice_length = length-slice (at + header_size) (at + header_size + header.length) trace (within_trace trace at header h) ∙ omega arith
+
+  -- by what is found for its header
+  pub found_kind : (kind : code.Kind) → Named header (Ok kind) → play_record the_chip (record_at at (drop at trace)) s ≡ play_events the_chip (recorded_in kind payload) (at + header_size) s
+  unfolding play_record
+  found_kind kind named = its_play ∙ rw (named.1 payload slice_length)
+
+  pub found_refusal : (refusal : Refusal) → Named header (Err refusal) → play_record the_chip (record_at at (drop at trace)) s ≡ stopped (number_of_refusal refusal) at s
+  unfolding play_record
+  found_refusal refusal named = its_play ∙ rw (named payload slice_length)
 
   pub kind_1 : header.kind ≡ 1 → play_record the_chip (record_at at (drop at trace)) s ≡ play_events the_chip (map recorded_command payload) (at + header_size) s
   unfolding play_record events_of

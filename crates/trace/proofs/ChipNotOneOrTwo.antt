@@ -23,7 +23,7 @@ use Rattle.bus.specs.Chip.{Chip, Event, command_byte, data_written, data_read, r
 use Rattle.bus.specs.Image.{within, awaited_codes}
 use Rattle.bus.specs.StaysLegal.{LegalRegisters}
 use Rattle.bus.specs.declared.registers.Registers.{Registers}
-use Rattle.bus.specs.declared.answer.Answer.{Answer}
+use Rattle.bus.specs.Answer.{Answer}
 use Rattle.bus.proofs.Answers.{StandsFor, met_by, step_answers}
 use Rattle.bus.proofs.Replies.{Neither, met_neither}
 use Rattle.bus.proofs.Kept.{bound}

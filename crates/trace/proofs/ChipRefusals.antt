@@ -10,8 +10,8 @@ use borrow.Author.Tests.{eqb-false, ne_eqb}
 use lib.Dec.{eqb}
 use Rattle.constants.specs.Numbers.{taken, kind_unknown, read_differs}
 use Rattle.bus.specs.Chip.{Chip, data_read, step}
-use Rattle.bus.specs.declared.answer.After.{After}
-use Rattle.bus.specs.declared.answer.Answer.{Answer}
+use Rattle.bus.specs.Answer.{After}
+use Rattle.bus.specs.Answer.{Answer}
 use Rattle.bus.specs.Events.{number_of, byte_of, dummy_of}
 use Rattle.bus.specs.Calls.{reply_of}
 use Rattle.bus.proofs.Answers.{Callable, StandsFor, step_answers}

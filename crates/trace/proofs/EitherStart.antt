@@ -15,7 +15,7 @@ use Rattle.bus.specs.Image.{within, awaited_codes, legal, short, asked, stored}
 use Rattle.bus.specs.Start.{registers_at_start, memory_at_start, started, start_of}
 use Rattle.bus.specs.Directions.{SameButDirections, SameChips}
 use Rattle.bus.specs.declared.registers.Registers.{Registers}
-use Rattle.bus.specs.declared.image.Asked.{Asked}
+use Rattle.bus.specs.Answer.{Asked}
 use Rattle.bus.specs.declared.start.Hung.{Hung}
 use Rattle.bus.proofs.Directions.{the_starts, directions}
 use Rattle.trace.specs.Records.{split_from, split}

@@ -11,7 +11,7 @@ use Rattle.bus.specs.Chip.{Chip}
 use Rattle.bus.specs.Registers.{registers_of}
 use Rattle.bus.specs.Image.{short, legal, asked}
 use Rattle.bus.specs.declared.registers.Registers.{Registers}
-use Rattle.bus.specs.declared.image.Asked.{Asked}
+use Rattle.bus.specs.Answer.{Asked}
 use Rattle.bus.proofs.Kept.{asked_legal}
 use Rattle.bus.proofs.Replies.{Neither, not_one, not_two}
 use Rattle.trace.specs.Records.{Trace, ended, cut, ◌then◌, split}

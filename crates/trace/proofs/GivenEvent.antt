@@ -19,7 +19,7 @@ use Rattle.bus.specs.Calls.{Called, reply_of, concluded, call}
 use Rattle.bus.specs.Given.{call_numbers}
 use Rattle.bus.specs.Image.{Accepted}
 use Rattle.bus.specs.Bytes.{All, Bytes}
-use Rattle.bus.specs.declared.calls.Reply.{Reply}
+use Rattle.bus.specs.Answer.{Reply}
 use Rattle.bus.proofs.Answers.{Callable}
 use Rattle.bus.proofs.Asking.{found_legal}
 use Rattle.bus.proofs.Given.{given}

@@ -15,7 +15,7 @@ use Rattle.bus.specs.Image.{Accepted}
 use Rattle.bus.specs.Bytes.{Bytes, IsByte}
 use Rattle.bus.specs.Calls.{call}
 use Rattle.bus.specs.Given.{FirstByte, number_from}
-use Rattle.bus.specs.declared.calls.Reply.{Reply}
+use Rattle.bus.specs.Answer.{Reply}
 use Rattle.trace.specs.Records.{kind_of}
 use Rattle.trace.specs.Kinds.{recorded_command, recorded_write, read_as}
 use Rattle.trace.specs.ByCalls.{called_by, meets}

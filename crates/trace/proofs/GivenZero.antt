@@ -16,7 +16,7 @@ use Rattle.bus.specs.Image.{asked}
 use Rattle.bus.specs.Registers.{registers_of}
 use Rattle.bus.specs.Calls.{Called, call}
 use Rattle.bus.specs.declared.registers.Registers.{Registers}
-use Rattle.bus.specs.declared.image.Asked.{Asked}
+use Rattle.bus.specs.Answer.{Asked}
 use Rattle.bus.specs.Bytes.{Bytes}
 use Rattle.bus.proofs.Asking.{found_legal}
 use Rattle.trace.specs.Records.{Trace, ended, cut, ◌then◌, split, records_in}
@@ -26,7 +26,7 @@ use Rattle.trace.specs.OneByOne.{Placed, placed, Script, script, script_from}
 use Rattle.trace.specs.ByCalls.{called_by, meets, by_calls, run_by_calls}
 use Rattle.trace.specs.Run.{Ran, ran, stop_of, run}
 use Rattle.trace.specs.Given.{Unknown, no_kind, loaded, KnownRecords, events_in, EachTaken, AllTaken}
-use Rattle.trace.specs.declared.run.Stop.{Stop}
+use Rattle.trace.specs.Run.{Stop}
 use Rattle.trace.specs.SplitLaws.{Ends, end_of}
 use Rattle.trace.proofs.SplitLaws.{rest, ends_at}
 use Rattle.trace.proofs.ChipKinds.{Kind, commands, writes, reads, reset, none, by_kind}

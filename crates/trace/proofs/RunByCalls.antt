@@ -15,9 +15,9 @@ use Rattle.bus.specs.Chip.{data_read, step}
 use Rattle.bus.specs.Image.{asked, stored}
 use Rattle.bus.specs.Calls.{reply_of, state_after, concluded, call}
 use Rattle.bus.specs.declared.registers.Registers.{Registers}
-use Rattle.bus.specs.declared.answer.Answer.{Answer}
+use Rattle.bus.specs.Answer.{Answer}
 use Rattle.bus.specs.Bytes.{All, Bytes}
-use Rattle.bus.specs.declared.image.Asked.{Asked}
+use Rattle.bus.specs.Answer.{Asked}
 use Rattle.bus.proofs.Answers.{StandsFor, step_answers}
 use Rattle.bus.specs.StaysLegal.{LegalRegisters, Keeps}
 use Rattle.bus.proofs.Kept.{step_keeps, asked_legal}

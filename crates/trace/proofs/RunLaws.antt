@@ -9,7 +9,7 @@ use Rattle.constants.specs.Numbers.{taken}
 use Rattle.bus.specs.Registers.{registers_of}
 use Rattle.bus.specs.Image.{asked, Accepted}
 use Rattle.bus.specs.declared.registers.Registers.{Registers}
-use Rattle.bus.specs.declared.image.Asked.{Asked}
+use Rattle.bus.specs.Answer.{Asked}
 use Rattle.bus.proofs.Asking.{found_legal}
 use Rattle.trace.specs.Records.{split}
 use Rattle.trace.specs.Kinds.{Recorded, chip_of, the_chip}
@@ -18,7 +18,7 @@ use Rattle.trace.specs.ByCalls.{by_calls, run_by_calls}
 use Rattle.trace.specs.Run.{ran, stop_of, ran_of}
 use Rattle.trace.specs.Given.{EachTaken}
 use Rattle.trace.specs.RunLaws.{left_by, met_after, RunLaws, ChipAsMachine}
-use Rattle.trace.specs.declared.run.Stop.{Stop}
+use Rattle.trace.specs.Run.{Stop}
 use Rattle.trace.proofs.OneByOne.{one_by_one_lem}
 use Rattle.trace.proofs.RunOnLent.{run_found, run_empty, run_legal, run_joined, run_whole, run_past, run_lengths}
 use Rattle.trace.proofs.AnyMachine.{any_machine}

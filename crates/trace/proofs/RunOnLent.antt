@@ -9,7 +9,7 @@ use Rattle.constants.specs.Sizes.{image_size, memory_size}
 use Rattle.constants.specs.Numbers.{taken}
 use Rattle.bus.specs.Image.{asked, stored}
 use Rattle.bus.specs.declared.registers.Registers.{Registers}
-use Rattle.bus.specs.declared.image.Asked.{Asked}
+use Rattle.bus.specs.Answer.{Asked}
 use Rattle.bus.specs.Bytes.{Bytes}
 use Rattle.bus.proofs.Asking.{OneOrTwo, asked_refusal}
 use Rattle.bus.proofs.Kept.{asked_legal}

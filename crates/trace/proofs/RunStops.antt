@@ -13,7 +13,7 @@ use Rattle.bus.specs.Chip.{Chip, reset_pulse, step}
 use Rattle.bus.specs.Events.{reset_pin}
 use Rattle.bus.specs.Image.{asked}
 use Rattle.bus.specs.declared.registers.Registers.{Registers}
-use Rattle.bus.specs.declared.image.Asked.{Asked}
+use Rattle.bus.specs.Answer.{Asked}
 use Rattle.bus.proofs.Asking.{OneOrTwo, asked_refusal}
 use Rattle.trace.specs.Records.{length_of, kind_of, payload_of, whole, record_at, split}
 use Rattle.trace.specs.Play.{Result, stopped, play_record, Played, played, play_from, play}

@@ -3,12 +3,12 @@ use Rattle.std.specs.Prelude.{ℕ, cond, not, ◌&&◌, ◌||◌, List, [], ◌�
 use Rattle.constants.specs.Numbers.{taken, read_differs}
 use Rattle.bus.specs.Chip.{Event, data_read}
 use Rattle.bus.specs.Calls.{call}
-use Rattle.bus.specs.declared.calls.Reply.{Reply}
+use Rattle.bus.specs.Answer.{Reply}
 use Rattle.trace.specs.Records.{split}
 use Rattle.trace.specs.Kinds.{Recorded, event, read_as, the_chip}
 use Rattle.trace.specs.OneByOne.{Placed, script_from}
 use Rattle.trace.specs.Run.{Ran, ran, stop_of}
-use Rattle.trace.specs.declared.run.Stop.{Stop}
+use Rattle.trace.specs.Run.{Stop}
 
 -- The call that a recorded event is made by.
 abbrev pub called_by : Recorded → Event

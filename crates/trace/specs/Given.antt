@@ -9,7 +9,7 @@ use Rattle.bus.specs.Image.{short, legal, Accepted}
 use Rattle.bus.specs.Calls.{call}
 use Rattle.bus.specs.Given.{event_numbers}
 use Rattle.bus.specs.Registers.{registers_of}
-use Rattle.bus.specs.declared.calls.Reply.{Reply}
+use Rattle.bus.specs.Answer.{Reply}
 use Rattle.bus.specs.Bytes.{Bytes}
 use Rattle.trace.specs.Records.{Trace, ended, cut, ◌then◌, length_of, kind_of, whole, CutShort, record_bytes, split, records_in}
 use Rattle.trace.specs.Kinds.{Recorded, recorded_command, recorded_write, read_as, the_chip}

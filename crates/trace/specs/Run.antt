@@ -2,11 +2,16 @@
 use Rattle.std.specs.Prelude.{ℕ, List}
 use Rattle.bus.specs.Chip.{Chip}
 use Rattle.bus.specs.Image.{asked, stored}
-use Rattle.bus.specs.declared.image.Asked.{Asked}
+use Rattle.bus.specs.Answer.{Asked}
 use Rattle.trace.specs.Records.{split}
 use Rattle.trace.specs.Play.{Played, play}
 use Rattle.trace.specs.Kinds.{chip_of, the_chip}
-use Rattle.trace.specs.declared.run.Stop.{Stop}
+
+-- Where a run stopped: the number, the offset and the count of whole records done.
+pub record Stop : Type 0 where
+  pub number : ℕ
+  pub offset : ℕ
+  pub count : ℕ
 
 -- What a run answers, and the state and memory that it leaves.
 pub record Ran : Type 0 where

@@ -12,7 +12,7 @@ use Rattle.trace.specs.OneByOne.{Placed, script_from, one_by_one}
 use Rattle.trace.specs.ByCalls.{called_by, meets, by_calls, run_by_calls}
 use Rattle.trace.specs.Run.{Ran, ran, stop_of, ran_of, run}
 use Rattle.trace.specs.Given.{events_in, EachTaken}
-use Rattle.trace.specs.declared.run.Stop.{Stop}
+use Rattle.trace.specs.Run.{Stop}
 use Rattle.bus.specs.Image.{Accepted}
 
 -- What the calls of events leave.

@@ -6,7 +6,7 @@ use Rattle.trace.specs.Records.{split}
 use Rattle.trace.specs.Front.{front_of}
 use Rattle.trace.specs.Play.{play}
 use Rattle.trace.specs.Kinds.{chip_of, the_chip}
-use Rattle.trace.specs.Code.{played_of}
+use Rattle.trace.specs.Code.{stop_met, played_of}
 use Rattle.trace.specs.Run.{ran, run}
 use Rattle.trace.specs.ReaderWalk.{New, Moved, Next}
 use Rattle.trace.specs.declared.reader.Reader.{Reader}
@@ -17,7 +17,7 @@ use Rattle.constants.specs.Settles.{Settles}
 
 pub record Settled : Type 0 where
   -- stop, state, memory
-  pub «run::run» : (state memory trace : List ℕ) → Settles (λ (o : Stop × List ℕ × List ℕ). ran o.0 o.1 o.2 ≡ run state memory trace)
+  pub «run::run» : (state memory trace : List ℕ) → Settles (λ (o : Stop × List ℕ × List ℕ). ran (stop_met o.0) o.1 o.2 ≡ run state memory trace)
   -- stop and registers, memory
   pub «run::play» : (registers : Registers) (memory trace : List ℕ) → Settles (λ (o : Played × List ℕ). played_of o.0 o.1 ≡ play the_chip (split trace) (chip_of registers memory))
   pub records::front_at : (trace : List ℕ) (at : ℕ) → Settles (λ (f : Front). f ≡ front_of (drop at trace))

@@ -1,24 +1,23 @@
 // One record: its header is checked before its payload acts, and what it does is one call on the bus.
 ghost use Rattle.std.specs.Prelude.{◌≡◌, ◌+◌, ◌<◌, ◌^◌, drop};
-ghost use Rattle.constants.specs.Numbers.{kind_unknown};
 ghost use Rattle.trace.specs.Records.{record_at};
 ghost use Rattle.trace.specs.Front.{front_of};
 ghost use Rattle.trace.specs.Play.{play_record};
 ghost use Rattle.trace.specs.Kinds.{the_chip, chip_of};
-ghost use Rattle.trace.specs.Code.{ending_of};
+ghost use Rattle.trace.specs.Code.{ending_of, ended_at};
 
+use crate::kind::Kind;
 use crate::records::{Front, Header};
+use crate::run::Halt;
 use bus::registers::Registers;
-use bus::stretch::{Stretch, commands, reads, reset_pin, writes};
-use constants::refusal::KIND_UNKNOWN;
+use bus::stretch::Stretch;
 use constants::sizes::HEADER_SIZE;
 
-// How a record ends: the registers that it leaves, and the number and offset of what is refused; TAKEN where all is done, and then the offset says nothing.
-#[derive(Drop)]
+// How a record ends: the registers that it leaves, and what it stops at, unless all is done.
+#[derive(Clone, Copy)]
 pub struct Ending {
     pub registers: Registers,
-    pub number: u8,
-    pub offset: usize,
+    pub outcome: Result<(), Halt>,
 }
 
 // The record with this header that stands at an offset of the trace.
@@ -32,44 +31,28 @@ pub fn obey(
     requires { front_of (drop at trace.now) ≡ Front.Whole header }
     ensures { ending_of result memory.new ≡ play_record the_chip (record_at at (drop at trace.now)) (chip_of registers memory.old) }
 {
-    let kind = header.kind;
-    let length = header.length;
     let from = at + HEADER_SIZE;
-    let to = from + length;
-    match kind {
-        1 => ended(commands(registers, &trace[from..to]), from),
-        2 => ended(writes(registers, memory, &trace[from..to]), from),
-        3 => ended(reads(registers, memory, &trace[from..to]), from),
-        4 => {
-            if length == 0 {
-                return ended(reset_pin(registers), from);
-            }
-            unknown(registers, at)
-        }
-        _ => unknown(registers, at),
+    let to = from + header.length;
+    match Kind::try_from(header) {
+        Ok(kind) => ended(kind.obey(registers, memory, &trace[from..to]), from),
+        Err(refusal) => Ending {
+            registers,
+            outcome: Err(Halt {
+                refusal,
+                offset: at,
+            }),
+        },
     }
 }
 
 // A stretch that began at an offset.
 fn ended(stretch: Stretch, from: usize) -> Ending
     requires { from + stretch.count < 2 ^ 64 }
-    ensures { result ≡ record { registers = stretch.registers; number = stretch.number; offset = from + stretch.count } }
+    ensures { result ≡ ended_at (from + stretch.count) stretch }
 {
-    let registers = stretch.registers;
+    let offset = from + stretch.count;
     Ending {
-        registers,
-        number: stretch.number,
-        offset: from + stretch.count,
-    }
-}
-
-// A record that is none of the four, refused at its first byte.
-fn unknown(registers: Registers, at: usize) -> Ending
-    ensures { result ≡ record { registers = registers; number = kind_unknown; offset = at } }
-{
-    Ending {
-        registers,
-        number: KIND_UNKNOWN,
-        offset: at,
+        registers: stretch.registers,
+        outcome: stretch.outcome.map_err(|refusal| Halt { refusal, offset }),
     }
 }

@@ -3,27 +3,34 @@ ghost use Rattle.std.specs.Prelude.{◌≡◌};
 ghost use Rattle.trace.specs.Records.{split};
 ghost use Rattle.trace.specs.Play.{play};
 ghost use Rattle.trace.specs.Kinds.{the_chip, chip_of};
-ghost use Rattle.trace.specs.Code.{played_of};
+ghost use Rattle.trace.specs.Code.{stop_met, played_of};
 ghost use Rattle.trace.specs.Run.{ran, run};
 
-use crate::reader::read_at;
+use crate::reader::Reader;
 use crate::record::obey;
 use crate::records::Front;
-use bus::image::{Asked, ask};
+use bus::image::ask;
 use bus::registers::Registers;
-use constants::refusal::{HEADER_CUT, TAKEN};
+use constants::refusal::Refusal;
 use constants::sizes::HEADER_SIZE;
 
-// Where a run stopped: the number, the offset and the count of whole records done.
-#[derive(Drop)]
+// What a record stops at: a refusal, and the offset of the byte that it is of.
+#[derive(Clone, Copy, Debug, PartialEq, Eq)]
+pub struct Halt {
+    pub refusal: Refusal,
+    pub offset: usize,
+}
+
+// Where a run stopped: with what refusal, unless all is taken, at which offset, and after how many whole records.
+#[derive(Clone, Copy, Debug, PartialEq, Eq)]
 pub struct Stop {
-    pub number: u8,
+    pub outcome: Result<(), Refusal>,
     pub offset: usize,
     pub count: usize,
 }
 
 // A played trace: where it stopped, and the registers that it leaves.
-#[derive(Drop)]
+#[derive(Clone, Copy)]
 pub struct Played {
     pub stop: Stop,
     pub registers: Registers,
@@ -31,17 +38,17 @@ pub struct Played {
 
 // Runs a trace, record by record, up to the first refusal.
 pub fn run(state: &mut [u8], memory: &mut [u8], trace: &[u8]) -> Stop
-    ensures { ran result state.new memory.new ≡ run state.old memory.old trace.now }
+    ensures { ran (stop_met result) state.new memory.new ≡ run state.old memory.old trace.now }
 {
     match ask(state, memory) {
-        Asked::Found(registers) => {
+        Ok(registers) => {
             let played = play(registers, memory, trace);
             let left = played.registers;
             left.store(state);
             played.stop
         }
-        Asked::Refused(number) => Stop {
-            number,
+        Err(refusal) => Stop {
+            outcome: Err(refusal),
             offset: 0,
             count: 0,
         },
@@ -52,34 +59,39 @@ pub fn run(state: &mut [u8], memory: &mut [u8], trace: &[u8]) -> Stop
 pub fn play(mut registers: Registers, memory: &mut [u8], trace: &[u8]) -> Played
     ensures { played_of result memory.new ≡ play the_chip (split trace.now) (chip_of registers memory.old) }
 {
-    let mut at = 0;
+    let mut reader = Reader::new(trace);
     let mut count = 0;
     loop {
-        match read_at(trace, at) {
-            Front::Nothing => return end(TAKEN, at, count, registers),
-            Front::Cut => return end(HEADER_CUT, at, count, registers),
+        let at = reader.at;
+        match reader.next() {
+            Front::Nothing => return end(Ok(()), at, count, registers),
+            Front::Cut => return end(Err(Refusal::HeaderCut), at, count, registers),
             Front::Whole(header) => {
                 let ending = obey(header, registers, memory, trace, at);
                 let left = ending.registers;
-                if ending.number == TAKEN {
-                    registers = left;
-                    at = at + HEADER_SIZE + header.length;
-                    count += 1;
-                } else {
-                    return end(ending.number, ending.offset, count, left);
+                if let Err(halt) = ending.outcome {
+                    return end(Err(halt.refusal), halt.offset, count, left);
                 }
+                registers = left;
+                reader = reader.moved(at + HEADER_SIZE + header.length);
+                count += 1;
             }
         }
     }
 }
 
 // The end of a played trace.
-fn end(number: u8, offset: usize, count: usize, registers: Registers) -> Played
-    ensures { result ≡ record { stop = record { number = number; offset = offset; count = count }; registers = registers } }
+fn end(
+    outcome: Result<(), Refusal>,
+    offset: usize,
+    count: usize,
+    registers: Registers,
+) -> Played
+    ensures { result ≡ record { stop = record { outcome = outcome; offset = offset; count = count }; registers = registers } }
 {
     Played {
         stop: Stop {
-            number,
+            outcome,
             offset,
             count,
         },

@@ -11,7 +11,7 @@ use Rattle.bus.specs.Registers.{image_of, registers_of}
 use Rattle.bus.specs.Chip.{Chip}
 use Rattle.bus.specs.Image.{asked}
 use Rattle.bus.specs.Start.{registers_at_start, memory_at_start}
-use Rattle.bus.specs.declared.image.Asked.{Asked}
+use Rattle.bus.specs.Answer.{Asked}
 use Rattle.bus.specs.declared.start.Hung.{Hung}
 use Rattle.bus.proofs.Asking.{found_legal}
 use Rattle.trace.specs.Records.{split}

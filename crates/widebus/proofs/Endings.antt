@@ -11,7 +11,7 @@ use Rattle.bus.specs.Image.{short, legal}
 use Rattle.bus.specs.Chip.{Event, command_byte, data_written, data_read, reset_pulse}
 use Rattle.bus.specs.Events.{number_of, byte_of, dummy_of}
 use Rattle.bus.specs.Calls.{reply_of}
-use Rattle.bus.specs.declared.calls.Reply.{Reply}
+use Rattle.bus.specs.Answer.{Reply}
 use Rattle.widebus.specs.Selection.{selection_of}
 use Rattle.widebus.specs.Pair.{Pair, ◌beside◌, at, Lent}
 use Rattle.widebus.specs.Asked.{any_short}

@@ -1,7 +1,7 @@
 -- what is asked first
 pub mod Asking
--- the page that is handed back
-pub mod Pages
+-- what a result says of its number
+pub mod Numbered
 -- stretches on a pair of machines
 pub mod Stretches
 -- data bytes written are all taken where one is

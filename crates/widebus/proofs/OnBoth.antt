@@ -18,8 +18,8 @@ use Rattle.bus.specs.Chip.{Event, command_byte, data_written, step}
 use Rattle.bus.specs.Calls.{Called, called, reply_of, state_after, refused, concluded}
 use Rattle.bus.specs.OnState.{on_state, numbered, access_on}
 use Rattle.bus.specs.declared.registers.Registers.{Registers}
-use Rattle.bus.specs.declared.answer.Answer.{Answer}
-use Rattle.bus.specs.declared.image.Asked.{Asked}
+use Rattle.bus.specs.Answer.{Answer}
+use Rattle.bus.specs.Answer.{Asked}
 use Rattle.bus.proofs.Answers.{StandsFor, met_by, step_answers}
 use Rattle.bus.proofs.OnState.{long_state}
 use Rattle.bus.proofs.ThereAndBack.{there_and_back}
@@ -106,12 +106,6 @@ module _ (byte : ℕ) (left right : List ℕ) where
       let stays : ls ≡ left = ap (λ (c : Called). c.state) (first lm) ∙ refusal_leaves (command_byte byte) left lm (λ z. h (n ∙ z)) in
       rw stays (as_refused (both_lent left lm right rm) n ∙ sym (left_refuses_lem _ _ (both_lent left lm right rm) (λ z. h (n ∙ z))))
 
-  -- both take what was tried
-  pub both_commanded : {met other : ℕ} → met ≡ command_meets byte left → met ≡ taken → other ≡ command_meets byte right → other ≡ taken → {first next : ℕ} {ls rs : List ℕ}
-      → ((m : List ℕ) → called (numbered first) ls m ≡ on_state (command_byte byte) left m) → ((m : List ℕ) → called (numbered next) rs m ≡ on_state (command_byte byte) right m)
-      → (lm rm : List ℕ) → wide_called (numbered next) (both_lent ls lm rs rm) ≡ on_both (command_byte byte) (both_lent left lm right rm)
-  both_commanded tried p also q f n lm rm = right_next (λ took. sym also ∙ q) f (ap (λ (c : Called). c.reply.number) (f []) ∙ sym tried ∙ p) n lm rm
-
   -- what was tried on both
   module _ (enough : image_size ≤ length left) {met : ℕ} (tried : met ≡ command_meets byte left) where
     -- the number is that of any memory
@@ -129,24 +123,24 @@ tried_right byte left right l tried p r also h lm rm =
     as_refused (both_lent left lm right rm) n ∙ sym (right_refuses_lem _ _ (both_lent left lm right rm) (sym (whichever byte left right l tried lm) ∙ p) (λ z. h (n ∙ z)))
 
 -- the copy that a command byte is tried on has the state's registers
-module _ (byte : ℕ) (state : List ℕ) (ranged : Ranged state) {asked : Asked} (a : asked ≡ asked_state state) where
-  found_own : asked ≡ Asked.Found (registers_of state)
+module _ (byte : ℕ) (state : List ℕ) (ranged : Ranged state) where
+  found_own : asked_state state ≡ Asked.Found (registers_of state)
   unfolding asked_state
-  found_own = a ∙ rw (le-ltb _ _ ranged.enough, ranged.in_ranges)
+  found_own = rw (le-ltb _ _ ranged.enough, ranged.in_ranges)
 
-  pub on_a_copy : {r : Registers} → asked ≡ Asked.Found r → {copy : List ℕ} → copy ≡ image_of r → {met : ℕ} {later : List ℕ} → ((m : List ℕ) → called (numbered met) later m ≡ on_state (command_byte byte) copy m) → met ≡ command_meets byte state
+  pub on_a_copy : {r : Registers} → Asked.Found r ≡ asked_state state → {copy : List ℕ} → copy ≡ image_of r → {met : ℕ} {later : List ℕ} → ((m : List ℕ) → called (numbered met) later m ≡ on_state (command_byte byte) copy m) → met ≡ command_meets byte state
   on_a_copy {r} f {copy} i {met} done =
-      let own : r ≡ registers_of state = (let both : Asked.Found r ≡ Asked.Found (registers_of state) = sym f ∙ found_own in cc) in
+      let own : r ≡ registers_of state = (let both : Asked.Found r ≡ Asked.Found (registers_of state) = f ∙ found_own in cc) in
       let n : met ≡ (on_state (command_byte byte) copy []).reply.number = ap (λ (c : Called). c.reply.number) (done []) in
       let on-the-copy : (on_state (command_byte byte) copy []).reply.number ≡ met_by (command_byte byte) r 0 = rw i (met_by_lem (command_byte byte) (image_of r) [] (omega (arith, there_and_back.size r))) in
       let on-the-state : met_by (command_byte byte) r 0 ≡ command_meets byte state = rw own (sym (met_by_lem (command_byte byte) state [] ranged.enough)) in
       n ∙ on-the-copy ∙ on-the-state
 
-  pub never_refused : {number : ℕ} → asked ≡ Asked.Refused number → {T : Type 0} → T
-  never_refused f =
-      let both : Asked.Refused _ ≡ Asked.Found (registers_of state) = sym f ∙ found_own in
+  pub never_refused : {number : ℕ} → Asked.Refused number ≡ asked_state state → ⊥
+  never_refused {number} f =
+      let both : Asked.Refused number ≡ Asked.Found (registers_of state) = f ∙ found_own in
       let z : ◌≡◌ {A = ℕ} 0 1 = cc in
-      absurd (omega arith)
+      omega arith
 
 -- a data byte written to both chips
 module _ (byte : ℕ) (all : Pair Lent) {met : ℕ} (m : met ≡ access_on all.left.state all.left.memory) where
@@ -155,6 +149,10 @@ module _ (byte : ℕ) (all : Pair Lent) {met : ℕ} (m : met ≡ access_on all.l
 
   pub write_left_refuses : (met ≡ taken → ⊥) → wide_called (numbered met) all ≡ on_both (data_written byte) all
   write_left_refuses h = as_refused all write_met ∙ sym (left_refuses_lem _ _ all (λ z. h (write_met ∙ z)))
+
+  -- the left takes what it was asked for
+  pub left_writes : met ≡ taken → {first : ℕ} {ls lm : List ℕ} → called (numbered first) ls lm ≡ on_state (data_written byte) all.left.state all.left.memory → first ≡ taken
+  left_writes p f = ap (λ (c : Called). c.reply.number) f ∙ sym write_met ∙ p
 
   module _ (p : met ≡ taken) {other : ℕ} (o : other ≡ access_on all.right.state all.right.memory) where
     write_other : other ≡ (on_state (data_written byte) all.right.state all.right.memory).reply.number
@@ -166,4 +164,4 @@ module _ (byte : ℕ) (all : Pair Lent) {met : ℕ} (m : met ≡ access_on all.l
     pub both_written : other ≡ taken → {first next : ℕ} {ls lm rs rm : List ℕ} → called (numbered first) ls lm ≡ on_state (data_written byte) all.left.state all.left.memory
         → called (numbered next) rs rm ≡ on_state (data_written byte) all.right.state all.right.memory → wide_called (numbered next) (both_lent ls lm rs rm) ≡ on_both (data_written byte) all
     both_written q f n =
-        taken_both all f n (ap (λ (c : Called). c.reply.number) f ∙ sym write_met ∙ p) (ap (λ (c : Called). c.reply.number) n ∙ sym write_other ∙ q)
+        taken_both all f n (left_writes p f) (ap (λ (c : Called). c.reply.number) n ∙ sym write_other ∙ q)

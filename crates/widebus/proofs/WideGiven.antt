@@ -11,7 +11,7 @@ use Rattle.codes.specs.OneOf.{one_of}
 use Rattle.codes.proofs.Tests.{not_listed, listed_later}
 use Rattle.bus.specs.Given.{event_numbers, call_numbers}
 use Rattle.bus.specs.Chip.{Event, data_read, reset_pulse}
-use Rattle.bus.specs.declared.calls.Reply.{Reply}
+use Rattle.bus.specs.Answer.{Reply}
 use Rattle.bus.proofs.Given.{given}
 use Rattle.widebus.specs.Pair.{Pair, at, Lent}
 use Rattle.widebus.specs.OneAndTwo.{EitherShort, BothLong, EitherOutside}

@@ -8,7 +8,7 @@ use lib.ListN.{length, drop}
 use Rattle.constants.specs.Sizes.{image_size, memory_size}
 use Rattle.constants.specs.Numbers.{taken}
 use Rattle.bus.specs.Chip.{Event}
-use Rattle.bus.specs.declared.calls.Reply.{Reply}
+use Rattle.bus.specs.Answer.{Reply}
 use Rattle.bus.proofs.Untouched.{untouched}
 use Rattle.widebus.specs.Pair.{Pair, at, Lent}
 use Rattle.widebus.specs.WideCalls.{WideCalled, refused_wide, leaves, call_on, wide_call}

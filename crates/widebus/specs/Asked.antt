@@ -1,10 +1,22 @@
 -- What a call over two chips asks first: 1 asks every buffer that is lent, and then 2 asks both images, whichever chips are selected.
-use Rattle.std.specs.Prelude.{Bool, cond, ◌||◌}
+use Rattle.std.specs.Prelude.{ℕ, Bool, cond, ◌||◌, Result, Ok, Err}
 use Rattle.constants.specs.Numbers.{too_short}
+use Rattle.constants.specs.Refusals.{number_of_refusal}
+use Rattle.constants.specs.declared.refusal.Refusal.{Refusal}
 use Rattle.bus.specs.Image.{short, asked_state}
-use Rattle.bus.specs.declared.image.Asked.{Asked}
+use Rattle.bus.specs.Answer.{Asked}
 use Rattle.widebus.specs.Pair.{Pair, Lent}
-use Rattle.widebus.specs.declared.both.BothAsked.{BothAsked}
+use Rattle.widebus.specs.declared.both.Both.{Both}
+
+-- What two lent states and memories are found to be: taken up, with the registers of both chips, or refused 1 or 2.
+pub data BothAsked : Type 0 where
+  Found : Both → BothAsked
+  Refused : ℕ → BothAsked
+
+-- The code's own answer.
+abbrev pub both_asked_of : Result Both Refusal → BothAsked
+both_asked_of (Ok registers) = BothAsked.Found registers
+both_asked_of (Err refusal) = BothAsked.Refused (number_of_refusal refusal)
 
 -- A lent state or memory of either chip is too short.
 abbrev pub any_short : Pair Lent → Bool

@@ -5,8 +5,8 @@ use Rattle.bus.specs.Image.{legal}
 use Rattle.bus.specs.Chip.{Event, command_byte, data_written, data_read, reset_pulse}
 use Rattle.bus.specs.Result.{on_result}
 use Rattle.bus.specs.Calls.{Called, reply_of, call}
-use Rattle.bus.specs.declared.answer.Answer.{Answer}
-use Rattle.bus.specs.declared.calls.Reply.{Reply}
+use Rattle.bus.specs.Answer.{Answer}
+use Rattle.bus.specs.Answer.{Reply}
 use Rattle.widebus.specs.Selection.{selection_of}
 use Rattle.widebus.specs.Pair.{Pair, ◌beside◌, Lent, lent}
 use Rattle.widebus.specs.Asked.{any_short}

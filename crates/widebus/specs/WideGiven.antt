@@ -4,7 +4,7 @@ use Rattle.constants.specs.Numbers.{taken, too_short, out_of_range, no_selection
 use Rattle.codes.specs.OneOf.{one_of}
 use Rattle.bus.specs.Given.{event_numbers, call_numbers}
 use Rattle.bus.specs.Chip.{Event, data_read, reset_pulse}
-use Rattle.bus.specs.declared.calls.Reply.{Reply}
+use Rattle.bus.specs.Answer.{Reply}
 use Rattle.widebus.specs.Pair.{Pair, Lent}
 use Rattle.widebus.specs.OneAndTwo.{EitherShort, BothLong, EitherOutside, BothLegal}
 use Rattle.widebus.specs.WideCalls.{call_on, wide_call}

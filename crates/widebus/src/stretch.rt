@@ -10,42 +10,45 @@ use crate::both::Both;
 use crate::selection::Selection;
 use bus::registers::Registers;
 use bus::stretch::Stretch;
-use constants::refusal::TAKEN;
+use constants::refusal::Refusal;
 
-// What a stretch comes to: the registers of both chips, the count of events taken, and the number that stopped it, 0 where all were taken.
-#[derive(Drop)]
+// What a stretch comes to: the registers of both chips, the count of events taken, and the refusal that stopped it, if any.
+#[derive(Clone, Copy)]
 pub struct WideStretch {
     pub registers: Both,
     pub count: usize,
-    pub number: u8,
+    pub outcome: Result<(), Refusal>,
 }
 
 // Command bytes.
 pub fn commands(selection: Selection, registers: Both, bytes: &[u8]) -> WideStretch
     ensures { (left right : List ℕ) → wide_stretch_of result left right ≡ stretch (replay_on selection) (map recorded_command bytes.now) (chips_of registers left right) }
 {
-    let left = registers.left;
-    let right = registers.right;
+    let Both { left, right } = registers;
     match selection {
-        Selection::Left => on_left(bus::stretch::commands(left, bytes), right),
-        Selection::Right => on_right(bus::stretch::commands(right, bytes), left),
-        Selection::Both => commands_for_both(left, right, bytes),
+        Selection::Left => {
+            let own = bus::stretch::commands(left, bytes);
+            widened(own, own.registers, right)
+        }
+        Selection::Right => {
+            let own = bus::stretch::commands(right, bytes);
+            widened(own, left, own.registers)
+        }
+        Selection::Both => commands_for_both(registers, bytes),
     }
 }
 
 // Command bytes for both: the right chip gets what the left one took; if it takes less, the left one takes no more.
-fn commands_for_both(left: Registers, right: Registers, bytes: &[u8]) -> WideStretch
-    ensures { (left_memory right_memory : List ℕ) → wide_stretch_of result left_memory right_memory ≡ stretch (replay_on Selection.Both) (map recorded_command bytes.now) (chips_of (record { left = left; right = right }) left_memory right_memory) }
+fn commands_for_both(registers: Both, bytes: &[u8]) -> WideStretch
+    ensures { (left right : List ℕ) → wide_stretch_of result left right ≡ stretch (replay_on Selection.Both) (map recorded_command bytes.now) (chips_of registers left right) }
 {
-    let first = bus::stretch::commands(left, bytes);
-    let most = first.count;
-    let second = bus::stretch::commands(right, &bytes[..most]);
-    let less = second.count;
-    if second.number == TAKEN {
-        return on_left(first, second.registers);
+    let first = bus::stretch::commands(registers.left, bytes);
+    let second = bus::stretch::commands(registers.right, &bytes[..first.count]);
+    if second.outcome.is_ok() {
+        return widened(first, first.registers, second.registers);
     }
-    let again = bus::stretch::commands(left, &bytes[..less]);
-    on_right(second, again.registers)
+    let again = bus::stretch::commands(registers.left, &bytes[..second.count]);
+    widened(second, again.registers, second.registers)
 }
 
 // Data bytes written.
@@ -58,11 +61,16 @@ pub fn writes(
 ) -> WideStretch
     ensures { wide_stretch_of result left_memory.new right_memory.new ≡ stretch (replay_on selection) (map recorded_write bytes.now) (chips_of registers left_memory.old right_memory.old) }
 {
-    let left = registers.left;
-    let right = registers.right;
+    let Both { left, right } = registers;
     match selection {
-        Selection::Left => on_left(bus::stretch::writes(left, left_memory, bytes), right),
-        Selection::Right => on_right(bus::stretch::writes(right, right_memory, bytes), left),
+        Selection::Left => {
+            let own = bus::stretch::writes(left, left_memory, bytes);
+            widened(own, own.registers, right)
+        }
+        Selection::Right => {
+            let own = bus::stretch::writes(right, right_memory, bytes);
+            widened(own, left, own.registers)
+        }
         Selection::Both => writes_for_both(registers, left_memory, right_memory, bytes),
     }
 }
@@ -76,55 +84,36 @@ fn writes_for_both(
 ) -> WideStretch
     ensures { wide_stretch_of result left_memory.new right_memory.new ≡ stretch (replay_on Selection.Both) (map recorded_write bytes.now) (chips_of registers left_memory.old right_memory.old) }
 {
-    let left = registers.left;
-    let right = registers.right;
-    if bytes.len() == 0 {
-        return halted(TAKEN, registers);
+    if bytes.is_empty() {
+        return halted(Ok(()), registers);
     }
-    let met = left.access(left_memory.len());
-    if met != TAKEN {
+    let met = registers.access(left_memory.len(), right_memory.len());
+    if met.is_err() {
         return halted(met, registers);
     }
-    let other = right.access(right_memory.len());
-    if other != TAKEN {
-        return halted(other, registers);
-    }
-    let first = bus::stretch::writes(left, left_memory, bytes);
-    let second = bus::stretch::writes(right, right_memory, bytes);
-    on_left(first, second.registers)
+    let first = bus::stretch::writes(registers.left, left_memory, bytes);
+    let second = bus::stretch::writes(registers.right, right_memory, bytes);
+    widened(first, first.registers, second.registers)
 }
 
-// The left chip's stretch, with the right chip's registers beside it.
-fn on_left(stretch: Stretch, right: Registers) -> WideStretch
-    ensures { result ≡ record { registers = record { left = stretch.registers; right = right }; count = stretch.count; number = stretch.number } }
+// One chip's stretch, with the registers of both beside it.
+fn widened(own: Stretch, left: Registers, right: Registers) -> WideStretch
+    ensures { result ≡ record { registers = record { left = left; right = right }; count = own.count; outcome = own.outcome } }
 {
-    let left = stretch.registers;
     WideStretch {
         registers: Both { left, right },
-        count: stretch.count,
-        number: stretch.number,
+        count: own.count,
+        outcome: own.outcome,
     }
 }
 
-// The right chip's stretch, with the left chip's registers beside it.
-fn on_right(stretch: Stretch, left: Registers) -> WideStretch
-    ensures { result ≡ record { registers = record { left = left; right = stretch.registers }; count = stretch.count; number = stretch.number } }
-{
-    let right = stretch.registers;
-    WideStretch {
-        registers: Both { left, right },
-        count: stretch.count,
-        number: stretch.number,
-    }
-}
-
-// Stopped with a number before the first event, or with none to come.
-fn halted(number: u8, registers: Both) -> WideStretch
-    ensures { result ≡ record { registers = registers; count = 0; number = number } }
+// Stopped before the first event, or with none to come.
+fn halted(outcome: Result<(), Refusal>, registers: Both) -> WideStretch
+    ensures { result ≡ record { registers = registers; count = 0; outcome = outcome } }
 {
     WideStretch {
         registers,
         count: 0,
-        number,
+        outcome,
     }
 }

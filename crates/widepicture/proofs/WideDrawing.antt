@@ -15,13 +15,13 @@ use Rattle.constants.specs.Sizes.{frame_size, wide_frame_size}
 use Rattle.constants.specs.Numbers.{taken, too_short, out_of_range}
 use Rattle.bus.specs.Registers.{registers_of}
 use Rattle.bus.specs.Image.{short, legal, asked_state, asked}
-use Rattle.bus.specs.declared.image.Asked.{Asked}
+use Rattle.bus.specs.Answer.{Asked}
 use Rattle.picture.specs.Frame.{frame}
 use Rattle.picture.specs.Draw.{Drawn, drawn, draw_on, draw}
 use Rattle.widebus.specs.Pair.{Pair, Lent, at}
 use Rattle.widebus.specs.Asked.{any_short, both_found, asked_both}
 use Rattle.widebus.specs.OneAndTwo.{EitherOutside, BothLegal}
-use Rattle.widebus.specs.declared.both.BothAsked.{BothAsked}
+use Rattle.widebus.specs.Asked.{BothAsked}
 use Rattle.widebus.specs.declared.selection.Side.{Side}
 use Rattle.widebus.proofs.OneAndTwo.{short_one, one_short, none_short, long_both, outside_one, one_outside}
 use Rattle.widepicture.specs.WideFrame.{wide_frame, half_of}

@@ -28,8 +28,8 @@ use Rattle.widebus.specs.declared.selection.Side.{Side}
 use Rattle.widetrace.specs.Terminal.{happens, selected_by, wide_events_of}
 use Rattle.widetrace.specs.EachChip.{hears}
 use Rattle.widetrace.specs.Sides.{one_side, side_step, the_side}
-use Rattle.widetrace.specs.Heeding.{for_selected, selected_before, heed_of, with_selection, heeded, events_in, Brings}
-use Rattle.widetrace.specs.declared.heed.Heed.{Heed}
+use Rattle.widetrace.specs.Heeding.{for_selected, selected_before, heed_of, with_selection, heeded}
+use Rattle.widetrace.specs.Heeding.{Heed}
 
 -- events that are not refused for being reads of both
 abbrev Let : Selection → List Recorded → Type 0
@@ -146,38 +146,11 @@ module _ (side : Side) (selection : Selection) where
       (λ e. let k = eqb-true kind 4 e in chosen P (eqb (length bytes) 0) _ _ (λ z. own kind at bytes chip (fourth_kind kind at bytes chip k (eqb-true (length bytes) 0 z)) (λ f. omega arith) (let_pulse selection)) (λ z. refused kind at bytes chip kind_unknown (unknown_kind kind bytes (λ f. omega arith) (λ f. omega arith) (λ f. omega arith) (λ f. eqb-false (length bytes) 0 z) (λ f. omega arith))))
       (λ d. chosen P (eqb kind 5) _ _ (λ e. rw (eqb-true kind 5 e) (select_heeded at bytes chip)) (λ e. refused kind at bytes chip kind_unknown (unknown_kind kind bytes (eqb-false kind 1 a) (eqb-false kind 2 b) (eqb-false kind 3 c) (λ f g. eqb-false kind 4 d f) (eqb-false kind 5 e)))))))
 
-  -- what a chip obeys is not refused by its header
+  -- the code's stretch of a record that the chip obeys ends as the record does
   module _ (kind at : ℕ) (bytes : List ℕ) where
-    abbrev IfObeyed : Heed → Type 0
-    IfObeyed heed = heed ≡ Heed.Obeys → Brings kind bytes
-
-    brought : {events : List Recorded} → events_of kind bytes ≡ gives events → Brings kind bytes
-    unfolding events_in
-    brought e = rw e
-
-    passed : {next : Selection} → IfObeyed (Heed.Passes next)
-    passed e = let z : ◌≡◌ {A = ℕ} 0 1 = cc in absurd (omega arith)
-
-    not_taken : {number offset : ℕ} → IfObeyed (Heed.Refused number offset)
-    not_taken e = let z : ◌≡◌ {A = ℕ} 0 1 = cc in absurd (omega arith)
-
-    told : (x : Result Selection) → IfObeyed (selected_before at x)
-    told (refuses number) = not_taken
-    told (gives next) = passed
-
-    pub obeyed_brings : IfObeyed (heed_of side selection kind at bytes)
-    unfolding heed_of events_of
-    obeyed_brings =
-        chosen IfObeyed (eqb kind 1) _ _ (λ e o. brought {events = map recorded_command bytes} (rw e))
-        (λ a. chosen IfObeyed (eqb kind 2) _ _ (λ e o. brought {events = map recorded_write bytes} (rw (a, e)))
-        (λ b. chosen IfObeyed (eqb kind 3) _ _ (λ e o. brought {events = map read_as bytes} (rw (a, b, e)))
-        (λ c. chosen IfObeyed (eqb kind 4) _ _ (λ e. chosen IfObeyed (eqb (length bytes) 0) _ _ (λ z o. brought {events = event reset_pulse ∷ []} (rw (a, b, c, e, z))) (λ z. not_taken))
-        (λ d. chosen IfObeyed (eqb kind 5) _ _ (λ e. told (selected_by bytes)) (λ e. not_taken)))))
-
-    -- the code's stretch of a record that the chip obeys ends as the record does
-    pub ends_as_obeyed : heed_of side selection kind at bytes ≡ Heed.Obeys → (r : Registers) (m : List ℕ) {s : Stretch} {later : List ℕ} → stretch_of s later ≡ stretch replay (events_in kind bytes) (chip_of r m)
+    pub ends_as_obeyed : heed_of side selection kind at bytes ≡ Heed.Obeys → {events : List Recorded} → events_of kind bytes ≡ gives events → (r : Registers) (m : List ℕ) (s : Stretch) (later : List ℕ) → stretch_of s later ≡ stretch replay events (chip_of r m)
         → play_record (the_side side) (record { kind = kind; payload = bytes; place = at }) (one_side (chip_of r m) selection) ≡ with_selection selection (ending_at (at + header_size) (stretch_of s later))
     unfolding heeded play_record
-    ends_as_obeyed o r m h =
-        plays_as_heeded kind at bytes (chip_of r m) ∙ rw (o, obeyed_brings o)
-        (ap (with_selection selection) (are_stretches the_chip the_chip_never_zero (events_in kind bytes) (at + header_size) (chip_of r m) ∙ ap (λ (x : Stretched Chip). ending_at (at + header_size) x) (sym h)))
+    ends_as_obeyed o {events} b r m s later h =
+        plays_as_heeded kind at bytes (chip_of r m) ∙ rw (o, b)
+        (ap (with_selection selection) (are_stretches the_chip the_chip_never_zero events (at + header_size) (chip_of r m) ∙ ap (λ (x : Stretched Chip). ending_at (at + header_size) x) (sym h)))

@@ -2,13 +2,19 @@
 -- Assumes nothing.
 use mathlib.Core.Path.{◌≡◌, refl, sym, ◌∙◌, ap, subst}
 use mathlib.Core.Logic.{◌≢◌}
+use mathlib.Core.Bool.{true, false, false≢true}
 use mathlib.Core.List.{List, ◌++◌}
 use Prim.Native.Nat.{ℕ, ◌≤◌}
 use native.Mathlib.Omega.{arith}
 use native.Mathlib.Nat.{zero-add}
+use borrow.Author.Tests.{eqb-false}
 use lib.ListN.{length, take, drop}
+use Rattle.std.specs.Prelude.{Ok, Err}
+use Rattle.std.specs.Result.{is_ok}
 use Rattle.constants.specs.Sizes.{memory_size}
 use Rattle.constants.specs.Numbers.{taken}
+use Rattle.constants.specs.Refusals.{Met, number_met}
+use Rattle.constants.proofs.Refusals.{refusal_not_taken}
 use Rattle.trace.specs.Records.{split_from, split}
 use Rattle.trace.specs.Play.{Played, played, play}
 use Rattle.trace.specs.Kinds.{chip_of}
@@ -64,7 +70,7 @@ module _ (both : Both) (trace left right : List ℕ) (first : SidePlayed) (lm : 
     unfolding split
     by_sides = sides (split_from 0 0 trace) 0 (subst (λ (n : ℕ). WellPlaced n (split_from 0 0 trace)) (zero-add 0) (split_placed 0 0 trace (omega arith))) 0 (chip_of both.left left) (chip_of both.right right) Selection.Both
 
-    pub taken_by_both : second.stop.number ≡ taken → wide_played_of (wide_played first.stop first.registers second.registers first.selection) lm rm ≡ play the_terminal (split trace) (terminal (chips_of both left right) Selection.Both)
+    pub taken_by_both : number_met second.stop.outcome ≡ taken → wide_played_of (wide_played first.stop first.registers second.registers first.selection) lm rm ≡ play the_terminal (split trace) (terminal (chips_of both left right) Selection.Both)
     unfolding wide_played_of side_played_of
     taken_by_both number =
         ap (λ (x : Played OneSide). joined x x (side_played_of second rm)) p_whole
@@ -72,14 +78,23 @@ module _ (both : Both) (trace left right : List ℕ) (first : SidePlayed) (lm : 
         ∙ sym (by_sides.0 (ap (λ (y : Played OneSide). y.number) (sym q_whole) ∙ number))
 
     -- the right side stops earlier: the left one's memory is put back, and it plays as far as that
-    module _ (back : List ℕ) (b : back ≡ take memory_size (take memory_size left) ++ drop memory_size lm) (again : SidePlayed) (later : List ℕ)
+    module _ (back : List ℕ) (b : back ≡ take memory_size left ++ drop memory_size lm) (again : SidePlayed) (later : List ℕ)
         (z : side_played_of again later ≡ play (the_side Side.Left) (up_to second.stop.offset (split trace)) (starting both Side.Left back)) where
       z_whole : side_played_of again later ≡ play (the_side Side.Left) (up_to second.stop.offset (split trace)) (starting both Side.Left left)
       z_whole = z ∙ rw (b ∙ put_back left lm aside.past)
 
-      pub stopped_by_right : second.stop.number ≢ taken → wide_played_of (wide_played second.stop again.registers second.registers second.selection) later rm ≡ play the_terminal (split trace) (terminal (chips_of both left right) Selection.Both)
+      pub stopped_by_right : number_met second.stop.outcome ≢ taken → wide_played_of (wide_played second.stop again.registers second.registers second.selection) later rm ≡ play the_terminal (split trace) (terminal (chips_of both left right) Selection.Both)
       unfolding wide_played_of side_played_of
       stopped_by_right number =
           ap (λ (x : Played OneSide). joined (side_played_of second rm) x (side_played_of second rm)) z_whole
           ∙ ap (λ (y : Played OneSide). joined y (play (the_side Side.Left) (up_to y.offset (split trace)) (starting both Side.Left left)) y) q_whole
           ∙ sym (by_sides.1 (λ zero. number (ap (λ (y : Played OneSide). y.number) q_whole ∙ zero)))
+
+-- where nothing is refused, the number is that of what is taken; and where something is, it is not
+pub all_taken : (met : Met) → is_ok met ≡ true → number_met met ≡ taken
+all_taken (Ok all) e = refl
+all_taken (Err refusal) e = absurd (false≢true e)
+
+pub not_taken : (met : Met) → is_ok met ≡ false → number_met met ≢ taken
+not_taken (Ok all) e zero = false≢true (sym e)
+not_taken (Err refusal) e zero = eqb-false _ _ (refusal_not_taken refusal) zero

@@ -53,8 +53,8 @@ module _ (side : Side) (first : List ℕ) where
   left_aside trace count t h = play_keeps (the_side side) (λ (b : ℕ). Unit {0}) (λ (u : OneSide). Aside first u.chip) (λ (e : WideEvent). Unit {0}) brings_any step_aside trace count t (carries_any trace) h
 
 -- the display memory put back, and the bytes past it as they were, are the memory
-pub put_back : (first later : List ℕ) → drop memory_size later ≡ drop memory_size first → take memory_size (take memory_size first) ++ drop memory_size later ≡ first
-put_back first later h = rw (take-take memory_size memory_size first (omega arith), h) (take-append-drop memory_size first)
+pub put_back : (first later : List ℕ) → drop memory_size later ≡ drop memory_size first → take memory_size first ++ drop memory_size later ≡ first
+put_back first later h = rw h (take-append-drop memory_size first)
 
 -- a trace lies before a limit
 abbrev Within : ℕ → Trace → Type 0

@@ -10,14 +10,20 @@ use lib.Dec.{leb}
 use lib.ListN.{length, take, drop, length-take, length-drop}
 use lib.Seq.{length-take-le, take_all, take-take}
 use Rattle.codes.proofs.Tests.{chosen}
-use Rattle.constants.specs.Numbers.{taken}
+use Rattle.std.specs.Prelude.{Ok, Err}
+use Rattle.constants.specs.Refusals.{number_of_refusal}
+use Rattle.constants.specs.declared.refusal.Refusal.{Refusal}
+use Rattle.constants.proofs.Refusals.{refusal_not_taken}
 use Rattle.constants.specs.Sizes.{header_size}
 use Rattle.bus.specs.Chip.{Chip}
 use Rattle.bus.specs.Stretch.{stretch, stretch_of}
 use Rattle.bus.specs.declared.registers.Registers.{Registers}
 use Rattle.bus.specs.declared.stretch.Stretch.{Stretch}
-use Rattle.trace.specs.Play.{stopped, done, play_record}
-use Rattle.trace.specs.Kinds.{replay, chip_of}
+use Rattle.trace.specs.Play.{stopped, done, gives, play_record}
+use Rattle.trace.specs.Kinds.{events_of, replay, chip_of}
+use Rattle.trace.specs.Code.{recorded_in}
+use Rattle.trace.specs.RecordsAreStretches.{ending_at}
+use Rattle.trace.specs.declared.kind.Kind.{Kind}
 use Rattle.trace.specs.Records.{Record, record_at}
 use Rattle.trace.specs.Front.{front_of}
 use Rattle.trace.specs.declared.records.Header.{Header}
@@ -27,8 +33,7 @@ use Rattle.trace.proofs.RecordsAreStretches.{part_slice}
 use Rattle.widebus.specs.declared.selection.Selection.{Selection}
 use Rattle.widebus.specs.declared.selection.Side.{Side}
 use Rattle.widetrace.specs.Sides.{OneSide, one_side, the_side, shortened, size_before}
-use Rattle.widetrace.specs.Heeding.{heed_of, heeded, events_in}
-use Rattle.widetrace.specs.declared.heed.Heed.{Heed}
+use Rattle.widetrace.specs.Heeding.{Heed, heed_of, with_selection, heeded}
 use Rattle.widetrace.proofs.Heeding.{plays_as_heeded, ends_as_obeyed}
 
 -- the first bytes of some
@@ -97,26 +102,17 @@ module _ (trace : List ℕ) (at : ℕ) (header : Header) (h : front_of (drop at 
       unfolding heeded
       refuses_it p chip = as_heeded (sym p ∙ g) chip
 
-      module _ (o : heed ≡ Heed.Obeys) (r : Registers) (m : List ℕ) (s : Stretch) (later : List ℕ) (ends : stretch_of s later ≡ stretch replay (events_in header.kind bytes) (chip_of r m)) where
-        pub obeys_all : s.number ≡ taken → play_record (the_side side) (shortened limit (record_at at (drop at trace))) (one_side (chip_of r m) selection) ≡ done (one_side (chip_of s.registers later) selection)
-        obeys_all number = its_play (one_side (chip_of r m) selection) ∙ ends_as_obeyed side selection header.kind at bytes (sym g ∙ o) r m ends ∙ rw number
+      module _ (o : heed ≡ Heed.Obeys) (named : Kind) (b : events_of header.kind bytes ≡ gives (recorded_in named bytes)) (r : Registers) (m : List ℕ) (s : Stretch) (later : List ℕ) (ends : stretch_of s later ≡ stretch replay (recorded_in named bytes) (chip_of r m)) where
+        as_obeyed : play_record (the_side side) (shortened limit (record_at at (drop at trace))) (one_side (chip_of r m) selection) ≡ with_selection selection (ending_at from (stretch_of s later))
+        as_obeyed = its_play (one_side (chip_of r m) selection) ∙ ends_as_obeyed side selection header.kind at bytes (sym g ∙ o) b r m s later ends
 
-        pub obeys_some : (s.number ≡ taken → ⊥) → play_record (the_side side) (shortened limit (record_at at (drop at trace))) (one_side (chip_of r m) selection) ≡ stopped s.number (from + s.count) (one_side (chip_of s.registers later) selection)
-        obeys_some number = its_play (one_side (chip_of r m) selection) ∙ ends_as_obeyed side selection header.kind at bytes (sym g ∙ o) r m ends ∙ rw (ne_eqb _ _ number)
+        pub obeys_all : s.outcome ≡ Ok tt → play_record (the_side side) (shortened limit (record_at at (drop at trace))) (one_side (chip_of r m) selection) ≡ done (one_side (chip_of s.registers later) selection)
+        obeys_all met = as_obeyed ∙ rw met
 
--- where no byte lies before the limit
-pub size_none : (limit from size : ℕ) → limit ≤ from → 0 ≡ size_before limit from size
+        pub obeys_some : {refusal : Refusal} → s.outcome ≡ Err refusal → play_record (the_side side) (shortened limit (record_at at (drop at trace))) (one_side (chip_of r m) selection) ≡ stopped (number_of_refusal refusal) (from + s.count) (one_side (chip_of s.registers later) selection)
+        obeys_some {refusal} met = as_obeyed ∙ rw (met, refusal_not_taken refusal)
+
+-- the code's size is the document's
+pub size_min : (limit from size : ℕ) {least : ℕ} → (least ≡ cond (leb size (limit - from)) size (limit - from)) → least ≡ size_before limit from size
 unfolding size_before
-size_none limit from size h =
-    let none : limit - from ≡ 0 = omega arith in
-    rw none (chosen (λ (n : ℕ). 0 ≡ n) (leb size 0) size 0 (λ e. omega (arith, leb-true size 0 e)) (λ e. refl))
-
--- where all do
-pub size_whole : (limit from size : ℕ) → from + size ≤ limit → size ≡ size_before limit from size
-unfolding size_before
-size_whole limit from size h = rw (le-leb size (limit - from) (omega arith))
-
--- where some do
-pub size_between : (limit from size : ℕ) → limit < from + size → from < limit → limit - from ≡ size_before limit from size
-unfolding size_before
-size_between limit from size h l = rw (lt-leb size (limit - from) (omega arith))
+size_min limit from size e = e

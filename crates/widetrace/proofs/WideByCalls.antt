@@ -18,7 +18,7 @@ use Rattle.bus.specs.Image.{short, legal, stored}
 use Rattle.bus.specs.StaysLegal.{LegalRegisters}
 use Rattle.bus.specs.Calls.{Called, reply_of, state_after, concluded, call}
 use Rattle.bus.specs.declared.registers.Registers.{Registers}
-use Rattle.bus.specs.declared.answer.Answer.{Answer}
+use Rattle.bus.specs.Answer.{Answer}
 use Rattle.bus.proofs.Answers.{StandsFor, step_answers}
 use Rattle.bus.proofs.Asking.{found_legal}
 use Rattle.bus.proofs.Legal.{long}

@@ -19,7 +19,7 @@ use Rattle.trace.specs.OneByOne.{Placed, script, placed, script_from}
 use Rattle.trace.specs.ByCalls.{called_by, meets}
 use Rattle.trace.specs.Run.{stop_of}
 use Rattle.trace.specs.Given.{run_event_numbers}
-use Rattle.trace.specs.declared.run.Stop.{Stop}
+use Rattle.trace.specs.Run.{Stop}
 use Rattle.widebus.specs.Pair.{Pair, Lent}
 use Rattle.widebus.specs.WideCalls.{WideCalled, wide_call}
 use Rattle.widebus.specs.declared.selection.Selection.{Selection}

@@ -29,7 +29,7 @@ use Rattle.widebus.specs.Pair.{Pair, Lent}
 use Rattle.widebus.specs.Asked.{asked_both}
 use Rattle.widebus.specs.OneAndTwo.{EitherShort, BothLong, EitherOutside}
 use Rattle.widebus.proofs.OneAndTwo.{short_one, one_short, none_short, long_both, outside_one, one_outside}
-use Rattle.widebus.specs.declared.both.BothAsked.{BothAsked}
+use Rattle.widebus.specs.Asked.{BothAsked}
 use Rattle.widebus.specs.declared.selection.Selection.{Selection}
 use Rattle.widetrace.specs.Terminal.{Terminal, WideEvent, happens, wide_events_of, wide_step, the_terminal}
 use Rattle.widetrace.specs.EachChip.{unplaced}

@@ -11,7 +11,7 @@ use Rattle.bus.specs.Bytes.{Bytes}
 use Rattle.bus.specs.Chip.{Chip}
 use Rattle.bus.specs.Image.{asked, stored, Accepted}
 use Rattle.bus.specs.Registers.{registers_of}
-use Rattle.bus.specs.declared.image.Asked.{Asked}
+use Rattle.bus.specs.Answer.{Asked}
 use Rattle.bus.proofs.Asking.{found_legal}
 use Rattle.bus.proofs.Kept.{asked_legal}
 use Rattle.bus.proofs.Legal.{long}

@@ -18,7 +18,7 @@ use Rattle.trace.specs.Run.{stop_of}
 use Rattle.widebus.specs.Pair.{Pair, Lent, at}
 use Rattle.widebus.specs.Asked.{any_short, both_found, asked_both}
 use Rattle.widebus.specs.declared.both.Both.{Both}
-use Rattle.widebus.specs.declared.both.BothAsked.{BothAsked}
+use Rattle.widebus.specs.Asked.{BothAsked}
 use Rattle.widebus.specs.declared.selection.Selection.{Selection}
 use Rattle.widebus.specs.declared.selection.Side.{Side}
 use Rattle.widetrace.specs.Terminal.{Terminal, the_terminal}

@@ -1,18 +1,23 @@
 -- What a record of a wide trace is to one chip of the terminal, by its kind, its payload and who is selected; and what it comes to.
-use Rattle.std.specs.Prelude.{ℕ, ◌+◌, ◌≡◌, Bool, cond, List, [], eqb, length}
+use Rattle.std.specs.Prelude.{ℕ, ◌+◌, Bool, cond, List, eqb, length}
 use Rattle.constants.specs.Numbers.{kind_unknown, both_selected}
 use Rattle.constants.specs.Sizes.{header_size}
 use Rattle.bus.specs.Chip.{Chip}
 use Rattle.trace.specs.Records.{Record}
-use Rattle.trace.specs.Play.{Result, gives, on_result, Ending, stopped, done, on_ending, play_record}
-use Rattle.trace.specs.Kinds.{Recorded, events_of, the_chip}
+use Rattle.trace.specs.Play.{Result, on_result, Ending, stopped, done, on_ending, play_record}
+use Rattle.trace.specs.Kinds.{the_chip}
 use Rattle.widebus.specs.Events.{are_both}
 use Rattle.widebus.specs.declared.selection.Selection.{Selection}
 use Rattle.widebus.specs.declared.selection.Side.{Side}
 use Rattle.widetrace.specs.Terminal.{selected_by}
 use Rattle.widetrace.specs.EachChip.{hears}
 use Rattle.widetrace.specs.Sides.{OneSide, one_side}
-use Rattle.widetrace.specs.declared.heed.Heed.{Heed}
+
+-- How a chip heeds a record: it obeys it; or passes it by, and the chips are selected that stand beside it; or the terminal refuses it with a number, at an offset.
+pub data Heed : Type 0 where
+  Obeys : Heed
+  Passes : Selection → Heed
+  Refused : ℕ → ℕ → Heed
 
 -- A record for the selected chips: a chip that hears it obeys it.
 abbrev pub for_selected : Bool → Selection → Heed
@@ -40,11 +45,3 @@ unfoldable pub heeded : Heed → Record → Chip → Selection → Ending OneSid
 heeded Heed.Obeys r chip selection = with_selection selection (play_record the_chip r chip)
 heeded (Heed.Passes next) r chip selection = done (one_side chip next)
 heeded (Heed.Refused number offset) r chip selection = stopped number offset (one_side chip selection)
-
--- The events that a record brings a chip; none where it is refused by its header.
-unfoldable pub events_in : ℕ → List ℕ → List Recorded
-events_in kind bytes = on_result (events_of kind bytes) (λ number. []) (λ events. events)
-
--- The header is not refused.
-abbrev pub Brings : ℕ → List ℕ → Type 0
-Brings kind bytes = events_of kind bytes ≡ gives (events_in kind bytes)

@@ -1,6 +1,7 @@
 -- One chip of the terminal by itself: what it makes of a wide trace, up to an offset. The chips do not see each other, so that the terminal's run is that of its two sides up to the earlier of their stops (proofs/TwoSides).
 use Rattle.std.specs.Prelude.{ℕ, ◌+◌, ◌-◌, cond, ◌&&◌, List, leb, take}
 use Rattle.constants.specs.Numbers.{both_selected}
+use Rattle.constants.specs.Refusals.{number_met}
 use Rattle.constants.specs.Sizes.{header_size}
 use Rattle.bus.specs.Chip.{Chip}
 use Rattle.trace.specs.Records.{Record, Trace, ended, cut, ◌then◌}
@@ -43,7 +44,7 @@ up_to limit (r then rest) = cond (leb limit r.place) (ended r.place) (shortened 
 
 -- A played trace, with the memory that is left beside it.
 unfoldable pub side_played_of : SidePlayed → List ℕ → Played OneSide
-side_played_of p memory = played p.stop.number p.stop.offset p.stop.count (one_side (chip_of p.registers memory) p.selection)
+side_played_of p memory = played (number_met p.stop.outcome) p.stop.offset p.stop.count (one_side (chip_of p.registers memory) p.selection)
 
 -- So many bytes of a payload that begins at an offset lie before a limit.
 unfoldable pub size_before : ℕ → ℕ → ℕ → ℕ

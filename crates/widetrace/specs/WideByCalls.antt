@@ -9,7 +9,7 @@ use Rattle.trace.specs.Kinds.{Recorded, event}
 use Rattle.trace.specs.OneByOne.{Placed, script_from}
 use Rattle.trace.specs.ByCalls.{called_by, meets}
 use Rattle.trace.specs.Run.{stop_of}
-use Rattle.trace.specs.declared.run.Stop.{Stop}
+use Rattle.trace.specs.Run.{Stop}
 use Rattle.widebus.specs.Pair.{Pair, ◌beside◌, Lent}
 use Rattle.widebus.specs.Events.{replay_on}
 use Rattle.widebus.specs.WideCalls.{refused_wide, wide_call}

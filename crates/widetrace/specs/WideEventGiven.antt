@@ -3,7 +3,7 @@ use Rattle.std.specs.Prelude.{ℕ, ◌≡◌, ◌≢◌, ◌↔◌, true, List, 
 use Rattle.constants.specs.Numbers.{taken}
 use Rattle.codes.specs.OneOf.{one_of}
 use Rattle.bus.specs.Bytes.{Bytes}
-use Rattle.bus.specs.declared.calls.Reply.{Reply}
+use Rattle.bus.specs.Answer.{Reply}
 use Rattle.trace.specs.Records.{split}
 use Rattle.trace.specs.Kinds.{Recorded}
 use Rattle.trace.specs.OneByOne.{Placed, script_from}

@@ -5,10 +5,10 @@ use Rattle.bus.specs.Chip.{Chip}
 use Rattle.trace.specs.Records.{split}
 use Rattle.trace.specs.Play.{Played, play}
 use Rattle.trace.specs.Run.{stop_of}
-use Rattle.trace.specs.declared.run.Stop.{Stop}
+use Rattle.trace.specs.Run.{Stop}
 use Rattle.widebus.specs.Pair.{Pair, ◌beside◌, Lent, lent, chips_of}
 use Rattle.widebus.specs.Asked.{asked_both}
-use Rattle.widebus.specs.declared.both.BothAsked.{BothAsked}
+use Rattle.widebus.specs.Asked.{BothAsked}
 use Rattle.widebus.specs.declared.selection.Selection.{Selection}
 use Rattle.widetrace.specs.Terminal.{Terminal, terminal, the_terminal}
 

@@ -11,10 +11,10 @@ use Rattle.trace.specs.Play.{refuses, played, play}
 use Rattle.trace.specs.AnyMachine.{Sound, AnyMachine}
 use Rattle.trace.specs.OneByOne.{Placed, script_from, one_by_one}
 use Rattle.trace.specs.Run.{stop_of}
-use Rattle.trace.specs.declared.run.Stop.{Stop}
+use Rattle.trace.specs.Run.{Stop}
 use Rattle.widebus.specs.Pair.{Pair, ◌beside◌, Lent, at}
 use Rattle.widebus.specs.Asked.{asked_both}
-use Rattle.widebus.specs.declared.both.BothAsked.{BothAsked}
+use Rattle.widebus.specs.Asked.{BothAsked}
 use Rattle.widebus.specs.declared.selection.Selection.{Selection}
 use Rattle.widebus.specs.declared.selection.Side.{Side}
 use Rattle.widetrace.specs.Terminal.{Terminal, terminal, WideEvent, selects, happens, wide_step, the_terminal}

@@ -1,6 +1,7 @@
 // The run of a trace on the lent states and memories of a wide terminal.
 ghost use Rattle.std.specs.Prelude.{◌≡◌, ◌≤◌, length};
 ghost use Rattle.constants.specs.Sizes.{memory_size};
+ghost use Rattle.trace.specs.Code.{stop_met};
 ghost use Rattle.trace.specs.Records.{split};
 ghost use Rattle.trace.specs.Play.{play};
 ghost use Rattle.widebus.specs.Pair.{both_lent, chips_of};
@@ -12,13 +13,12 @@ ghost use Rattle.widebus.specs.declared.selection.Selection.{Selection};
 use crate::kept::{copied, put_back};
 use crate::side::play_side;
 use bus::registers::Registers;
-use constants::refusal::TAKEN;
 use trace::run::Stop;
-use widebus::both::{Both, BothAsked, ask};
+use widebus::both::{Both, ask};
 use widebus::selection::{Selection, Side};
 
 // A played trace: where it stopped, and the registers and the selection that it leaves.
-#[derive(Drop)]
+#[derive(Clone, Copy)]
 struct WidePlayed {
     stop: Stop,
     registers: Both,
@@ -33,20 +33,18 @@ pub fn run(
     right_memory: &mut [u8],
     trace: &[u8],
 ) -> Stop
-    ensures { wide_ran result (both_lent left_state.new left_memory.new right_state.new right_memory.new) ≡ wide_run (both_lent left_state.old left_memory.old right_state.old right_memory.old) trace.now }
+    ensures { wide_ran (stop_met result) (both_lent left_state.new left_memory.new right_state.new right_memory.new) ≡ wide_run (both_lent left_state.old left_memory.old right_state.old right_memory.old) trace.now }
 {
     match ask(left_state, left_memory, right_state, right_memory) {
-        BothAsked::Found(registers) => {
+        Ok(registers) => {
             let played = play(registers, left_memory, right_memory, trace);
-            let both = played.registers;
-            let left = both.left;
-            let right = both.right;
+            let Both { left, right } = played.registers;
             left.store(left_state);
             right.store(right_state);
             played.stop
         }
-        BothAsked::Refused(number) => Stop {
-            number,
+        Err(refusal) => Stop {
+            outcome: Err(refusal),
             offset: 0,
             count: 0,
         },
@@ -74,11 +72,11 @@ fn play(
         reached.offset,
     );
     let stop = second.stop;
-    if stop.number == TAKEN {
+    if stop.outcome.is_ok() {
         let selection = first.selection;
         return ended(reached, selection, first.registers, second.registers);
     }
-    put_back(&kept, left_memory);
+    put_back(kept, left_memory);
     let again = play_side(Side::Left, registers.left, left_memory, trace, stop.offset);
     let selection = second.selection;
     ended(stop, selection, again.registers, second.registers)

@@ -1,10 +1,10 @@
 -- `bus::accepted::access` meets its contract: the length first, then what the registers meet.
+use mathlib.Core.Path.{◌∙◌}
 use Rattle.bus.proofs.OnState.{access_short, access_long}
-use borrow.Author.Rules.{rules}
 use Rattle.bus.proofs.accepted.access.Goals as goal
 
-pub returns-then-state-lt-IMAGE_SIZE : goal.returns-then-state-lt-IMAGE_SIZE
-returns-then-state-lt-IMAGE_SIZE c = access_short _ _ c.if-state-lt-IMAGE_SIZE.true
+pub returns-in_default : goal.returns-in_default
+returns-in_default c = access_short _ _ c.in_default.ensures.cases
 
 pub returns : goal.returns
-returns c = search (rules, access_long)
+returns c = let first = c.in-Some.ensures.cases in access_long _ _ first.enough first.same (rw c.load.ensures at c.access.ensures)

@@ -1,15 +1,34 @@
 -- `bus::accepted::write` meets its contract: the length first, then what the registers answer.
-use Rattle.bus.proofs.OnState.{number_alone, short_state, write_answers}
-use Rattle.bus.specs.Chip.{data_written}
-use Rattle.bus.proofs.AskedFirst.{write_leaves}
-use borrow.Author.Rules.{rules}
+use mathlib.Core.Path.{refl, sym, subst}
+use Rattle.std.proofs.lemmas.Result.{err_from_is_err_and}
+use Rattle.bus.specs.Events.{number_of, byte_of, dummy_of}
+use Rattle.bus.specs.Chip.{data_written, step}
+use Rattle.bus.specs.Calls.{reply_of, state_after}
+use Rattle.bus.proofs.AskedFirst.{Moved, write_leaves}
+use Rattle.bus.proofs.OnState.{number_alone, short_state, in_image}
+use Rattle.bus.specs.Chip.{Leaves}
+use Rattle.bus.specs.Registers.{registers_of}
 use Rattle.bus.proofs.accepted.write.Goals as goal
 
-pub returns-then-state-lt-IMAGE_SIZE : goal.returns-then-state-lt-IMAGE_SIZE
-returns-then-state-lt-IMAGE_SIZE c = short_state (data_written _) _ _ c.if-state-lt-IMAGE_SIZE.true (number_alone _)
+pub returns-in_default : goal.returns-in_default
+returns-in_default c = short_state (data_written _) _ _ c.in_default.ensures.cases (number_alone _)
 
-pub conclude_data-reply-requires : goal.conclude_data-reply-requires
-conclude_data-reply-requires c = (search rules, rw (c.write.ensures.0, c.load-registers.ensures) (write_leaves _ _))
+pub returns-in_err-left : goal.returns-in_err-left
+unfolding step reply_of state_after number_of byte_of dummy_of
+returns-in_err-left c =
+    let first = c.in-Some.ensures.cases in
+    let p = err_from_is_err_and c.from_residual.result c.from_residual.ensures.1 in
+    let met = rw c.load.ensures at c.in_err-left.ensures in
+    rw (p.1, p.2) (in_image (data_written _) _ _ first.enough first.same met.0 refl refl met.1)
+
+pub move_on-requires : goal.move_on-requires
+move_on-requires c =
+    let met = rw c.load.ensures at c.in_ok-left.ensures in
+    subst (Leaves (Moved (registers_of c.in-Some.image.now))) (sym met.0) (write_leaves _ _)
 
 pub returns : goal.returns
-returns c = write_answers _ _ _ c.if-state-lt-IMAGE_SIZE.false c.load-registers.ensures c.write.ensures c.conclude_data-reply.ensures
+unfolding step reply_of state_after number_of byte_of dummy_of
+returns c =
+    let first = c.in-Some.ensures.cases in
+    let met = rw c.load.ensures at c.in_ok-left.ensures in
+    in_image (data_written _) _ _ first.enough first.same met.0 refl c.move_on.ensures met.1

@@ -1,19 +1,18 @@
 -- `bus::calls::write` meets its contract: what was asked first, and then the event on an accepted state.
-use mathlib.Core.Path.{refl, sym, ◌∙◌}
+use mathlib.Core.Path.{refl, ◌∙◌}
+use Rattle.std.proofs.lemmas.Result.{err_from_is_err_and}
 use Rattle.bus.specs.Chip.{data_written}
-use Rattle.bus.specs.Calls.{asked_before}
-use Rattle.bus.proofs.AskedFirst.{short_first, ranges_next}
+use Rattle.bus.specs.Events.{number_of, byte_of, dummy_of}
+use Rattle.bus.specs.Calls.{reply_of, asked_before}
 use Rattle.bus.proofs.Concluded.{refuses}
 use Rattle.bus.proofs.OnState.{on_accepted_lem}
 use Rattle.bus.proofs.calls.write.Goals as goal
 
-pub returns-then-short : goal.returns-then-short
-unfolding asked_before
-returns-then-short c = refuses (data_written _) _ _ refl (short_first _ _ (sym c.short.ensures ∙ c.if-short.true)) c.refuse.ensures
-
-pub returns-then-legal : goal.returns-then-legal
-returns-then-legal c = c.write-met.ensures ∙ on_accepted_lem (data_written _) _ _ (sym c.short.ensures ∙ c.if-short.false) (sym c.legal.ensures ∙ c.if-legal.true)
+pub returns-in_err-accept : goal.returns-in_err-accept
+unfolding asked_before reply_of number_of byte_of dummy_of
+returns-in_err-accept c =
+    let p = err_from_is_err_and c.from_residual.result c.from_residual.ensures.1 in
+    rw (p.1, p.2) (refuses (data_written _) _ _ refl c.in_err-accept.ensures refl)
 
 pub returns : goal.returns
-unfolding asked_before
-returns c = refuses (data_written _) _ _ refl (ranges_next _ _ (sym c.short.ensures ∙ c.if-short.false) (sym c.legal.ensures ∙ c.if-legal.false)) c.refuse-2.ensures
+returns c = let accepted = c.in_ok-accept.ensures in c.write.ensures ∙ on_accepted_lem (data_written _) _ _ accepted.long_enough accepted.in_ranges

@@ -1,12 +1,16 @@
--- `bus::pieces::dummy_reads` meets its contract: each return by its test.
-use borrow.Author.Tests.{eq-eqb, ne_eqb}
+-- `bus::pieces::dummy_reads` meets its contract: the test as a number.
+use mathlib.Core.Path.{◌≡◌, refl}
+use mathlib.Core.Bool.{Bool, true, false, cond}
+use native.Mathlib.Omega.{arith}
+use lib.Dec.{eqb}
+use mir.Val.{bool_byte}
 use Rattle.bus.specs.Reads.{dummy_reads}
 use Rattle.bus.proofs.pieces.dummy_reads.Goals as goal
 
-pub returns-then-fresh-eq1 : goal.returns-then-fresh-eq1
-unfolding dummy_reads
-returns-then-fresh-eq1 c = rw (eq-eqb _ _ c.if-fresh-eq1.true)
+as_number : (test : Bool) → bool_byte test ≡ cond test 1 0
+as_number true = refl
+as_number false = refl
 
-pub returns-else-fresh-eq1 : goal.returns-else-fresh-eq1
+pub returns : goal.returns
 unfolding dummy_reads
-returns-else-fresh-eq1 c = rw (ne_eqb _ _ c.if-fresh-eq1.false)
+returns c = omega (arith, c.from.ensures, as_number (eqb c.args.fresh 1))

@@ -31,7 +31,7 @@ returns c =
     let size = from + length bytes - from in
     let values = map (kept r.page) bytes in
     let long : length values ≡ length bytes = length-map bytes (kept r.page) in
-    let left : c.with_fresh.result ≡ (r with column ≔ column_at (r.column + length bytes) with fresh ≔ 1) = c.with_fresh.ensures ∙ ap (λ x. x with fresh ≔ 1) (c.with_column.ensures ∙ ap (λ k. r with column ≔ k) c.around.ensures) in
+    let left : c.with_fresh.result ≡ (r with column ≔ column_at (r.column + length bytes) with fresh ≔ 1) = c.with_fresh.ensures ∙ ap (λ x. x with fresh ≔ 1) (c.with_column.ensures ∙ ap (λ k. r with column ≔ k) c.column_after.ensures) in
     let where-it-lies : from ≡ address r.page r.column = c.address-from.ensures in
     let put : put_mid from size memory c.put.new.places ≡ sets memory (address r.page r.column) values = ap (λ l. put_mid from size memory l) c.put.ensures ∙ put_in_place memory values from size (omega arith) (omega (arith, o.page, o.enough)) ∙ ap (λ k. sets memory k values) where-it-lies in (
       ap (λ x. access x (length memory)) left ∙ still_written r (length memory) (r.column + length bytes) c.requires.0 c.requires.2,

@@ -1,4 +1,5 @@
 -- `bus::stretch::reset_pin` meets its contract: one event, which is taken and gives the power-on state.
+use mathlib.Core.Path.{refl}
 use Rattle.bus.specs.Events.{reset_pin}
 use Rattle.bus.specs.Chip.{step}
 use Rattle.bus.specs.Recorded.{happened, replay}
@@ -6,5 +7,5 @@ use Rattle.bus.specs.Stretch.{stretch}
 use Rattle.bus.proofs.stretch.reset_pin.Goals as goal
 
 pub returns : goal.returns
-unfolding stretch replay happened step reset_pin
-returns c = λ memory. rw c.power_on-registers.ensures
+unfolding stretch replay happened step
+returns c = λ memory. rw (c.halted.ensures, ← c.reset_pin.ensures)

@@ -5,15 +5,6 @@ use Rattle.framelisting.proofs.PutPieces.{after}
 use Rattle.framelisting.proofs.LengthsOfText.{header_pieces, header_length}
 use Rattle.framelisting.proofs.frame.put_header.Goals as goal
 
-pub put_bytes-next-requires : goal.put_bytes-next-requires
-put_bytes-next-requires c = omega (arith, header_length c.args.width)
-
-pub put_number-next-requires : goal.put_number-next-requires
-put_number-next-requires c = omega (arith, header_length c.args.width)
-
-pub put_bytes-requires : goal.put_bytes-requires
-put_bytes-requires c = omega (arith, header_length c.args.width)
-
 pub returns : goal.returns
 unfolding ascii
 returns c =

@@ -7,21 +7,6 @@ use Rattle.framelisting.proofs.PutPieces.{none, after}
 use Rattle.framelisting.proofs.LengthsOfText.{line_length}
 use Rattle.framelisting.proofs.row.put_line.Goals as goal
 
-pub put_number-next-requires : goal.put_number-next-requires
-put_number-next-requires c =
-    omega (arith, line_length c.args.p c.args.row.now (sym c.any_lit.ensures ∙ c.if-any_lit.true))
-
-pub put_runs-next-requires : goal.put_runs-next-requires
-put_runs-next-requires c =
-    record {
-      row_len_bound = c.requires.row_len_bound;
-      countable = omega (arith, line_length c.args.p c.args.row.now (sym c.any_lit.ensures ∙ c.if-any_lit.true));
-    }
-
-pub put-requires : goal.put-requires
-put-requires c =
-    omega (arith, line_length c.args.p c.args.row.now (sym c.any_lit.ensures ∙ c.if-any_lit.true))
-
 pub returns-then-any_lit : goal.returns-then-any_lit
 unfolding line ascii
 returns-then-any_lit c =

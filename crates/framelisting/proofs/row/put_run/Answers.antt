@@ -7,27 +7,7 @@ use Rattle.framelisting.proofs.LengthsOfText.{run_length}
 use Rattle.framelisting.proofs.row.put_run.Goals as goal
 
 pub returns-then-first-last-2 : goal.returns-then-first-last-2
-returns-then-first-last-2 c = rw (← c.if-first-last-2.true) c.put_place.ensures
-
-pub put-next-requires : goal.put-next-requires
-put-next-requires c =
-    let a = c.args in
-    omega (arith, run_length (record { first = a.first; last = a.last }))
-
-pub put_number-next-requires : goal.put_number-next-requires
-put_number-next-requires c =
-    let a = c.args in
-    omega (arith, run_length (record { first = a.first; last = a.last }))
-
-pub put-next-requires-2 : goal.put-next-requires-2
-put-next-requires-2 c =
-    let a = c.args in
-    omega (arith, run_length (record { first = a.first; last = a.last }))
-
-pub put_number-requires : goal.put_number-requires
-put_number-requires c =
-    let a = c.args in
-    omega (arith, run_length (record { first = a.first; last = a.last }))
+returns-then-first-last-2 c = rw (← c.if-first-last-2.true) c.put_small_run.ensures
 
 pub returns : goal.returns
 unfolding run_text ascii

@@ -31,9 +31,6 @@ loop-x-preserved c =
       turn (rw (run_text_on row c.loop-x.x c.run_end-end.result inside c.if-row-x-eq0.false c.run_end-end.ensures) at c.loop-x.invariant.1) c.put_run-next.ensures,
     )
 
-pub shape_of-text : goal.shape_of-text
-shape_of-text c = rest_length c.loop-x.invariant.1
-
 pub returns : goal.returns
 unfolding runs_text
 returns c = done (rw (runs_end c.args.row.now c.loop-x.x c.loop-x-test.false) at c.loop-x.invariant.1)

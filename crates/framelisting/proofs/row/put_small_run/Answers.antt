@@ -6,14 +6,6 @@ use Rattle.framelisting.proofs.PutPieces.{after}
 use Rattle.framelisting.proofs.SmallNumbers.{small_length}
 use Rattle.framelisting.proofs.row.put_small_run.Goals as goal
 
-pub put_inside-next-requires-2 : goal.put_inside-next-requires-2
-put_inside-next-requires-2 c =
-    omega (arith, small_length c.args.first c.requires.0, c.put_small-next.ensures.counted, c.put_inside-next.ensures.counted)
-
-pub put_small-requires : goal.put_small-requires
-put_small-requires c =
-    (c.requires.1, omega (arith, small_length c.args.first c.requires.0, c.put_inside-next-2.ensures.counted, c.put_small-next.ensures.counted, c.put_inside-next.ensures.counted))
-
 pub returns : goal.returns
 unfolding run_text ascii
 returns c =

@@ -1,24 +1,21 @@
 -- `framelisting::text::put_bytes` meets its contract: what is left of the bytes is put from here on.
 use native.Mathlib.Omega.{arith}
 use lib.ListN.{length-drop, drop_of_length-le}
-use Rattle.framelisting.proofs.PutPieces.{from, begin, turn, done, room_left, rest_length}
+use Rattle.framelisting.proofs.PutPieces.{from, begin, turn, done, room_left}
 use Rattle.framelisting.proofs.text.put_bytes.Goals as goal
 
-pub loop-i-init : goal.loop-i-init
-loop-i-init c = (omega arith, begin _ _ _)
+pub loop-byte-init : goal.loop-byte-init
+loop-byte-init c = begin _ _ _
 
 pub put-next-requires : goal.put-next-requires
 put-next-requires c =
-    let loop = c.loop-i in
-    omega (arith, room_left loop.invariant.1 c.requires, length-drop loop.i c.args.bytes.now)
+    let loop = c.loop-byte in
+    omega (arith, room_left loop.invariant c.requires, length-drop loop.byte-index c.args.bytes.now)
 
-pub loop-i-preserved : goal.loop-i-preserved
-loop-i-preserved c =
+pub loop-byte-preserved : goal.loop-byte-preserved
+loop-byte-preserved c =
     let bytes = c.args.bytes.now in
-    (omega arith, turn (rw (from bytes c.loop-i.i c.loop-i-test.true) at c.loop-i.invariant.1) c.put-next.ensures)
-
-pub shape_of-text : goal.shape_of-text
-shape_of-text c = rest_length c.loop-i.invariant.1
+    turn (rw (from bytes c.loop-byte.byte-index (omega arith)) at c.loop-byte.invariant) c.put-next.ensures
 
 pub returns : goal.returns
-returns c = done (rw (drop_of_length-le c.args.bytes.now c.loop-i-test.false) at c.loop-i.invariant.1)
+returns c = done (rw (drop_of_length-le c.args.bytes.now c.loop-byte-test.false) at c.loop-byte.invariant)

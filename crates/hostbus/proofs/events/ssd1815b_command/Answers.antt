@@ -4,4 +4,4 @@ use Rattle.hostbus.specs.Events.{of_state}
 use Rattle.hostbus.proofs.events.ssd1815b_command.Goals as goal
 
 pub returns : goal.returns
-returns c = ap of_state c.command-reply.ensures
+returns c = rw c.number_met.ensures (ap of_state c.command.ensures)

@@ -4,4 +4,4 @@ use Rattle.hostbus.specs.Events.{of_both}
 use Rattle.hostbus.proofs.events.ssd1815b_write.Goals as goal
 
 pub returns : goal.returns
-returns c = ap of_both c.write-reply.ensures
+returns c = rw c.number_met.ensures (ap of_both c.write.ensures)

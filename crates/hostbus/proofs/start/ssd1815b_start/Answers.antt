@@ -2,4 +2,4 @@
 use Rattle.hostbus.proofs.start.ssd1815b_start.Goals as goal
 
 pub returns : goal.returns
-returns c = c.start.ensures
+returns c = rw c.number_met.ensures c.start.ensures

@@ -3,10 +3,10 @@ use mathlib.Core.Path.{ap}
 use Rattle.hostwide.specs.List.{of_answer, of_listed}
 use Rattle.hostwide.proofs.list.ssd1815b_wide_list.Goals as goal
 
-pub returns-in-Written : goal.returns-in-Written
+pub returns-in-Ok : goal.returns-in-Ok
 unfolding of_answer
-returns-in-Written c = rw c.in-Written.is at (ap of_listed c.list_wide.ensures)
+returns-in-Ok c = ap of_listed c.in-Ok.ensures
 
-pub returns-in-Refused : goal.returns-in-Refused
+pub returns-in-Err : goal.returns-in-Err
 unfolding of_answer
-returns-in-Refused c = rw c.in-Refused.is at (ap of_listed c.list_wide.ensures)
+returns-in-Err c = rw c.from.ensures (ap of_listed c.in-Err.ensures)

@@ -1,84 +1,70 @@
 -- `trace::run::play` meets its contract: what is left of the trace decides.
-use mathlib.Core.Path.{◌≡◌, refl, sym, ◌∙◌}
-use Prim.Native.Nat.{◌+◌, ◌≤◌}
+use mathlib.Core.Path.{◌≡◌, refl, sym, ◌∙◌, ap}
+use mathlib.Core.List.{List}
+use Prim.Native.Nat.{ℕ, ◌+◌, ◌≤◌}
 use native.Mathlib.Omega.{arith}
-use borrow.Author.Tests.{ne_eqb}
 use lib.ListN.{length, drop}
 use Rattle.constants.specs.Sizes.{header_size}
 use Rattle.trace.specs.Records.{split}
 use Rattle.trace.specs.Front.{front_of}
 use Rattle.trace.specs.Kinds.{the_chip}
-use Rattle.trace.specs.Code.{ending_of, played_of}
+use Rattle.trace.specs.Code.{ending_on, played_of}
 use Rattle.trace.proofs.WhatStands.{within_trace}
 use Rattle.trace.proofs.PlayedFurther.{plays_nothing, plays_cut, plays_on, plays_stop}
 use Rattle.trace.specs.declared.records.Front.{Front}
 use Rattle.trace.proofs.run.play.Goals as goal
-use Rattle.trace.proofs.run.play.Goals.{In-Whole}
 
--- the record that stands at the loop's offset
-standing : (d : In-Whole) → front_of (drop d.loop-header.at d.args.trace.now) ≡ Front.Whole d.in-Whole.header
-standing d = sym d.read_at.ensures ∙ d.in-Whole.is
-
-fits : (d : In-Whole) → d.loop-header.at + header_size + d.in-Whole.header.length ≤ length d.args.trace.now
-fits d = within_trace d.args.trace.now d.loop-header.at d.in-Whole.header (standing d)
+-- what the reader finds stands in the trace
+seen : {lent trace : List ℕ} (at : ℕ) {front found : Front} → lent ≡ trace → front ≡ front_of (drop at lent) → front ≡ found → front_of (drop at trace) ≡ found
+seen at same next is = ap (λ t. front_of (drop at t)) (sym same) ∙ sym next ∙ is
 
 pub loop-header-init : goal.loop-header-init
 unfolding split
-loop-header-init c = (omega arith, omega arith, refl, refl)
+loop-header-init c = rw (c.new-reader.ensures.0, c.new-reader.ensures.1) (refl, omega arith, omega arith, refl, refl)
 
 pub shape_of-memory-in-Nothing : goal.shape_of-memory-in-Nothing
-shape_of-memory-in-Nothing c = c.loop-header.invariant.2
+shape_of-memory-in-Nothing c = c.loop-header.invariant.3
 
 pub returns-in-Nothing : goal.returns-in-Nothing
 unfolding played_of
 returns-in-Nothing c =
     let loop = c.loop-header in
-    rw c.end.ensures
-    (sym (loop.invariant.3 ∙ plays_nothing _ _ the_chip _ _ (sym c.read_at.ensures ∙ c.in-Nothing.is)))
+    rw c.end.ensures (sym (loop.invariant.4 ∙ plays_nothing _ _ the_chip _ _ (seen _ loop.invariant.0 c.next.ensures c.in-Nothing.is)))
 
 pub shape_of-memory-in-Cut : goal.shape_of-memory-in-Cut
-shape_of-memory-in-Cut c = c.loop-header.invariant.2
+shape_of-memory-in-Cut c = c.loop-header.invariant.3
 
 pub returns-in-Cut : goal.returns-in-Cut
 unfolding played_of
 returns-in-Cut c =
     let loop = c.loop-header in
-    rw c.end-in-Cut.ensures
-    (sym (loop.invariant.3 ∙ plays_cut _ _ the_chip _ _ (sym c.read_at.ensures ∙ c.in-Cut.is)))
+    rw c.end-in-Cut.ensures (sym (loop.invariant.4 ∙ plays_cut _ _ the_chip _ _ (seen _ loop.invariant.0 c.next.ensures c.in-Cut.is)))
 
 pub obey-ending-requires : goal.obey-ending-requires
-obey-ending-requires c = sym c.read_at.ensures ∙ c.in-Whole.is
+obey-ending-requires c = seen _ c.loop-header.invariant.0 c.next.ensures c.in-Whole.is
 
-pub overflow_add-at : goal.overflow_add-at
-overflow_add-at c = omega (arith, fits (goal.at.overflow_add-at c).In-Whole, c.well_formed.1.1.0.0)
-
-pub overflow_add-at-then-ending-eq-TAKEN : goal.overflow_add-at-then-ending-eq-TAKEN
-overflow_add-at-then-ending-eq-TAKEN c = omega (arith, fits (goal.at.overflow_add-at-then-ending-eq-TAKEN c).In-Whole, c.well_formed.1.1.0.0)
-
-pub overflow_add-count : goal.overflow_add-count
-overflow_add-count c = omega (arith, fits (goal.at.overflow_add-count c).In-Whole, c.well_formed.1.1.0.0)
+pub overflow_add-at-in-Whole : goal.overflow_add-at-in-Whole
+overflow_add-at-in-Whole c = omega (arith, within_trace c.args.trace.now _ _ (seen _ c.loop-header.invariant.0 c.next.ensures c.in-Whole.is))
 
 pub loop-header-smaller : goal.loop-header-smaller
-loop-header-smaller c = omega (arith, fits (goal.at.loop-header-smaller c).In-Whole)
+loop-header-smaller c = omega (arith, c.moved-reader.ensures.1, within_trace c.args.trace.now _ _ (seen _ c.loop-header.invariant.0 c.next.ensures c.in-Whole.is))
 
 pub loop-header-preserved : goal.loop-header-preserved
-unfolding ending_of
+unfolding ending_on
 loop-header-preserved c =
     let loop = c.loop-header in
-    let obeyed = c.obey-ending in (
-      omega (arith, fits (goal.at.loop-header-preserved c).In-Whole),
-      omega (arith, fits (goal.at.loop-header-preserved c).In-Whole),
-      obeyed.auto.memory ∙ loop.invariant.2,
-      loop.invariant.3 ∙ plays_on c.args.trace.now loop.at the_chip loop.count _ _ (standing (goal.at.loop-header-preserved c).In-Whole) _ (sym (rw c.if-ending-eq-TAKEN.true at obeyed.ensures)),
-    )
-
-pub shape_of-memory-else-ending-eq-TAKEN : goal.shape_of-memory-else-ending-eq-TAKEN
-shape_of-memory-else-ending-eq-TAKEN c = c.obey-ending.auto.memory ∙ c.loop-header.invariant.2
-
-pub returns-else-ending-eq-TAKEN : goal.returns-else-ending-eq-TAKEN
-unfolding ending_of played_of
-returns-else-ending-eq-TAKEN c =
-    let loop = c.loop-header in
     let obeyed = c.obey-ending in
-    rw c.end-else-ending-eq-TAKEN.ensures
-    (sym (loop.invariant.3 ∙ plays_stop c.args.trace.now loop.at the_chip loop.count _ _ (standing (goal.at.returns-else-ending-eq-TAKEN c).In-Whole) _ _ _ (sym (rw (ne_eqb _ _ c.if-ending-eq-TAKEN.false) at obeyed.ensures))))
+    let stands = seen _ loop.invariant.0 c.next.ensures c.in-Whole.is in
+    let fits = within_trace c.args.trace.now _ _ stands in
+    rw (c.moved-reader.ensures.0, c.moved-reader.ensures.1)
+    (loop.invariant.0, omega (arith, fits), omega (arith, fits), obeyed.auto.memory ∙ loop.invariant.3, loop.invariant.4 ∙ plays_on c.args.trace.now _ the_chip loop.count _ _ stands _ (sym (rw c.in_default.is at obeyed.ensures)))
+
+pub shape_of-memory-in-Err : goal.shape_of-memory-in-Err
+shape_of-memory-in-Err c = c.obey-ending.auto.memory ∙ c.loop-header.invariant.3
+
+pub returns-in-Err : goal.returns-in-Err
+unfolding ending_on played_of
+returns-in-Err c =
+    let loop = c.loop-header in
+    let stands = seen _ loop.invariant.0 c.next.ensures c.in-Whole.is in
+    rw c.end-in-Err.ensures (sym (loop.invariant.4 ∙ plays_stop c.args.trace.now _ the_chip loop.count _ _ stands _ _ _ (sym (rw c.in-Err.is at c.obey-ending.ensures))))

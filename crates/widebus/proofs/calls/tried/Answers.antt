@@ -2,8 +2,8 @@
 use Rattle.widebus.proofs.OnBoth.{on_a_copy, never_refused}
 use Rattle.widebus.proofs.calls.tried.Goals as goal
 
-pub returns-in-Found : goal.returns-in-Found
-returns-in-Found c = on_a_copy c.args.byte c.args.state.now c.requires c.ask_state.ensures c.in-Found.is c.image-copy.ensures c.command.ensures
+pub returns-in_err-ask_state : goal.returns-in_err-ask_state
+returns-in_err-ask_state c = absurd (never_refused c.args.byte _ c.requires c.in_err-ask_state.ensures)
 
-pub returns-in-Refused : goal.returns-in-Refused
-returns-in-Refused c = never_refused c.args.byte c.args.state.now c.requires c.ask_state.ensures c.in-Refused.is
+pub returns : goal.returns
+returns c = on_a_copy c.args.byte _ c.requires c.in_ok-ask_state.ensures c.image-copy.ensures c.command.ensures

@@ -1,54 +1,21 @@
 -- `widebus::calls::write` meets its contract: what is asked first, the selection, and the event on the selected states.
-use Rattle.widebus.proofs.CallCode.{left_short, right_short, left_outside, right_outside, taken_up, not_selected, on_left, on_right, on_both_lem}
-use Rattle.bus.specs.Chip.{data_written}
-use Rattle.widebus.specs.Pair.{both_lent}
 use mathlib.Core.Path.{refl}
+use Rattle.widebus.proofs.Numbered.{exits}
+use Rattle.widebus.proofs.CallCode.{ranges_refuse, taken_up, not_selected, on_left, on_right, on_both_lem}
 use Rattle.widebus.proofs.calls.write.Goals as goal
 
-pub returns-then-short : goal.returns-then-short
-returns-then-short c =
-    let a = c.args in
-    let all = both_lent a.left_state.now a.left_memory.now a.right_state.now a.right_memory.now in
-    left_short a.selection (data_written a.byte) all c.short.ensures c.if-short.true c.refuse.ensures
+pub returns-in_err-ask_ranges : goal.returns-in_err-ask_ranges
+returns-in_err-ask_ranges c = rw (exits c.from_residual.ensures.1) (ranges_refuse _ _ _ refl c.in_err-ask_ranges.ensures)
 
-pub returns-then-short-2 : goal.returns-then-short-2
-returns-then-short-2 c =
-    let a = c.args in
-    let all = both_lent a.left_state.now a.left_memory.now a.right_state.now a.right_memory.now in
-    right_short a.selection (data_written a.byte) all c.short.ensures c.if-short.false c.short-2.ensures c.if-short-2.true c.refuse-then-short-2.ensures
+pub returns-in_err-try_from : goal.returns-in_err-try_from
+returns-in_err-try_from c =
+    rw (exits c.from_residual-in_err-try_from.ensures.1) (not_selected _ _ _ (taken_up _ _ _ refl c.in_ok-ask_ranges.ensures).decided c.in_err-try_from.field-0.0 c.in_err-try_from.ensures)
 
 pub returns-in-Left : goal.returns-in-Left
-returns-in-Left c =
-    let a = c.args in
-    let all = both_lent a.left_state.now a.left_memory.now a.right_state.now a.right_memory.now in
-    rw c.numbered.ensures (on_left a.selection (data_written a.byte) all (taken_up a.selection (data_written a.byte) all c.short.ensures c.if-short.false c.short-2.ensures c.if-short-2.false refl c.legal.ensures c.if-legal.true c.legal-then-legal.ensures c.if-legal-2.true) c.selection_of.result c.selection_of.ensures c.in-Chips.is c.in-Left.is c.write.ensures)
+returns-in-Left c = on_left _ _ _ (taken_up _ _ _ refl c.in_ok-ask_ranges.ensures) c.in_ok-try_from.ensures c.in-Left.is c.write.ensures
 
 pub returns-in-Right : goal.returns-in-Right
-returns-in-Right c =
-    let a = c.args in
-    let all = both_lent a.left_state.now a.left_memory.now a.right_state.now a.right_memory.now in
-    rw c.numbered-in-Right.ensures (on_right a.selection (data_written a.byte) all (taken_up a.selection (data_written a.byte) all c.short.ensures c.if-short.false c.short-2.ensures c.if-short-2.false refl c.legal.ensures c.if-legal.true c.legal-then-legal.ensures c.if-legal-2.true) c.selection_of.result c.selection_of.ensures c.in-Chips.is c.in-Right.is c.write-in-Right.ensures)
+returns-in-Right c = on_right _ _ _ (taken_up _ _ _ refl c.in_ok-ask_ranges.ensures) c.in_ok-try_from.ensures c.in-Right.is c.write-in-Right.ensures
 
 pub returns-in-Both : goal.returns-in-Both
-returns-in-Both c =
-    let a = c.args in
-    let all = both_lent a.left_state.now a.left_memory.now a.right_state.now a.right_memory.now in
-    rw c.numbered-in-Both.ensures (on_both_lem a.selection (data_written a.byte) all (taken_up a.selection (data_written a.byte) all c.short.ensures c.if-short.false c.short-2.ensures c.if-short-2.false refl c.legal.ensures c.if-legal.true c.legal-then-legal.ensures c.if-legal-2.true) c.selection_of.result c.selection_of.ensures c.in-Chips.is c.in-Both.is refl c.write_both.ensures)
-
-pub returns-in-Refused : goal.returns-in-Refused
-returns-in-Refused c =
-    let a = c.args in
-    let all = both_lent a.left_state.now a.left_memory.now a.right_state.now a.right_memory.now in
-    not_selected a.selection (data_written a.byte) all (taken_up a.selection (data_written a.byte) all c.short.ensures c.if-short.false c.short-2.ensures c.if-short-2.false refl c.legal.ensures c.if-legal.true c.legal-then-legal.ensures c.if-legal-2.true).decided c.selection_of.result c.selection_of.ensures c.in-Refused.is c.refuse-in-Refused.ensures
-
-pub returns-then-legal : goal.returns-then-legal
-returns-then-legal c =
-    let a = c.args in
-    let all = both_lent a.left_state.now a.left_memory.now a.right_state.now a.right_memory.now in
-    right_outside a.selection (data_written a.byte) all c.short.ensures c.if-short.false c.short-2.ensures c.if-short-2.false refl c.legal.ensures c.if-legal.true c.legal-then-legal.ensures c.if-legal-2.false c.refuse-then-legal.ensures
-
-pub returns : goal.returns
-returns c =
-    let a = c.args in
-    let all = both_lent a.left_state.now a.left_memory.now a.right_state.now a.right_memory.now in
-    left_outside a.selection (data_written a.byte) all c.short.ensures c.if-short.false c.short-2.ensures c.if-short-2.false refl c.legal.ensures c.if-legal.false c.refuse-2.ensures
+returns-in-Both c = on_both_lem _ _ _ (taken_up _ _ _ refl c.in_ok-ask_ranges.ensures) c.in_ok-try_from.ensures c.in-Both.is refl c.write_both.ensures

@@ -1,22 +1,21 @@
--- `widebus::calls::write_both` meets its contract: both write it, or the right refuses it, or the left.
-use Rattle.widebus.proofs.OnBoth.{write_left_refuses, write_right_refuses, both_written}
+-- `widebus::calls::write_both` meets its contract: the left refuses it, or the right, or both write it.
+use mathlib.Core.Path.{refl}
 use Rattle.widebus.specs.Pair.{both_lent}
+use Rattle.widebus.proofs.Numbered.{exits, not_taken}
+use Rattle.widebus.proofs.OnBoth.{write_left_refuses, write_right_refuses, left_writes, both_written}
 use Rattle.widebus.proofs.calls.write_both.Goals as goal
 
-pub returns-then-other-eq-TAKEN : goal.returns-then-other-eq-TAKEN
-returns-then-other-eq-TAKEN c =
-    let a = c.args in
-    let all = both_lent a.left_state.now a.left_memory.now a.right_state.now a.right_memory.now in
-    both_written a.byte all c.access-met.ensures c.if-met-eq-TAKEN.true c.access-other.ensures c.if-other-eq-TAKEN.true c.write.ensures c.write-then-other-eq-TAKEN.ensures
+pub returns-in_err-access : goal.returns-in_err-access
+returns-in_err-access c = rw (exits c.from_residual.ensures.1) (write_left_refuses c.args.byte _ c.in_err-access.ensures (not_taken c.in_err-access.field-0.0))
 
-pub returns-then-met-eq-TAKEN : goal.returns-then-met-eq-TAKEN
-returns-then-met-eq-TAKEN c =
+pub returns-in_err-access-2 : goal.returns-in_err-access-2
+returns-in_err-access-2 c = rw (exits c.from_residual-in_err-access-2.ensures.1) (write_right_refuses c.args.byte _ c.in_ok-access.ensures refl c.in_err-access-2.ensures (not_taken c.in_err-access-2.field-0.0))
+
+pub returns-in_err-write : goal.returns-in_err-write
+returns-in_err-write c =
     let a = c.args in
     let all = both_lent a.left_state.now a.left_memory.now a.right_state.now a.right_memory.now in
-    write_right_refuses a.byte all c.access-met.ensures c.if-met-eq-TAKEN.true c.access-other.ensures c.if-other-eq-TAKEN.false
+    absurd (not_taken c.in_err-write.field-0.0 (left_writes a.byte all c.in_ok-access.ensures refl c.in_err-write.ensures))
 
 pub returns : goal.returns
-returns c =
-    let a = c.args in
-    let all = both_lent a.left_state.now a.left_memory.now a.right_state.now a.right_memory.now in
-    write_left_refuses a.byte all c.access-met.ensures c.if-met-eq-TAKEN.false
+returns c = both_written c.args.byte _ c.in_ok-access.ensures refl c.in_ok-access-2.ensures refl c.in_ok-write.ensures c.write-2.ensures

@@ -1,34 +1,42 @@
 -- `widetrace::heed::heed_of` meets its contract: the tests of the code, in order.
-use Rattle.widetrace.proofs.HeedCode.{commands_heeded, writes_heeded, reads_heeded, pin_heeded, no_read, read_of_both, pin_loaded, selects_heeded, selects_none, no_kind}
-use borrow.Author.Rules.{rules}
+use mathlib.Core.Path.{refl, sym, ◌∙◌, ap}
+use Rattle.std.specs.Prelude.{Ok}
+use Rattle.widetrace.specs.Code.{heed_met}
+use Rattle.widetrace.specs.EachChip.{hears}
+use Rattle.widetrace.proofs.HeedCode.{selects_heeded, no_read, read_of_both, read_of_one, no_read_heeded, refused_heeded, for_selected_met, for_selected_obeys, none_there, some_there, is_both, is_reads, no_reads}
 use Rattle.widetrace.proofs.heed.heed_of.Goals as goal
 
-pub returns-then-bytes-eq0 : goal.returns-then-bytes-eq0
-returns-then-bytes-eq0 c = search (rules, no_read)
+pub returns-then-kind-eq-SELECT-clause-heeds : goal.returns-then-kind-eq-SELECT-clause-heeds
+returns-then-kind-eq-SELECT-clause-heeds c =
+    let a = c.args in
+    selects_heeded a.side a.selection a.kind a.at a.payload.now c.if-kind-eq-SELECT.true c.selected.ensures.heeds
 
-pub returns-then-are_both : goal.returns-then-are_both
-returns-then-are_both c = search (rules, read_of_both)
+pub returns-in-Ok : goal.returns-in-Ok
+returns-in-Ok c =
+    let a = c.args in
+    let named = rw c.in-Ok.is at c.try_from.ensures in
+    record {
+      heeds = ap (λ heed. heed_met (Ok heed)) c.for_selected.ensures ∙ for_selected_met a.selection _ (hears a.side a.selection) ∙ no_read_heeded a.side a.selection a.kind a.at a.payload.now c.in-Ok.kind (no_reads _ (sym c.ne.ensures ∙ c.if-ne.true)) named;
+      obeys = rw c.for_selected.ensures (for_selected_obeys a.selection c.in-Ok.kind (hears a.side a.selection) a.kind a.payload.now (named.1 _ refl));
+    }
 
-pub returns-then-bytes-eq0-2 : goal.returns-then-bytes-eq0-2
-returns-then-bytes-eq0-2 c = search (rules, pin_heeded)
+pub returns-in-Ok-2-clause-heeds : goal.returns-in-Ok-2-clause-heeds
+returns-in-Ok-2-clause-heeds c =
+    let a = c.args in
+    no_read a.side a.selection a.kind a.at a.payload.now (rw (c.in-Ok.is, is_reads _ (sym c.ne.ensures ∙ c.if-ne.false)) at c.try_from.ensures) (none_there _ (sym c.is_empty.ensures ∙ c.if-is_empty.true))
 
-pub returns-then-bytes-eq1 : goal.returns-then-bytes-eq1
-returns-then-bytes-eq1 c = search (rules, selects_heeded)
+pub returns-in-Ok-3-clause-heeds : goal.returns-in-Ok-3-clause-heeds
+returns-in-Ok-3-clause-heeds c =
+    let a = c.args in
+    read_of_both a.side a.selection a.kind a.at a.payload.now (rw (c.in-Ok.is, is_reads _ (sym c.ne.ensures ∙ c.if-ne.false)) at c.try_from.ensures) (some_there _ (sym c.is_empty.ensures ∙ c.if-is_empty.false)) (is_both _ (sym c.eq.ensures ∙ c.if-eq.true))
 
-pub returns-in-1 : goal.returns-in-1
-returns-in-1 c = search (rules, commands_heeded)
+pub returns-in-Ok-4-clause-heeds : goal.returns-in-Ok-4-clause-heeds
+returns-in-Ok-4-clause-heeds c =
+    let a = c.args in
+    ap (λ heed. heed_met (Ok heed)) c.for_selected-in-Ok-4.ensures ∙ for_selected_met a.selection _ (hears a.side a.selection)
+    ∙ read_of_one a.side a.selection a.kind a.at a.payload.now (rw (c.in-Ok.is, is_reads _ (sym c.ne.ensures ∙ c.if-ne.false)) at c.try_from.ensures) (some_there _ (sym c.is_empty.ensures ∙ c.if-is_empty.false)) (is_both _ (sym c.eq.ensures ∙ c.if-eq.false))
 
-pub returns-in-2 : goal.returns-in-2
-returns-in-2 c = search (rules, writes_heeded)
-
-pub returns-else-are_both : goal.returns-else-are_both
-returns-else-are_both c = search (rules, reads_heeded)
-
-pub returns-else-bytes-eq0-2 : goal.returns-else-bytes-eq0-2
-returns-else-bytes-eq0-2 c = search (rules, pin_loaded)
-
-pub returns-else-bytes-eq1 : goal.returns-else-bytes-eq1
-returns-else-bytes-eq1 c = search (rules, selects_none)
-
-pub returns-in_default : goal.returns-in_default
-returns-in_default c = search (rules, no_kind)
+pub returns-in-Err-clause-heeds : goal.returns-in-Err-clause-heeds
+returns-in-Err-clause-heeds c =
+    let a = c.args in
+    refused_heeded a.side a.selection a.kind a.at a.payload.now c.if-kind-eq-SELECT.false c.in-Err.refusal (rw c.in-Err.is at c.try_from.ensures)

@@ -1,5 +1,6 @@
 -- `widetrace::run::run` meets its contract: what was asked first decides, and each chip's registers are stored once.
-use mathlib.Core.Path.{sym, ◌∙◌}
+use mathlib.Core.Path.{sym, ◌∙◌, ap}
+use Rattle.widebus.specs.Asked.{both_asked_of}
 use Rattle.widetrace.proofs.WideRunCode.{plays, refuses}
 use Rattle.widebus.specs.Pair.{both_lent}
 use Rattle.widebus.proofs.Asking.{memories_long}
@@ -9,16 +10,16 @@ pub play-played-requires : goal.play-played-requires
 play-played-requires c =
     let a = c.args in
     let all = both_lent a.left_state.now a.left_memory.now a.right_state.now a.right_memory.now in
-    (memories_long all (sym c.ask.ensures ∙ c.in-Found.is)).0
+    (memories_long all (sym c.ask.ensures ∙ ap both_asked_of c.in-Ok.is)).0
 
-pub returns-in-Found : goal.returns-in-Found
-returns-in-Found c =
+pub returns-in-Ok : goal.returns-in-Ok
+returns-in-Ok c =
     let a = c.args in
     let all = both_lent a.left_state.now a.left_memory.now a.right_state.now a.right_memory.now in
-    plays all a.trace.now c.ask.ensures c.in-Found.is c.play-played.result _ _ c.play-played.ensures c.store.ensures c.store-in-Found.ensures
+    plays all a.trace.now c.ask.ensures c.in-Ok.is c.play-played.result _ _ c.play-played.ensures c.store.ensures c.store-in-Ok.ensures
 
-pub returns-in-Refused : goal.returns-in-Refused
-returns-in-Refused c =
+pub returns-in-Err : goal.returns-in-Err
+returns-in-Err c =
     let a = c.args in
     let all = both_lent a.left_state.now a.left_memory.now a.right_state.now a.right_memory.now in
-    refuses all a.trace.now c.ask.ensures c.in-Refused.is
+    refuses all a.trace.now c.ask.ensures c.in-Err.is
