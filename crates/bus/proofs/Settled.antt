@@ -10,7 +10,7 @@ use Rattle.constants.specs.declared.refusal.Refusal.{Refusal}
 use Rattle.constants.proofs.Refusals.{met_of, met_undone}
 use Rattle.constants.proofs.Settles.{equation, told_from}
 use Rattle.bus.specs.Calls.{Called, called}
-use Rattle.bus.specs.Start.{Started, started}
+use Rattle.bus.specs.Start.{started}
 use Rattle.bus.specs.Registers.{power_on}
 use Rattle.bus.specs.Chip.{Chip}
 use Rattle.bus.specs.Events.{silently}
