@@ -8,7 +8,7 @@ use Rattle.std.specs.Prelude.{Result, Ok, Err}
 use Rattle.constants.specs.declared.refusal.Refusal.{Refusal}
 use Rattle.constants.specs.Refusals.{number_of_refusal}
 use Rattle.constants.proofs.Refusals.{number_of_refusal_injective}
-use Rattle.framelisting.specs.Listing.{Listed, listed_of, Outcome, outcome}
+use Rattle.framelisting.specs.Listing.{listed_of, Outcome, outcome}
 use Rattle.framelisting.specs.Settled.{Settled}
 
 -- answers that are listed alike are equal

@@ -39,7 +39,7 @@ fn draw_frame(registers: Registers, memory: &[u8; MEMORY_SIZE], places: &mut [u8
     }
 }
 
-// Draws each row into its own part of the frame.
+// Draws each row into its own part of the frame. The part is cut by hand: after a loop over `chunks_exact_mut` a proof knows no place of the frame.
 fn draw_rows(registers: Registers, memory: &[u8; MEMORY_SIZE], places: &mut [u8; FRAME_SIZE])
     ensures { places.new ≡ frame registers memory.now }
 {

@@ -1,7 +1,7 @@
 -- `framelisting::row::run_end` meets its contract: the places passed lead the row from the first one on.
-use Prim.Native.Nat.{◌≤◌, ◌+◌, ◌-◌}
+use Prim.Native.Nat.{◌+◌}
 use mathlib.Core.Path.{◌≡◌}
-use lib.ListN.{length, drop}
+use lib.ListN.{drop}
 use Rattle.framelisting.specs.Runs.{leading}
 use Rattle.framelisting.proofs.row.run_end.Given as goal
 

@@ -1,7 +1,7 @@
--- `framelisting::text::put_small` meets its contract: one, two or three digits.
-use borrow.Author.Rules.{rules}
+-- `framelisting::text::Text::put_small` meets its contract: one, two or three digits.
+use Rattle.std.proofs.Common.{rules}
 use Rattle.framelisting.proofs.SmallNumbers.{put_one, put_two, put_three}
-use Rattle.framelisting.proofs.text.put_small.Goals as goal
+use Rattle.framelisting.proofs.text.Text.put_small.Goals as goal
 
 pub returns-then-number-lt10 : goal.returns-then-number-lt10
 returns-then-number-lt10 c = search (rules, put_one)
@@ -9,5 +9,5 @@ returns-then-number-lt10 c = search (rules, put_one)
 pub returns-then-number-lt100 : goal.returns-then-number-lt100
 returns-then-number-lt100 c = search (rules, put_two)
 
-pub returns : goal.returns
-returns c = search (rules, put_three)
+pub returns-else-number-lt100 : goal.returns-else-number-lt100
+returns-else-number-lt100 c = search (rules, put_three)
