@@ -9,9 +9,11 @@ pub mod Asking
 pub mod ThereAndBack
 -- the image at the start of a lent state
 pub mod OwnImage
+-- and the ranges of its registers
+pub mod First
 -- the image's order and the awaited codes, listed twice
 pub mod TablesAgree
--- the ranges asked in pieces, some of them as one number
+-- the ranges of registers side by side, asked as one number
 pub mod Ranges
 -- what a result of code stands for tells which result it is
 pub mod Results
@@ -35,8 +37,6 @@ pub mod Concluded
 pub mod Stored
 -- what is asked first, by its tests, and what a data byte leaves of the registers
 pub mod AskedFirst
--- bytes set in a lent image are the registers set
-pub mod InPlace
 -- events on a state that was asked before
 pub mod OnState
 -- what a call leaves as it was, and the one byte that a write changes

@@ -1,64 +1,18 @@
--- Bytes put and compared side by side: what has been put so far, what the next byte or the next chunk makes of it, and what holds of the bytes passed.
+-- Bytes put and compared side by side: what holds of the bytes passed, and what a page keeps.
 -- Assumes nothing.
-use Prim.Native.Nat.{ℕ, zero, suc, ◌+◌, ◌-◌, ◌≤◌, ◌<◌}
-use mathlib.Core.Path.{◌≡◌, refl, sym, ◌∙◌, ap}
+use Prim.Native.Nat.{ℕ, zero, suc, ◌+◌, ◌≤◌, ◌<◌}
+use mathlib.Core.Path.{◌≡◌, refl}
 use mathlib.Core.Bool.{Bool, true, false}
 use mathlib.Core.Logic.{◌≢◌}
-use mathlib.Core.List.{List, [], ◌∷◌, ◌++◌, map, append_assoc, append-nil}
-use native.Mathlib.Nat.{not-suc-le-zero, le_of_suc-le-suc}
+use mathlib.Core.List.{List, [], ◌∷◌, ◌++◌, map}
 use native.Mathlib.Omega.{arith}
-use native.Mathlib.Numerals.{add-one}
 use borrow.Author.Tests.{ltb-true, ltb-false, ne_eqb}
 use Rattle.constants.specs.Sizes.{icon_page}
 use Rattle.bus.specs.Memory.{kept}
 use lib.Dec.{ltb}
 use lib.Bits.{bit_or, bit_xor, or_add_and, xor_add_and, and_le_l, and_le_r}
-use lib.ListN.{length, get_or, take, drop, set, length-append, length-drop}
-use lib.Seq.{length-take-le, take-length, drop-length, take-suc, drop-cons, set_at, take-append-le, take-take, drop-append-add, drop-drop, get_or-take, get_or-drop, take-add}
-
--- the first j of s, and the rest of d
-abbrev pub over : ℕ → List ℕ → List ℕ → List ℕ
-over j s d = take j s ++ drop j d
-
-module _ (s d : List ℕ) (e : length d ≡ length s) where
-  pub length_over : (j : ℕ) → j ≤ length s → length (over j s d) ≡ length d
-  length_over j h = length-append (take j s) (drop j d) ∙ omega (arith, length-take-le j s h, length-drop j d, e)
-
-  -- one more
-  pub over_more : (j : ℕ) → j < length s → set (over j s d) j (get_or s j 0) ≡ over (j + 1) s d
-  over_more j h =
-      ap (λ rest. set (take j s ++ rest) j (get_or s j 0)) (drop-cons d j 0 (omega arith)) ∙
-      set_at (take j s) (get_or d j 0) (drop (suc j) d) (get_or s j 0) j (length-take-le j s (omega arith)) ∙
-      sym (append_assoc (take j s) (get_or s j 0 ∷ []) (drop (suc j) d)) ∙
-      ap (λ front. front ++ drop (suc j) d) (sym (take-suc s j 0 h)) ∙
-      ap (λ k. over k s d) (sym (add-one j))
-
-  -- all
-  pub over_all : (j : ℕ) → j ≡ length s → over j s d ≡ s
-  over_all j h =
-      let all : drop j d ≡ [] = rw (h, ← e) (drop-length d) in
-      rw (all, h, take-length s) (append-nil s)
-
-  -- one chunk more, which may begin in what is put already
-  module _ (from at n : ℕ) (begins : from ≤ at) (reaches : at ≤ from + n) (ends : from + n ≤ length s) where
-    front : take from (over at s d) ≡ take from s
-    front = take-append-le from (take at s) (drop at d) (omega (arith, length-take-le at s (omega arith))) ∙ take-take from at s begins
-
-    rest : drop n (drop from (over at s d)) ≡ drop (from + n) d
-    rest =
-        let l : length (take at s) ≡ at = length-take-le at s (omega arith) in
-        let k : from + n ≡ length (take at s) + (from + n - at) = omega (arith, l) in
-        let m : at + (from + n - at) ≡ from + n = omega arith in
-        drop-drop n from (over at s d) ∙
-        ap (λ i. drop i (over at s d)) k ∙
-        drop-append-add (take at s) (drop at d) (from + n - at) ∙
-        drop-drop (from + n - at) at d ∙
-        ap (λ i. drop i d) m
-
-    pub over_chunk : take from (over at s d) ++ (take n (drop from s) ++ drop n (drop from (over at s d))) ≡ over (from + n) s d
-    over_chunk =
-        rw (front, rest)
-        (sym (append_assoc (take from s) (take n (drop from s)) (drop (from + n) d)) ∙ ap (λ all. all ++ drop (from + n) d) (sym (take-add from n s)))
+use lib.ListN.{length, get_or, take, drop, length-drop}
+use lib.Seq.{length-take-le}
 
 -- what holds below x and at x holds below x + 1
 pub one_more : (P : ℕ → Type 0) (x : ℕ) → ((i : ℕ) → i < x → P i) → P x → (i : ℕ) → i < x + 1 → P i
@@ -69,20 +23,6 @@ one_more P x below here i h = by (ltb i x) refl
     by false e =
         let same : i ≡ x = omega (arith, h, ltb-false i x e) in
         rw same here
-
--- what holds below x and of the chunk from a place at x or before it holds up to the chunk's end
-pub chunk_more : (P : ℕ → Type 0) (x from size : ℕ) → from ≤ x → ((i : ℕ) → i < x → P i) → ((j : ℕ) → j < size → P (from + j)) → (i : ℕ) → i < from + size → P i
-chunk_more P x from size l below chunk i h = by (ltb i x) refl
-  where
-    by : (t : Bool) → ltb i x ≡ t → P i
-    by true e = below i (ltb-true i x e)
-    by false e =
-        let same : i ≡ from + (i - from) = omega (arith, ltb-false i x e) in
-        rw same (chunk (i - from) (omega (arith, ltb-false i x e)))
-
--- a byte of a part of a list
-pub in_part : (l : List ℕ) (from n i : ℕ) → i < n → get_or (take n (drop from l)) i 0 ≡ get_or l (from + i) 0
-in_part l from n i h = get_or-take n (drop from l) i 0 h ∙ get_or-drop from l i 0
 
 -- a part has as many bytes as it should
 pub length_part : (l : List ℕ) (from n : ℕ) → from + n ≤ length l → length (take n (drop from l)) ≡ n
@@ -103,13 +43,7 @@ or_zero a b e = (omega (arith, e, or_add_and a b, and_le_l a b, and_le_r a b), o
 pub xor_zero : (a b : ℕ) → bit_xor a b ≡ 0 → a ≡ b
 xor_zero a b e = omega (arith, e, xor_add_and a b, and_le_l a b, and_le_r a b)
 
--- what a page keeps of some bytes, byte by byte
-pub get_d_kept : (page : ℕ) (bytes : List ℕ) (i : ℕ) → i < length bytes → get_or (map (kept page) bytes) i 0 ≡ kept page (get_or bytes i 0)
-get_d_kept page [] i h = absurd (not-suc-le-zero h)
-get_d_kept page (byte ∷ bytes) zero h = refl
-get_d_kept page (byte ∷ bytes) (suc i) h = get_d_kept page bytes i (le_of_suc-le-suc h)
-
--- on every page but 8 that is the byte whole
+-- on every page but 8 a byte is kept whole
 pub kept_byte : (page byte : ℕ) → page ≢ icon_page → kept page byte ≡ byte
 unfolding kept
 kept_byte page byte n = rw (ne_eqb page icon_page n)

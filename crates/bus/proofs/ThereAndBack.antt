@@ -11,6 +11,10 @@ use lib.Seq.{drop-cons}
 use Rattle.constants.specs.Sizes.{image_size}
 use Rattle.bus.specs.Registers.{image_of, registers_of, ◌with◌≔◌}
 use Rattle.bus.specs.ThereAndBack.{ThereAndBack}
+use Rattle.bus.specs.Held.{place_of}
+use Rattle.bus.specs.declared.places.Place.{Place}
+use Rattle.bus.specs.contracts.places.Place.{the_type}
+use denote.Enum.Declared.{tag_of}
 use Rattle.bus.specs.declared.registers.Registers.{Registers}
 
 -- n bytes of a list from place i, one by one
@@ -36,3 +40,29 @@ image_with r place value =
 
 pub there_and_back : ThereAndBack
 there_and_back = record { size = λ r. refl; registers_back = λ r. refl; image_back = image_registers; one_set = image_with }
+
+-- each register of an image stands at its place
+pub at_place : (image : List ℕ) (place : Place) → get_or image (tag_of the_type place) 0 ≡ get_or (image_of (registers_of image)) (place_of place) 0
+at_place image Place.Page = refl
+at_place image Place.Column = refl
+at_place image Place.Start = refl
+at_place image Place.Offset = refl
+at_place image Place.Multiplex = refl
+at_place image Place.Contrast = refl
+at_place image Place.Ratio = refl
+at_place image Place.Power = refl
+at_place image Place.Bias = refl
+at_place image Place.Quarter = refl
+at_place image Place.Held = refl
+at_place image Place.Phases = refl
+at_place image Place.ColumnDirection = refl
+at_place image Place.RowDirection = refl
+at_place image Place.Entire = refl
+at_place image Place.Reverse = refl
+at_place image Place.On = refl
+at_place image Place.Indicator = refl
+at_place image Place.Mode = refl
+at_place image Place.Awaited = refl
+at_place image Place.Modify = refl
+at_place image Place.Saved = refl
+at_place image Place.Fresh = refl

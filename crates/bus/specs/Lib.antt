@@ -29,7 +29,9 @@ pub mod Stretch
 pub mod Accepts
 -- for them too: bytes put and compared side by side
 pub mod Pieces
--- for them too: a stretch of reads, from an offset on
+-- for them too: the registers by the names that code has
+pub mod Held
+-- and a stretch of reads, from an offset on
 pub mod Reads
 -- 2. Laws, each proved in the file of that name in proofs/.
 -- why some of them take bytes below 256

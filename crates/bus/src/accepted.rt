@@ -10,8 +10,8 @@ ghost use Rattle.bus.specs.Chip.{command_byte, data_written, data_read};
 ghost use Rattle.bus.specs.Calls.{called};
 ghost use Rattle.bus.specs.OnState.{on_state, access_on};
 
-use crate::lent::obey;
-use crate::places::{AWAITED, COLUMN, FRESH, load};
+use crate::obey::obey;
+use crate::places::{Held, Place, load};
 use crate::registers::Registers;
 use constants::refusal::Refusal;
 use constants::sizes::IMAGE_SIZE;
@@ -23,7 +23,7 @@ pub fn command(state: &mut [u8], byte: u8) -> Result<(), Refusal>
     let Some(image) = state.first_chunk_mut::<IMAGE_SIZE>() else {
         return Err(Refusal::TooShort);
     };
-    let named = codes::meaning_of(image[AWAITED], byte);
+    let named = codes::meaning_of(image.at(Place::Awaited), byte);
     obey(image, named)
 }
 
@@ -65,7 +65,7 @@ pub fn access(state: &[u8], memory: &[u8]) -> Result<(), Refusal>
 pub fn awaited(state: &[u8]) -> u8
     ensures { result ≡ get_or state.now places.awaited 0 }
 {
-    state.get(AWAITED).copied().unwrap_or(0)
+    state.get(Place::Awaited as usize).copied().unwrap_or(0)
 }
 
 // Stores what a data byte changes of the registers, column and fresh: these two bytes alone.
@@ -73,6 +73,6 @@ fn move_on(image: &mut [u8; IMAGE_SIZE], left: Registers)
     requires { left ≡ (registers_of image.old with places.column ≔ left.column with places.fresh ≔ left.fresh) }
     ensures { image.new ≡ stored left image.old }
 {
-    image[COLUMN] = left.column;
-    image[FRESH] = left.fresh;
+    image.put(Place::Column, left.column);
+    image.put(Place::Fresh, left.fresh);
 }

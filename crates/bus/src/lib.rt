@@ -7,7 +7,7 @@ pub mod calls;
 pub mod command;
 pub mod data;
 pub mod image;
-mod lent;
+mod obey;
 mod pieces;
 mod places;
 mod put;

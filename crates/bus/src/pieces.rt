@@ -55,10 +55,16 @@ pub fn pass(registers: Registers, memory: &[u8], bytes: &[u8]) -> Passed
     ensures { PassedOver result registers memory.now bytes.now }
 {
     if bytes.len() < FEWEST {
-        return Passed { registers, count: 0 };
+        return Passed {
+            registers,
+            count: 0,
+        };
     }
     let Ok(()) = registers.access(memory.len()) else {
-        return Passed { registers, count: 0 };
+        return Passed {
+            registers,
+            count: 0,
+        };
     };
     let dummies = dummy_reads(registers.fresh);
     let ready = registers.with_fresh(after_dummy(registers.fresh));

@@ -1,84 +1,185 @@
-// The places of the registers in the image, and the registers of an image.
-ghost use Rattle.std.specs.Prelude.{◌≡◌, ◌≤◌, length};
-ghost use Rattle.constants.specs.Sizes.{image_size};
-ghost use Rattle.bus.specs.Registers.{registers_of};
+// The registers by name, the two forms in which they are held, and the registers of an image.
+ghost use Rattle.std.specs.Prelude.{◌≡◌, ℕ, length, get_or};
+ghost use Rattle.bus.specs.Registers.{image_of, registers_of, ◌with◌≔◌};
+ghost use Rattle.bus.specs.Held.{place_of};
+ghost use Rattle.bus.specs.declared.registers.Registers.{Registers as Those};
 
 use crate::registers::Registers;
+use constants::sizes::IMAGE_SIZE;
 
-pub const PAGE: usize = 0;
+// A register by its name, which is its place in the image.
+#[derive(Clone, Copy)]
+pub enum Place {
+    Page,
+    Column,
+    Start,
+    Offset,
+    Multiplex,
+    Contrast,
+    Ratio,
+    Power,
+    Bias,
+    Quarter,
+    Held,
+    Phases,
+    ColumnDirection,
+    RowDirection,
+    Entire,
+    Reverse,
+    On,
+    Indicator,
+    Mode,
+    Awaited,
+    Modify,
+    Saved,
+    Fresh,
+}
 
-pub const COLUMN: usize = 1;
+// Where registers are held: by themselves, as in a run, or in a lent image.
+pub trait Held {
+    ghost registers: { Self → Those };
 
-pub const START: usize = 2;
+    // The bytes that they lie in, whose number stays.
+    ghost size: { Self → ℕ };
 
-pub const OFFSET: usize = 3;
+    // One register.
+    fn at(&self, place: Place) -> u8
+        ensures { result ≡ get_or (image_of (registers self.now)) (place_of place) 0 };
 
-pub const MULTIPLEX: usize = 4;
+    // Sets one register.
+    fn put(&mut self, place: Place, value: u8)
+        ensures registers { registers self.new ≡ (registers self.old with place_of place ≔ value) }
+        ensures size { size self.new ≡ size self.old };
+}
 
-pub const CONTRAST: usize = 5;
+impl Held for Registers {
+    ghost registers = { λ r. r };
 
-pub const RATIO: usize = 6;
+    ghost size = { λ r. 0 };
 
-pub const POWER: usize = 7;
+    fn at(&self, place: Place) -> u8 {
+        match place {
+            Place::Page => self.page,
+            Place::Column => self.column,
+            Place::Start => self.start,
+            Place::Offset => self.offset,
+            Place::Multiplex => self.multiplex,
+            Place::Contrast => self.contrast,
+            Place::Ratio => self.ratio,
+            Place::Power => self.power,
+            Place::Bias => self.bias,
+            Place::Quarter => self.quarter,
+            Place::Held => self.held,
+            Place::Phases => self.phases,
+            Place::ColumnDirection => self.column_direction,
+            Place::RowDirection => self.row_direction,
+            Place::Entire => self.entire,
+            Place::Reverse => self.reverse,
+            Place::On => self.on,
+            Place::Indicator => self.indicator,
+            Place::Mode => self.mode,
+            Place::Awaited => self.awaited,
+            Place::Modify => self.modify,
+            Place::Saved => self.saved,
+            Place::Fresh => self.fresh,
+        }
+    }
 
-pub const BIAS: usize = 8;
+    fn put(&mut self, place: Place, value: u8) {
+        match place {
+            Place::Page => self.page = value,
+            Place::Column => self.column = value,
+            Place::Start => self.start = value,
+            Place::Offset => self.offset = value,
+            Place::Multiplex => self.multiplex = value,
+            Place::Contrast => self.contrast = value,
+            Place::Ratio => self.ratio = value,
+            Place::Power => self.power = value,
+            Place::Bias => self.bias = value,
+            Place::Quarter => self.quarter = value,
+            Place::Held => self.held = value,
+            Place::Phases => self.phases = value,
+            Place::ColumnDirection => self.column_direction = value,
+            Place::RowDirection => self.row_direction = value,
+            Place::Entire => self.entire = value,
+            Place::Reverse => self.reverse = value,
+            Place::On => self.on = value,
+            Place::Indicator => self.indicator = value,
+            Place::Mode => self.mode = value,
+            Place::Awaited => self.awaited = value,
+            Place::Modify => self.modify = value,
+            Place::Saved => self.saved = value,
+            Place::Fresh => self.fresh = value,
+        }
+    }
+}
 
-pub const QUARTER: usize = 9;
+impl Held for [u8; IMAGE_SIZE] {
+    ghost registers = { registers_of };
 
-pub const HELD: usize = 10;
+    ghost size = { length };
 
-pub const PHASES: usize = 11;
+    fn at(&self, place: Place) -> u8 {
+        self[place as usize]
+    }
 
-pub const COLUMN_DIRECTION: usize = 12;
+    fn put(&mut self, place: Place, value: u8) {
+        self[place as usize] = value;
+    }
+}
 
-pub const ROW_DIRECTION: usize = 13;
-
-pub const ENTIRE: usize = 14;
-
-pub const REVERSE: usize = 15;
-
-pub const ON: usize = 16;
-
-pub const INDICATOR: usize = 17;
-
-pub const MODE: usize = 18;
-
-pub const AWAITED: usize = 19;
-
-pub const MODIFY: usize = 20;
-
-pub const SAVED: usize = 21;
-
-pub const FRESH: usize = 22;
-
-// The registers of an image.
-pub fn load(image: &[u8]) -> Registers
-    requires { image_size ≤ length image.now }
+// The registers of an image. It is no `From`: most callers hold a `&mut` image, and `Registers::from(&*image)` is no plainer.
+pub fn load(image: &[u8; IMAGE_SIZE]) -> Registers
     ensures { result ≡ registers_of image.now }
 {
+    let [
+        page,
+        column,
+        start,
+        offset,
+        multiplex,
+        contrast,
+        ratio,
+        power,
+        bias,
+        quarter,
+        held,
+        phases,
+        column_direction,
+        row_direction,
+        entire,
+        reverse,
+        on,
+        indicator,
+        mode,
+        awaited,
+        modify,
+        saved,
+        fresh,
+    ] = *image;
     Registers {
-        page: image[PAGE],
-        column: image[COLUMN],
-        start: image[START],
-        offset: image[OFFSET],
-        multiplex: image[MULTIPLEX],
-        contrast: image[CONTRAST],
-        ratio: image[RATIO],
-        power: image[POWER],
-        bias: image[BIAS],
-        quarter: image[QUARTER],
-        held: image[HELD],
-        phases: image[PHASES],
-        column_direction: image[COLUMN_DIRECTION],
-        row_direction: image[ROW_DIRECTION],
-        entire: image[ENTIRE],
-        reverse: image[REVERSE],
-        on: image[ON],
-        indicator: image[INDICATOR],
-        mode: image[MODE],
-        awaited: image[AWAITED],
-        modify: image[MODIFY],
-        saved: image[SAVED],
-        fresh: image[FRESH],
+        page,
+        column,
+        start,
+        offset,
+        multiplex,
+        contrast,
+        ratio,
+        power,
+        bias,
+        quarter,
+        held,
+        phases,
+        column_direction,
+        row_direction,
+        entire,
+        reverse,
+        on,
+        indicator,
+        mode,
+        awaited,
+        modify,
+        saved,
+        fresh,
     }
 }

@@ -17,7 +17,7 @@ pub fn put(page: u8, places: &mut [u8], bytes: &[u8])
     places.copy_from_slice(bytes);
 }
 
-// One by one.
+// One by one. With `zip` the check knows nothing of the places that are put; counted along the places it takes 15 % longer; put whole and then kept in place, 75 %.
 fn put_each(page: u8, places: &mut [u8], bytes: &[u8])
     requires { length places.old ≡ length bytes.now }
     ensures { places.new ≡ map (kept page) bytes.now }

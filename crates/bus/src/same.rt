@@ -16,7 +16,7 @@ pub fn agree(page: u8, places: &[u8], bytes: &[u8]) -> bool
     places == bytes
 }
 
-// All are looked at, and it is decided at the end.
+// All are looked at, and it is decided at the end: `all` stops at the first that differs, and takes twenty times as long where none does.
 fn agree_each(page: u8, places: &[u8], bytes: &[u8]) -> bool
     requires { length places.now ≡ length bytes.now }
     ensures { result ≡ true → Agree page places.now bytes.now }
@@ -30,7 +30,7 @@ fn agree_each(page: u8, places: &[u8], bytes: &[u8]) -> bool
     differing == 0
 }
 
-// Whether one byte was read again and again.
+// Whether one byte was read again and again; as above, all are looked at.
 pub fn repeats(byte: u8, bytes: &[u8]) -> bool
     ensures { result ≡ true → Repeats byte bytes.now }
 {

@@ -58,9 +58,5 @@ fn clear(memory: &mut [u8])
     requires { memory_size ≤ length memory.old }
     ensures { memory.new ≡ memory_at_start ++ drop memory_size memory.old }
 {
-    let mut i = 0;
-    while i < MEMORY_SIZE {
-        memory[i] = 0;
-        i += 1;
-    }
+    memory[..MEMORY_SIZE].fill(0);
 }

@@ -3,14 +3,13 @@
 use mathlib.Core.Path.{◌≡◌, refl, sym, ◌∙◌, ap}
 use mathlib.Core.Bool.{Bool, true, ◌&&◌}
 use mathlib.Core.List.{List, [], ◌∷◌, ◌++◌, append-nil}
-use Prim.Native.Nat.{ℕ, ◌+◌, ◌≤◌}
-use native.Mathlib.Nat.{le_antisymm}
+use Prim.Native.Nat.{ℕ, ◌≤◌}
 use native.Mathlib.Omega.{arith}
 use lib.Dec.{leb, ltb, eqb}
-use lib.ListN.{length, take, drop, take-append-drop}
+use lib.ListN.{take, drop, take-append-drop}
 use borrow.Author.Tests.{le-leb, leb-true, ltb-true, eqb-true}
 use Rattle.codes.proofs.Tests.{refuted, both}
-use Rattle.codes.specs.Table.{Row, one, two, table, command_by, command_of, operand_by, operand_of}
+use Rattle.codes.specs.Table.{Row, one, two, table, command_by, command_of}
 use Rattle.codes.specs.declared.Command.{Command}
 
 -- no row of the list has the byte
@@ -18,30 +17,6 @@ abbrev pub Apart : List Row → ℕ → Type 0
 Apart [] b = Unit {0}
 Apart (one first last means ∷ rows) b = (first ≤ b → b ≤ last → ⊥) × Apart rows b
 Apart (two code gives ∷ rows) b = (b ≡ code → ⊥) × Apart rows b
-
--- a row of a single code does not have another byte
-pub other : (code b : ℕ) → (b ≡ code → ⊥) → code ≤ b → b ≤ code → ⊥
-other code b h low high = h (le_antisymm high low)
-
--- the byte is none of the codes
-abbrev pub None : List ℕ → ℕ → Type 0
-None [] b = Unit {0}
-None (code ∷ codes) b = (b ≡ code → ⊥) × None codes b
-
--- the codes follow one another from x
-abbrev pub follow : ℕ → List ℕ → Bool
-follow x [] = true
-follow x (code ∷ codes) = eqb code x && follow (x + 1) codes
-
--- a byte from x on that is none of the codes is past them
-pub past_codes : (codes : List ℕ) (x b : ℕ) → follow x codes ≡ true → x ≤ b → None codes b → x + length codes ≤ b
-past_codes [] x b e low none = omega arith
-past_codes (code ∷ codes) x b e low none =
-    let halves = both (eqb code x) (follow (x + 1) codes) e in
-    omega (arith, past_codes codes (x + 1) b halves.1 (next (eqb-true code x halves.0) none.0) none.1)
-  where
-    next : code ≡ x → (b ≡ code → ⊥) → x + 1 ≤ b
-    next same other = omega arith
 
 -- every row of the list ends below x
 abbrev pub below : ℕ → List Row → Bool
@@ -103,20 +78,3 @@ in_gap j k x y b before after low high between =
     past k (drop j table) b between ∙
     ap (λ rows. command_by rows b) (sym (append-nil rest)) ∙
     passed rest [] b (above_apart rest y b after high))
-
--- no row of two bytes has the code
-abbrev pub Unawaited : List Row → ℕ → Type 0
-Unawaited [] code = Unit {0}
-Unawaited (one first last means ∷ rows) code = Unawaited rows code
-Unawaited (two awaited gives ∷ rows) code = (code ≡ awaited → ⊥) × Unawaited rows code
-
-refused : (rows : List Row) (code n : ℕ) → Unawaited rows code → operand_by rows code n ≡ Command.NotAwaited
-unfolding operand_by
-refused [] code n h = refl
-refused (one first last means ∷ rows) code n h = refused rows code n h
-refused (two awaited gives ∷ rows) code n h = rw (refuted (eqb code awaited) (λ e. h.0 (eqb-true _ _ e))) (refused rows code n h.1)
-
--- the code awaits nothing
-pub unawaited : (code n : ℕ) → Unawaited table code → Command.NotAwaited ≡ operand_of code n
-unfolding operand_of
-unawaited code n h = sym (refused table code n h)

@@ -4,8 +4,8 @@
 ghost use Rattle.std.specs.Prelude.{◌≡◌};
 ghost use Rattle.codes.specs.Table.{meaning_of, command_of, operand_of, offset_of, frame_phases_of};
 
-// A command byte, named, with the value that it carries: a command, or the n of a command of two bytes.
-#[derive(Drop)]
+// A command byte, named, with the value that it carries: a command, or the n of a command of two bytes. Bytes that are refused are cases too, since each row of the one table has its case, by which a listing marks it (specs/Table `table`, DECISIONS 174); a value of 0 or 1 is the register's number, as the image has it.
+#[derive(Clone, Copy, Debug, PartialEq, Eq)]
 pub enum Command {
     ColumnLow(u8),
     ColumnHigh(u8),
@@ -45,7 +45,8 @@ pub enum Command {
     Outside,
 }
 
-// What a command byte is where `awaited` is the awaited code. No code that awaits n is below 81; that is asked first for speed (DECISIONS 36).
+// What a command byte is where `awaited` is the awaited code, 0 for none, as the image has it. No code that awaits n is below 81; that is asked first for speed (DECISIONS 36).
+#[tactic(auto, unfolding(crate::specs::Table::table, crate::specs::Table::meaning_of, crate::specs::Table::operand_of, crate::specs::Table::operand_by))]
 pub fn meaning_of(awaited: u8, byte: u8) -> Command
     ensures { result ≡ meaning_of awaited byte }
 {
@@ -59,6 +60,7 @@ pub fn meaning_of(awaited: u8, byte: u8) -> Command
 }
 
 // The command that a byte is where no code is awaited.
+#[tactic(auto, unfolding(crate::specs::Table::table, crate::specs::Table::command_of, crate::specs::Table::command_by))]
 fn command_of(byte: u8) -> Command
     ensures { result ≡ command_of byte }
 {
@@ -102,7 +104,8 @@ fn command_of(byte: u8) -> Command
     }
 }
 
-// What n gives where `code` is awaited.
+// What n gives where `code` is awaited: the document's table, row by row; two rows have a rule of their own.
+#[tactic(auto, unfolding(crate::specs::Table::table, crate::specs::Table::operand_of, crate::specs::Table::operand_by))]
 fn operand_of(code: u8, n: u8) -> Command
     ensures { result ≡ operand_of code n }
 {
@@ -118,6 +121,7 @@ fn operand_of(code: u8, n: u8) -> Command
 }
 
 // The n of D3: an offset of at most 3F.
+#[tactic(auto, unfolding(crate::specs::Table::offset_of))]
 fn offset_of(n: u8) -> Command
     ensures { result ≡ offset_of n }
 {
@@ -129,6 +133,7 @@ fn offset_of(n: u8) -> Command
 }
 
 // The n of D4: 00, 10, 20 or 30.
+#[tactic(auto, unfolding(crate::specs::Table::frame_phases_of))]
 fn frame_phases_of(n: u8) -> Command
     ensures { result ≡ frame_phases_of n }
 {

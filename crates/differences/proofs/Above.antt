@@ -1,8 +1,8 @@
 -- For the code: bytes passed one by one, and whether one of them is above 1.
 -- Assumes nothing.
-use Prim.Native.Nat.{ℕ, ◌≤◌, ◌<◌, ◌+◌}
+use Prim.Native.Nat.{ℕ, ◌≤◌, ◌<◌, ◌+◌, max}
 use mathlib.Core.Path.{◌≡◌, refl, sym}
-use mathlib.Core.Bool.{Bool, true, false, ◌||◌, cond}
+use mathlib.Core.Bool.{Bool, true, false, ◌||◌}
 use mathlib.Core.List.{List, [], ◌∷◌, ◌++◌}
 use native.Mathlib.Numerals.{add-one}
 use native.Mathlib.Omega.{arith}
@@ -46,9 +46,15 @@ keep frame i m h e l = rw (passed frame i h, ← e) (by (ltb 1 m) refl)
     by false d = sym (le-ltb 1 (get_or frame i 0) (omega (arith, l, ltb-false 1 m d)))
 
 -- whichever is larger
-pub larger_above : (frame : List ℕ) (i m r : ℕ) → i < length frame → ltb 1 m ≡ any_above (take i frame) → r ≡ cond (ltb m (get_or frame i 0)) (get_or frame i 0) m → ltb 1 r ≡ any_above (take (i + 1) frame)
-larger_above frame i m r h e f = by (ltb m (get_or frame i 0)) refl f
+pub larger_above : (frame : List ℕ) (i m r : ℕ) → i < length frame → ltb 1 m ≡ any_above (take i frame) → r ≡ max m (get_or frame i 0) → ltb 1 r ≡ any_above (take (i + 1) frame)
+larger_above frame i m r h e f = by (ltb m (get_or frame i 0)) refl
   where
-    by : (t : Bool) → ltb m (get_or frame i 0) ≡ t → r ≡ cond t (get_or frame i 0) m → ltb 1 r ≡ any_above (take (i + 1) frame)
-    by true d g = rw g (raise frame i m h e (ltb-true m (get_or frame i 0) d))
-    by false d g = rw g (keep frame i m h e (ltb-false m (get_or frame i 0) d))
+    by : (t : Bool) → ltb m (get_or frame i 0) ≡ t → ltb 1 r ≡ any_above (take (i + 1) frame)
+    by true d =
+        let l = ltb-true m (get_or frame i 0) d in
+        let g : r ≡ get_or frame i 0 = omega (arith, l, f) in
+        rw g (raise frame i m h e l)
+    by false d =
+        let l = ltb-false m (get_or frame i 0) d in
+        let g : r ≡ m = omega (arith, l, f) in
+        rw g (keep frame i m h e l)

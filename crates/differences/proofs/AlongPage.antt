@@ -26,9 +26,3 @@ unfolding bytes_from
 bytes_end w page a b x h =
     let g : w - x ≡ 0 = omega arith in
     rw g
-
--- pages that are the same have none
-pub bytes_same : (page : ℕ) (a : List ℕ) (n x : ℕ) → bytes_from page a a n x ≡ []
-unfolding bytes_from
-bytes_same page a zero x = refl
-bytes_same page a (suc n) x = rw (eq-eqb (held page a x) (held page a x) refl) (bytes_same page a n (suc x))

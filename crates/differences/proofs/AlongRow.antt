@@ -125,11 +125,21 @@ runs_end w p a b x h =
     let g : w - x ≡ 0 = omega arith in
     rw g
 
--- rows that are the same have no run
-pub runs_same : (p : ℕ) (a : List ℕ) (n x : ℕ) → runs_from p a a n x ≡ []
-unfolding runs_from
-runs_same p a zero x = refl
-runs_same p a (suc n) x = none_here p a a n x refl ∙ runs_same p a n (suc x)
+-- or that it does not go on, as the code asks
+not_twice : (t : Bool) → not (not t) ≡ t
+not_twice true = refl
+not_twice false = refl
+
+pub way_left : (a b : List ℕ) (last x was is : ℕ) (r : Bool) → last + 1 ≡ x → get_or a last 0 ≡ was → get_or b last 0 ≡ is → r ≡ not (eqb (get_or a x 0) was && eqb (get_or b x 0) is) → alike a b last ≡ not r
+way_left a b last x was is r h e f g = way_told a b last was is (not r) e f (rw (g, not_twice, h))
+
+pub way_same : (a b x was is : ℕ) (r : Bool) → r ≡ not (eqb a was && eqb b is) → r ≡ false → (a ≡ was) × (b ≡ is)
+way_same a b x was is r g z = by (eqb a was) refl (eqb b is) refl (sym g ∙ z)
+  where
+    by : (t : Bool) → eqb a was ≡ t → (u : Bool) → eqb b is ≡ u → not (t && u) ≡ false → (a ≡ was) × (b ≡ is)
+    by true m true n k = (eqb-true a was m, eqb-true b is n)
+    by true m false n k = absurd (cc)
+    by false m u n k = absurd (cc)
 
 -- a run ends within its row
 pub run_within : (w : ℕ) (a b : List ℕ) (x last : ℕ) → x < w → last ≡ x + more a b (w - (x + 1)) x → last < w

@@ -27,7 +27,7 @@ rows_end w each f g n p h =
     rw e
 
 -- a row below row n ends within n rows
-rows_within : (n p w : ℕ) → p < n → p * w + w ≤ n * w
+pub rows_within : (n p w : ℕ) → p < n → p * w + w ≤ n * w
 rows_within n p w h =
     let e : n ≡ suc p + (n - suc p) = omega arith in
     rw e (omega arith)

@@ -7,6 +7,7 @@ use mathlib.Core.List.{List, ◌∷◌}
 use native.Mathlib.Nat.{not-suc-le-zero}
 use native.Mathlib.Numerals.{add-one}
 use native.Mathlib.Omega.{arith}
+use mir.Val.{bool_byte}
 use lib.Dec.{eqb}
 use lib.ListN.{length, length-append, get_or}
 use Rattle.picture.specs.Frame.{row_of}
@@ -14,6 +15,11 @@ use Rattle.differences.specs.ByRows.{by_rows}
 use Rattle.differences.specs.Runs.{alike, goes_on, begins, run_at, runs_from}
 use Rattle.differences.specs.Bytes.{held, byte_at, bytes_from}
 use Rattle.differences.proofs.ByRows.{rows_on}
+
+-- a test as a byte
+pub byte_of : (t : Bool) → bool_byte t ≡ cond t 1 0
+byte_of true = refl
+byte_of false = refl
 
 -- a list with one thing more where a test passes
 one_more : {A : Type 0} (t : Bool) (a : A) (rest : List A) → length (cond t (a ∷ rest) rest) ≡ cond t 1 0 + length rest

@@ -12,8 +12,9 @@ use lib.Seq.{slice, take_at, take-append-add, drop-append-add}
 use Rattle.constants.specs.Sizes.{width, pages, memory_size, frame_entry_size, memory_entry_size}
 use Rattle.picture.specs.Frame.{row_of}
 use Rattle.differences.specs.ByRows.{by_rows}
-use Rattle.differences.specs.Runs.{Run, begins, run_at, runs_from, runs_in}
-use Rattle.differences.specs.Bytes.{DifferingByte, held, byte_at, bytes_from, page_bytes, bytes_of}
+use Rattle.differences.specs.Laws.{runs_few, bytes_few}
+use Rattle.differences.specs.Runs.{Run, runs_from, runs_in}
+use Rattle.differences.specs.Bytes.{DifferingByte, bytes_from, page_bytes, bytes_of}
 use Rattle.differences.specs.Entries.{run_entry, byte_entry, entries}
 
 -- a part that lies past the first bytes
@@ -45,26 +46,6 @@ run_sized run = refl
 pub byte_sized : (byte : DifferingByte) → length (byte_entry byte) ≡ memory_entry_size
 unfolding byte_entry
 byte_sized byte = refl
-
--- no more runs begin at n places than n
-pub runs_few : (p : ℕ) (a b : List ℕ) (n x : ℕ) → length (runs_from p a b n x) ≤ n
-unfolding runs_from
-runs_few p a b zero x = omega arith
-runs_few p a b (suc n) x = by (begins a b x) (runs_few p a b n (suc x))
-  where
-    by : (t : Bool) → length (runs_from p a b n (suc x)) ≤ n → length (cond t (run_at p a b n x ∷ runs_from p a b n (suc x)) (runs_from p a b n (suc x))) ≤ suc n
-    by true h = omega (arith, h)
-    by false h = omega (arith, h)
-
--- nor do more bytes differ in n columns
-pub bytes_few : (page : ℕ) (a b : List ℕ) (n x : ℕ) → length (bytes_from page a b n x) ≤ n
-unfolding bytes_from
-bytes_few page a b zero x = omega arith
-bytes_few page a b (suc n) x = by (eqb (held page a x) (held page b x)) (bytes_few page a b n (suc x))
-  where
-    by : (t : Bool) → length (bytes_from page a b n (suc x)) ≤ n → length (cond t (bytes_from page a b n (suc x)) (byte_at page a b x ∷ bytes_from page a b n (suc x))) ≤ suc n
-    by true h = omega (arith, h)
-    by false h = omega (arith, h)
 
 -- where no row gives more than k things, n rows give no more than n k
 pub rows_few : {A : Type 0} (w k : ℕ) (each : ℕ → List ℕ → List ℕ → List A) → ((p : ℕ) (a b : List ℕ) → length (each p a b) ≤ k) → (f g : List ℕ) (n p : ℕ) → length (by_rows w each f g n p) ≤ n * k

@@ -48,3 +48,7 @@ pub mod ByRows
 pub mod Counting
 -- For the code: a page walked column by column.
 pub mod AlongPage
+-- For the code: rows as the iterator gives them, and chunks of rows.
+pub mod Along
+-- For the code: its entries are those stated.
+pub mod Coded

@@ -11,7 +11,7 @@ use Rattle.constants.specs.Numbers.{taken, list_too_small}
 use Rattle.differences.specs.Entries.{entries}
 use Rattle.differences.specs.Compare.{outcome, listed, number_of, count_of}
 use Rattle.differences.specs.Given.{Left}
-use Rattle.differences.specs.declared.compared.Compared.{Compared}
+use Rattle.differences.specs.Compared.{Compared}
 use Rattle.differences.proofs.Entries.{entries_length, entry_at}
 
 -- Entries that are all of one size, and a list buffer.

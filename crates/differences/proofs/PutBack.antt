@@ -12,7 +12,7 @@ use Rattle.picture.specs.Ignored.{SameBits}
 use Rattle.differences.specs.Runs.{runs_of}
 use Rattle.differences.specs.Entries.{entries}
 use Rattle.differences.specs.Compare.{outcome, listed, any_above, compare_frames, compare_memories}
-use Rattle.differences.specs.declared.compared.Compared.{Compared}
+use Rattle.differences.specs.Compared.{Compared}
 use Rattle.differences.specs.Given.{Above}
 use Rattle.differences.specs.PutBack.{PutBack}
 use Rattle.differences.proofs.FrameRule.{the_only_runs}

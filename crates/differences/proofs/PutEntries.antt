@@ -1,16 +1,17 @@
 -- Entries put one after the other into a list buffer that has room for them.
 -- Assumes nothing.
-use Prim.Native.Nat.{ℕ, suc, ◌+◌, ◌*◌, ◌≤◌, ◌<◌}
+use Prim.Native.Nat.{ℕ, suc, ◌+◌, ◌-◌, ◌*◌, ◌≤◌, ◌<◌}
 use mathlib.Core.Path.{◌≡◌, refl, sym, ◌∙◌, ap}
 use mathlib.Core.List.{List, [], ◌∷◌, ◌++◌, append_assoc}
 use native.Mathlib.Nat.{add-zero, add-suc, suc-add, zero-add, zero-mul}
 use native.Mathlib.Omega.{arith}
 use lib.ListN.{length, length-append, drop, set}
-use lib.Seq.{sets, length-sets, sets-eq}
+use lib.Seq.{sets, length-sets, sets-eq, drop-drop}
+use borrow.Rule.Slice.PartMut.{put_mid}
 use Rattle.differences.specs.Entries.{entries}
 use Rattle.differences.specs.Put.{Room, Put}
 use Rattle.differences.specs.Compare.{outcome, listed}
-use Rattle.differences.specs.declared.compared.Compared.{Compared}
+use Rattle.differences.specs.Compared.{Compared}
 use Rattle.differences.proofs.Entries.{entries_length}
 use Rattle.differences.proofs.Listed.{listed_all}
 
@@ -87,18 +88,9 @@ module _ {A : Type 0} (size : ℕ) (entry : A → List ℕ) (sized : (a : A) →
   pub put_listed : {list : List ℕ} {found : List A} {next : ℕ} {later : List ℕ} → Put size entry list 0 found next later → length found * size ≤ length list → outcome (Compared.Listed next) later ≡ listed entry found list
   put_listed {list} {found} f h = rw (f.counted, zero-add, at_start f h) (sym (listed_all size entry sized found list h))
 
--- bytes stored one by one are the entry of them
-pub five : (list : List ℕ) (s a b c d e : ℕ) → set (set (set (set (set list s a) (s + 1) b) (s + 2) c) (s + 3) d) (s + 4) e ≡ sets list s (a ∷ b ∷ c ∷ d ∷ e ∷ [])
-five list s a b c d e =
-    let e4 : suc (suc (suc (suc s))) ≡ s + 4 = omega arith in
-    let e3 : suc (suc (suc s)) ≡ s + 3 = omega arith in
-    let e2 : suc (suc s) ≡ s + 2 = omega arith in
-    let e1 : suc s ≡ s + 1 = omega arith in
-    rw (e4, e3, e2, e1)
-
-pub four : (list : List ℕ) (s a b c d : ℕ) → set (set (set (set list s a) (s + 1) b) (s + 2) c) (s + 3) d ≡ sets list s (a ∷ b ∷ c ∷ d ∷ [])
-four list s a b c d =
-    let e3 : suc (suc (suc s)) ≡ s + 3 = omega arith in
-    let e2 : suc (suc s) ≡ s + 2 = omega arith in
-    let e1 : suc s ≡ s + 1 = omega arith in
-    rw (e3, e2, e1)
+-- bytes stored at a place of the list buffer, in the place of as many
+pub stored : (list later bytes : List ℕ) (a n : ℕ) → later ≡ bytes → length bytes ≡ n → a + n ≤ length list → put_mid a (a + n - a) list later ≡ sets list a bytes
+stored list later bytes a n e l h =
+    let k : a + n - a ≡ n = omega arith in
+    let f : a + length bytes ≤ length list = rw l h in
+    rw (k, e, drop-drop n a list, sets-eq bytes list a f, l, append_assoc)

@@ -13,7 +13,7 @@ use lib.ListN.{length}
 use Rattle.constants.specs.Numbers.{taken, too_short, list_too_small, frame_byte_above}
 use Rattle.differences.specs.Compare.{Outcome, outcome, listed, number_of}
 use Rattle.differences.specs.Given.{Long, Left}
-use Rattle.differences.specs.declared.compared.Compared.{Compared}
+use Rattle.differences.specs.Compared.{Compared}
 use Rattle.differences.proofs.Listed.{filled, listed_not, listed_all, left_refused, left_listed}
 
 -- Entries of one size for what is found, and the list buffer; two things that must have so many bytes, and `Bad`, what is refused of their bytes.

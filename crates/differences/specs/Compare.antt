@@ -5,7 +5,7 @@ use Rattle.constants.specs.Numbers.{taken, too_short, list_too_small, frame_byte
 use Rattle.differences.specs.Runs.{runs_of}
 use Rattle.differences.specs.Bytes.{bytes_of}
 use Rattle.differences.specs.Entries.{run_entry, byte_entry, entries}
-use Rattle.differences.specs.declared.compared.Compared.{Compared}
+use Rattle.differences.specs.Compared.{Compared}
 
 -- What a call answers, the count of entries or a number, and what the list buffer holds then.
 pub record Outcome : Type 0 where

@@ -6,8 +6,14 @@ pub mod Runs
 pub mod Bytes
 -- an entry as bytes
 pub mod Entries
+-- what a comparison answers
+pub mod Compared
 -- the whole outcome of each call
 pub mod Compare
+-- the code's own entries
+pub mod Found
+-- their laws
+pub mod Laws
 -- what the code's own functions state
 pub mod Put
 -- lists in order, and one of a list

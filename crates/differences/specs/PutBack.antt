@@ -7,7 +7,7 @@ use Rattle.differences.specs.Runs.{Run, runs_of}
 use Rattle.differences.specs.Bytes.{DifferingByte, bytes_of}
 use Rattle.differences.specs.Compare.{outcome, compare_frames, compare_memories}
 use Rattle.differences.specs.Given.{Above}
-use Rattle.differences.specs.declared.compared.Compared.{Compared}
+use Rattle.differences.specs.Compared.{Compared}
 
 -- A frame of rows w wide with each place of a run as it is in the second frame.
 unfoldable pub put_run : ℕ → List ℕ → Run → List ℕ

@@ -3,7 +3,7 @@ use Rattle.std.specs.Prelude.{ℕ, ◌≡◌, List, [], ◌∷◌, ◌++◌, rep
 use Rattle.constants.specs.Sizes.{memory_size, frame_size}
 use Rattle.differences.specs.Runs.{Run, runs_in}
 use Rattle.differences.specs.Compare.{outcome, compare_frames, compare_memories}
-use Rattle.differences.specs.declared.compared.Compared.{Compared}
+use Rattle.differences.specs.Compared.{Compared}
 
 -- A run by its five numbers.
 abbrev pub run : ℕ → ℕ → ℕ → ℕ → ℕ → Run

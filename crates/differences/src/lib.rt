@@ -1,10 +1,8 @@
 // Order 1 of document 02: where two frames, or two memories, differ, as entries in a lent list buffer.
 #![tactic(auto)]
 
-pub mod compared;
-mod count;
+mod byte;
 pub mod frames;
+mod list;
 pub mod memories;
-mod page;
-mod row;
-mod same;
+mod run;

@@ -2,14 +2,17 @@
 -- Assumes nothing.
 use Prim.Native.Nat.{ℕ, zero, suc, ◌+◌, ◌-◌, ◌≤◌, ◌<◌}
 use mathlib.Core.Path.{◌≡◌, refl, sym, ◌∙◌}
-use mathlib.Core.Bool.{true, false, ◌||◌}
+use mathlib.Core.Bool.{◌||◌}
 use mathlib.Core.List.{List, [], ◌∷◌, ◌++◌}
 use native.Mathlib.Nat.{add-zero, add-suc, suc-add}
 use native.Mathlib.Numerals.{add-one}
 use native.Mathlib.Omega.{arith}
+use borrow.Author.Tests.{ne_eqb}
 use lib.Bits.{bit_or, or_zero_l, or_zero_r, or_add_and, and_le_l}
-use lib.ListN.{length, get_or, take, drop, length-drop, drop_of_length-le}
-use lib.Seq.{drop-drop, take-suc, take_all}
+use lib.ListN.{length, get_or, drop, length-drop, drop_of_length-le}
+use lib.Seq.{drop-drop}
+use Rattle.std.proofs.Common.{not, nat_eq, fold}
+use Rattle.std.proofs.Math.Bool.{or-false, or_assoc}
 use Rattle.framelisting.proofs.PutPieces.{from}
 use Rattle.framelisting.specs.Runs.{lit, any_lit, leading, runs_from}
 use Rattle.framelisting.specs.Text.{run_text, runs_text}
@@ -90,13 +93,6 @@ run_within row x end h e = omega (arith, leading_length (drop (x + 1) row), leng
 pub run_text_on : (row : List ℕ) (x end : ℕ) → x < length row → (get_or row x 0 ≡ 0 → ⊥) → end ≡ x + 1 + leading (drop (x + 1) row) → runs_text (runs_from x 0 (drop x row)) ≡ run_text (record { first = x; last = end - 1 }) ++ runs_text (runs_from (end + 1) 0 (drop (end + 1) row))
 run_text_on row x end h n e = run_text_lem row x end h n e ∙ rw (after_gap row x end e)
 
--- A place is lit in one part of a row or in the other.
-any_parts : (a b : List ℕ) → any_lit (a ++ b) ≡ any_lit a || any_lit b
-unfolding any_lit lit
-any_parts [] b = refl
-any_parts (zero ∷ a) b = any_parts a b
-any_parts (suc n ∷ a) b = refl
-
 -- bytes seen together are lit where one of them is
 lit_both : (a b : ℕ) → lit (bit_or a b) ≡ lit a || lit b
 unfolding lit
@@ -106,21 +102,18 @@ lit_both (suc a) (suc b) =
     let some : bit_or (suc a) (suc b) ≡ 0 → ⊥ = λ e. omega (arith, e, or_add_and (suc a) (suc b), and_le_l (suc a) (suc b)) in
     rw (above (bit_or (suc a) (suc b)) some)
 
-lit_alone : (b : ℕ) → any_lit (b ∷ []) ≡ lit b
-unfolding any_lit lit
-lit_alone zero = refl
-lit_alone (suc b) = refl
+-- what is seen of a row together with what was seen before it
+seen_after : (seen : ℕ) (row : List ℕ) → lit (fold bit_or seen row) ≡ lit seen || any_lit row
+unfolding any_lit
+seen_after seen [] = sym (or-false (lit seen))
+seen_after seen (b ∷ row) = seen_after (bit_or seen b) row ∙ rw (lit_both seen b, or_assoc (lit seen) (lit b) (any_lit row))
 
--- one place more is seen
-pub seen_on : (row : List ℕ) (x seen : ℕ) → x < length row → lit seen ≡ any_lit (take x row) → lit (bit_or seen (get_or row x 0)) ≡ any_lit (take (x + 1) row)
-seen_on row x seen h e =
-    lit_both seen (get_or row x 0) ∙ rw (e, add-one x, take-suc row x 0 h, any_parts (take x row) (get_or row x 0 ∷ []), lit_alone (get_or row x 0))
-
--- all places are seen
-pub seen_none : (row : List ℕ) (x seen : ℕ) → length row ≤ x → lit seen ≡ any_lit (take x row) → seen ≡ 0 → false ≡ any_lit row
+lit_above : (b : ℕ) → not (nat_eq b 0) ≡ lit b
 unfolding lit
-seen_none row x seen h e z = rw (z, take_all x row h) at e
+lit_above zero = refl
+lit_above (suc b) = rw (ne_eqb (suc b) 0 (λ e. omega arith))
 
-pub seen_some : (row : List ℕ) (x seen : ℕ) → length row ≤ x → lit seen ≡ any_lit (take x row) → (seen ≡ 0 → ⊥) → true ≡ any_lit row
+-- a row has a lit place where its bytes together are not 0
+pub seen_together : (row : List ℕ) → not (nat_eq (fold bit_or 0 row) 0) ≡ any_lit row
 unfolding lit
-seen_some row x seen h e n = rw (above seen n, take_all x row h) at e
+seen_together row = lit_above (fold bit_or 0 row) ∙ seen_after 0 row

@@ -15,7 +15,7 @@ use Rattle.framelisting.specs.Text.{listing_across, listing_of, wide_listing_of}
 use Rattle.framelisting.specs.Listing.{outcome, written, listed_across, listed, listed_wide}
 use Rattle.framelisting.specs.LongestListing.{AtMost}
 use Rattle.framelisting.specs.LentBuffers.{LentBuffers, OfLentBuffers}
-use Rattle.framelisting.specs.declared.Listed.{Listed}
+use Rattle.framelisting.specs.Listing.{Listed}
 use Rattle.framelisting.proofs.LongestListing.{longest_listing_lem}
 
 module _ (w number offset : ℕ) (frame text : List ℕ) where

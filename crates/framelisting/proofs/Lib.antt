@@ -1,5 +1,7 @@
 -- For the code: pieces of text put one after the other.
 pub mod PutPieces
+-- For the code: the rows of a frame one after the other.
+pub mod RowsOfFrame
 -- For the code: a row walked from left to right.
 pub mod AlongRow
 -- Numbers in decimal, step by step and read back.

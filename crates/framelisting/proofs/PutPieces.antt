@@ -9,6 +9,8 @@ use native.Mathlib.Omega.{arith}
 use lib.ListN.{length, length-append, get_or, drop, set}
 use lib.Seq.{drop-cons, sets, length-sets}
 use Rattle.framelisting.specs.Put.{Countable, Put}
+use Rattle.framelisting.specs.Puts.{Puts}
+use Rattle.framelisting.specs.declared.text.Text.{Text}
 
 -- a list from a place on is what stands there and the list after it
 pub from : (l : List ℕ) (i : ℕ) → i < length l → drop i l ≡ get_or l i 0 ∷ drop (i + 1) l
@@ -42,30 +44,41 @@ room at p q h = omega (arith, h, length-append p q)
 pub room_after : {text : List ℕ} {at : ℕ} {p : List ℕ} {n : ℕ} {t : List ℕ} → Put text at p n t → (q : List ℕ) → Countable at (p ++ q) → Countable n q
 room_after {text} {at} {p} f q h = omega (arith, h, length-append p q, f.counted)
 
--- What a loop keeps: putting the rest from here is putting the whole from where it began.
-pub record Rest (text : List ℕ) (at : ℕ) (whole : List ℕ) (later : List ℕ) (next : ℕ) (rest : List ℕ) : Type 0 where
-  pub counted : at + length whole ≡ next + length rest
-  pub stored : sets text at whole ≡ sets later next rest
+-- The same of a buffer with its place.
+pub as_put : {text later : Text} {p : List ℕ} → Puts text p later → Put text.buffer.now text.at p later.at later.buffer.now
+as_put f = record { counted = f.counted; stored = f.stored }
 
-pub begin : (text : List ℕ) (at : ℕ) (whole : List ℕ) → Rest text at whole text at whole
-begin text at whole = record { counted = refl; stored = refl }
+pub nothing : (text : Text) → Puts text [] text
+nothing text = record { counted = sym (add-zero text.at); stored = refl; same = refl }
 
-pub turn : {text : List ℕ} {at : ℕ} {whole : List ℕ} {t : List ℕ} {n : ℕ} {p q : List ℕ} {m : ℕ} {u : List ℕ} → Rest text at whole t n (p ++ q) → Put t n p m u → Rest text at whole u m q
-turn {t = t} {n = n} {p = p} {q = q} r f = record {
-  counted = omega (arith, r.counted, f.counted, length-append p q);
-  stored = r.stored ∙ sets_append t n p q ∙ rw (f.counted, f.stored);
-}
-
-pub done : {text : List ℕ} {at : ℕ} {whole : List ℕ} {t : List ℕ} {n : ℕ} → Rest text at whole t n [] → Put text at whole n t
-done {n = n} r = record { counted = sym (r.counted ∙ add-zero n); stored = sym r.stored }
-
--- the rest is counted where the whole is
-pub room_left : {text : List ℕ} {at : ℕ} {whole : List ℕ} {t : List ℕ} {n : ℕ} {q : List ℕ} → Rest text at whole t n q → Countable at whole → Countable n q
-room_left r h = omega (arith, r.counted, h)
+pub joined : {text middle later : Text} {p q : List ℕ} → Puts text p middle → Puts middle q later → Puts text (p ++ q) later
+joined f g =
+    let both = after (as_put f) (as_put g) in
+    record { counted = both.counted; stored = both.stored; same = g.same ∙ f.same }
 
 -- no buffer changes its length
-pub rest_length : {text : List ℕ} {at : ℕ} {whole : List ℕ} {t : List ℕ} {n : ℕ} {q : List ℕ} → Rest text at whole t n q → length t ≡ length text
-rest_length {text} {at} {whole} {t} {n} {q} r = sym (length-sets t n q) ∙ sym (ap length r.stored) ∙ length-sets text at whole
+pub puts_length : {text later : Text} {p : List ℕ} → Puts text p later → length later.buffer.now ≡ length text.buffer.now
+puts_length {text} {later} {p} f = ap length f.stored ∙ length-sets text.buffer.now text.at p
 
-pub put_length : {text : List ℕ} {at : ℕ} {p : List ℕ} {n : ℕ} {t : List ℕ} → Put text at p n t → length t ≡ length text
-put_length {text} {at} {p} f = ap length f.stored ∙ length-sets text at p
+-- What a loop keeps: putting the rest from here is putting the whole from where it began.
+pub record Rest (text : Text) (whole : List ℕ) (later : Text) (rest : List ℕ) : Type 0 where
+  pub counted : text.at + length whole ≡ later.at + length rest
+  pub stored : sets text.buffer.now text.at whole ≡ sets later.buffer.now later.at rest
+  pub same : later.buffer.ghost_name ≡ text.buffer.ghost_name
+
+pub begin : (text : Text) (whole : List ℕ) → Rest text whole text whole
+begin text whole = record { counted = refl; stored = refl; same = refl }
+
+pub turn : {text now later : Text} {whole p q : List ℕ} → Rest text whole now (p ++ q) → Puts now p later → Rest text whole later q
+turn {now = now} {p = p} {q = q} r f = record {
+  counted = omega (arith, r.counted, f.counted, length-append p q);
+  stored = r.stored ∙ sets_append now.buffer.now now.at p q ∙ rw (f.counted, f.stored);
+  same = f.same ∙ r.same;
+}
+
+pub done : {text later : Text} {whole : List ℕ} → Rest text whole later [] → Puts text whole later
+done {later = later} r = record { counted = sym (r.counted ∙ add-zero later.at); stored = sym r.stored; same = r.same }
+
+-- the rest is counted where the whole is
+pub room_left : {text now : Text} {whole q : List ℕ} → Rest text whole now q → Countable text.at whole → Countable now.at q
+room_left r h = omega (arith, r.counted, h)

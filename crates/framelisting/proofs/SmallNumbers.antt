@@ -2,15 +2,16 @@
 -- Assumes nothing.
 use Prim.Native.Nat.{ℕ, ◌+◌, ◌/◌, ◌%◌, ◌≤◌, ◌<◌}
 use mathlib.Core.Path.{◌≡◌, ◌∙◌}
-use mathlib.Core.List.{List, [], ◌∷◌}
+use mathlib.Core.List.{[], ◌∷◌}
 use native.Mathlib.Decide.{dec_lt}
 use native.Mathlib.Nat.{mod-eq_of_lt}
 use native.Mathlib.Omega.{arith}
 use lib.ListN.{length}
 use Rattle.framelisting.specs.Decimal.{decimal}
-use Rattle.framelisting.specs.Put.{Put}
+use Rattle.framelisting.specs.Puts.{Puts}
+use Rattle.framelisting.specs.declared.text.Text.{Text}
 use Rattle.framelisting.proofs.PlainDecimal.{one_digit, more_digits}
-use Rattle.framelisting.proofs.PutPieces.{after}
+use Rattle.framelisting.proofs.PutPieces.{joined}
 
 -- one digit, two and three
 one : (n : ℕ) → n < 10 → decimal n ≡ (48 + n) ∷ []
@@ -34,12 +35,12 @@ small_length n h = either (dec_lt n 10) (dec_lt n 100)
     either (no k) (no m) = rw (three n (omega arith) h) (omega arith)
 
 -- the digits put one after the other
-module _ (n : ℕ) {text : List ℕ} {at : ℕ} where
-  pub put_one : n < 10 → {d r : ℕ} {later : List ℕ} → d ≡ 48 + n → Put text at (d ∷ []) r later → Put text at (decimal n) r later
+module _ (n : ℕ) {text : Text} where
+  pub put_one : n < 10 → {d : ℕ} {later : Text} → d ≡ 48 + n → Puts text (d ∷ []) later → Puts text (decimal n) later
   put_one h e put = rw (one n h, ← e) put
 
-  pub put_two : 10 ≤ n → n < 100 → {d e m r : ℕ} {t later : List ℕ} → d ≡ 48 + n / 10 → e ≡ 48 + n % 10 → Put text at (d ∷ []) m t → Put t m (e ∷ []) r later → Put text at (decimal n) r later
-  put_two l h p q first last = rw (two n l h, ← p, ← q) (after first last)
+  pub put_two : 10 ≤ n → n < 100 → {d e : ℕ} {t later : Text} → d ≡ 48 + n / 10 → e ≡ 48 + n % 10 → Puts text (d ∷ []) t → Puts t (e ∷ []) later → Puts text (decimal n) later
+  put_two l h p q first last = rw (two n l h, ← p, ← q) (joined first last)
 
-  pub put_three : 100 ≤ n → n < 1000 → {d e f m k r : ℕ} {t u later : List ℕ} → d ≡ 48 + n / 100 → e ≡ 48 + n / 10 % 10 → f ≡ 48 + n % 10 → Put text at (d ∷ []) m t → Put t m (e ∷ []) k u → Put u k (f ∷ []) r later → Put text at (decimal n) r later
-  put_three l h p q s first second last = rw (three n l h, ← p, ← q, ← s) (after (after first second) last)
+  pub put_three : 100 ≤ n → n < 1000 → {d e f : ℕ} {t u later : Text} → d ≡ 48 + n / 100 → e ≡ 48 + n / 10 % 10 → f ≡ 48 + n % 10 → Puts text (d ∷ []) t → Puts t (e ∷ []) u → Puts u (f ∷ []) later → Puts text (decimal n) later
+  put_three l h p q s first second last = rw (three n l h, ← p, ← q, ← s) (joined (joined first second) last)

@@ -4,7 +4,7 @@ use Rattle.constants.specs.Numbers.{too_short}
 use Rattle.constants.specs.Sizes.{width, wide_width, frame_rows, longest_listing, longest_wide_listing}
 use Rattle.framelisting.specs.Text.{listing_across}
 use Rattle.framelisting.specs.Listing.{outcome, written, listed_across}
-use Rattle.framelisting.specs.declared.Listed.{Listed}
+use Rattle.framelisting.specs.Listing.{Listed}
 
 -- A frame w wide, whose longest listing has so many bytes.
 pub record LentBuffers (w longest number offset : ℕ) (frame text : List ℕ) : Type 0 where

@@ -23,3 +23,5 @@ pub mod LentBuffers
 pub mod Samples
 -- one result for each call's statement
 pub mod Settled
+-- how the code puts a piece after what is there
+pub mod Puts

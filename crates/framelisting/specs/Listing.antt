@@ -1,9 +1,20 @@
 -- The call on a lent frame and buffer: the whole outcome as one function of what is lent.
-use Rattle.std.specs.Prelude.{ℕ, ◌*◌, cond, ◌||◌, List, ◌++◌, ltb, length, drop}
+use Rattle.std.specs.Prelude.{ℕ, ◌*◌, cond, ◌||◌, List, ◌++◌, Result, Ok, Err, ltb, length, drop}
 use Rattle.constants.specs.Sizes.{width, wide_width, frame_rows}
 use Rattle.constants.specs.Numbers.{too_short}
+use Rattle.constants.specs.Refusals.{number_of_refusal}
+use Rattle.constants.specs.declared.refusal.Refusal.{Refusal}
 use Rattle.framelisting.specs.Text.{listing_across}
-use Rattle.framelisting.specs.declared.Listed.{Listed}
+
+-- What a listing answers: the text's length, or a refusal's number.
+pub data Listed : Type 0 where
+  Written : ℕ → Listed
+  Refused : ℕ → Listed
+
+-- The same, of what the code's call answers.
+abbrev pub listed_of : Result ℕ Refusal → Listed
+listed_of (Ok size) = Listed.Written size
+listed_of (Err refusal) = Listed.Refused (number_of_refusal refusal)
 
 -- What the call answers, and what the buffer holds then.
 pub record Outcome : Type 0 where

@@ -1,64 +1,74 @@
 // The whole listing.
 ghost use Rattle.std.specs.Prelude.{◌*◌, ◌≤◌, length};
 ghost use Rattle.framelisting.specs.Put.{Countable, Put};
+ghost use Rattle.framelisting.specs.Puts.{Puts};
 ghost use Rattle.constants.specs.Sizes.{frame_rows};
 ghost use Rattle.framelisting.specs.Text.{header, lines, refused_text, listing_across};
 
-use crate::row::put_line;
-use crate::text::{put, put_bytes, put_number};
+use crate::text::Text;
 use constants::refusal::TAKEN;
 use constants::sizes::FRAME_ROWS;
 
-// Puts the listing at the start of the buffer, for a frame that is so wide.
-pub fn put_listing(text: &mut [u8], number: u8, offset: usize, width: usize, frame: &[u8]) -> usize
+// Puts the listing at the start of the buffer, for a frame that is so wide, and answers its length.
+#[tactic(auto, using(crate::proofs::LengthsOfText::listing_length))]
+pub fn put_listing(
+    buffer: &mut [u8],
+    number: u8,
+    offset: usize,
+    width: usize,
+    frame: &[u8],
+) -> usize
     requires width_in_bounds { frame_rows * width ≤ length frame.now }
     requires countable { Countable 0 (listing_across width number offset frame.now) }
-    ensures { Put text.old 0 (listing_across width number offset frame.now) result text.new }
+    ensures { Put buffer.old 0 (listing_across width number offset frame.now) result buffer.new }
 {
-    let next = put_refused(text, 0, number, offset);
-    let next = put_header(text, next, width);
-    let next = put_lines(text, next, width, frame);
-    put_bytes(text, next, b"end\n")
+    let mut text = Text { buffer, at: 0 };
+    text.put_refused(number, offset);
+    text.put_header(width);
+    text.put_lines(width, frame);
+    text.put_bytes(b"end\n");
+    text.at
 }
 
-// Puts what a stopped run first prints; a run that was taken prints nothing.
-fn put_refused(text: &mut [u8], at: usize, number: u8, offset: usize) -> usize
-    requires { Countable at (refused_text number offset) }
-    ensures { Put text.old at (refused_text number offset) result text.new }
-{
-    if number == TAKEN {
-        return at;
+impl<'a> Text<'a> {
+    // Puts what a stopped run first prints; a run that was taken prints nothing.
+    #[tactic(auto, using(crate::proofs::LengthsOfText::refused_length))]
+    fn put_refused(&mut self, number: u8, offset: usize)
+        requires { Countable self.old.at (refused_text number offset) }
+        ensures { Puts self.old (refused_text number offset) self.new }
+    {
+        if number == TAKEN {
+            return;
+        }
+        self.put_bytes(b"refused ");
+        self.put_number(usize::from(number));
+        self.put_bytes(b" at ");
+        self.put_number(offset);
+        self.put(b'\n');
     }
-    let next = put_bytes(text, at, b"refused ");
-    let next = put_number(text, next, number as usize);
-    let next = put_bytes(text, next, b" at ");
-    let next = put_number(text, next, offset);
-    put(text, next, b'\n')
-}
 
-// Puts the line that says how wide the frame is, and that it has 65 rows.
-fn put_header(text: &mut [u8], at: usize, width: usize) -> usize
-    requires { Countable at (header width frame_rows) }
-    ensures { Put text.old at (header width frame_rows) result text.new }
-{
-    let next = put_bytes(text, at, b"frame ");
-    let next = put_number(text, next, width);
-    put_bytes(text, next, b" 65\n")
-}
-
-// Puts the lines of the 65 rows.
-fn put_lines(text: &mut [u8], at: usize, width: usize, frame: &[u8]) -> usize
-    requires width_in_bounds { frame_rows * width ≤ length frame.now }
-    requires countable { Countable at (lines width frame.now frame_rows 0) }
-    ensures { Put text.old at (lines width frame.now frame_rows 0) result text.new }
-{
-    let mut next = at;
-    let mut p = 0;
-    while p < FRAME_ROWS {
-        let start = p * width;
-        let end = start + width;
-        next = put_line(text, next, p, &frame[start..end]);
-        p += 1;
+    // Puts the line that says how wide the frame is, and that it has 65 rows.
+    #[tactic(auto, using(crate::proofs::LengthsOfText::header_length))]
+    fn put_header(&mut self, width: usize)
+        requires { Countable self.old.at (header width frame_rows) }
+        ensures { Puts self.old (header width frame_rows) self.new }
+    {
+        self.put_bytes(b"frame ");
+        self.put_number(width);
+        self.put_bytes(b" 65\n");
     }
-    next
+
+    // Puts the lines of the 65 rows.
+    #[tactic(auto, using(crate::proofs::RowsOfFrame::within))]
+    fn put_lines(&mut self, width: usize, frame: &[u8])
+        requires width_in_bounds { frame_rows * width ≤ length frame.now }
+        requires countable { Countable self.old.at (lines width frame.now frame_rows 0) }
+        ensures { Puts self.old (lines width frame.now frame_rows 0) self.new }
+    {
+        for p in 0..FRAME_ROWS {
+            let start = p * width;
+            let end = start + width;
+            self.put_line(p, &frame[start..end]);
+        }
+    }
 }

@@ -1,8 +1,7 @@
 -- The listing as C sees it: a number, the text's length and the text.
 use Rattle.std.specs.Prelude.{ℕ, List}
 use Rattle.constants.specs.Numbers.{taken}
-use Rattle.framelisting.specs.Listing.{Outcome}
-use Rattle.framelisting.specs.declared.Listed.{Listed}
+use Rattle.framelisting.specs.Listing.{Listed, Outcome}
 
 pub record ListReply : Type 0 where
   pub number : ℕ

@@ -11,7 +11,7 @@ use lib.Dec.{eqb}
 use lib.ListN.{length}
 use Rattle.std.specs.Prelude.{Err}
 use Rattle.constants.specs.Sizes.{memory_size}
-use Rattle.constants.specs.Numbers.{too_short, no_selection}
+use Rattle.constants.specs.Numbers.{no_selection}
 use Rattle.constants.specs.Refusals.{number_of_refusal}
 use Rattle.constants.specs.declared.refusal.Refusal.{Refusal}
 use Rattle.constants.proofs.Refusals.{refusal_not_taken}
@@ -40,20 +40,20 @@ module _ (side : ℕ) (left right : List ℕ) (page : ℕ) where
 
   pub no_side : (refusal : Refusal) → refuses (number_of_refusal refusal) ≡ side_of side → memory_size ≤ length left → memory_size ≤ length right → part_reply page (Err refusal) ≡ page_reply_of side left right page
   unfolding side_of page_reply_of
-  no_side refusal e l r = refusal_reply page refusal ∙ rw (le-ltb _ _ l, le-ltb _ _ r) (by (eqb side 1) (eqb side 2) e)
+  no_side refusal e l r = refusal_reply page refusal ∙ rw (le-ltb _ _ l, le-ltb _ _ r) (by (eqb side 1) (eqb side 2) _ _ e)
     where
-      by : (t u : Bool) {one two : PageReply} → refuses (number_of_refusal refusal) ≡ cond t (gives Side.Left) (cond u (gives Side.Right) (refuses no_selection))
+      by : (t u : Bool) (one two : PageReply) → refuses (number_of_refusal refusal) ≡ cond t (gives Side.Left) (cond u (gives Side.Right) (refuses no_selection))
           → page_reply (number_of_refusal refusal) 0 0 ≡ cond t one (cond u two (page_reply no_selection 0 0))
-      by true u e = absurd (given_not (sym e))
-      by false true e = absurd (given_not (sym e))
-      by false false e = ap (λ (r : Result Side). page_reply (on_result r (λ n. n) (λ s. no_selection)) 0 0) e
+      by true u one two e = absurd (given_not (sym e))
+      by false true one two e = absurd (given_not (sym e))
+      by false false one two e = ap (λ (r : Result Side). page_reply (on_result r (λ n. n) (λ s. no_selection)) 0 0) e
 
   pub its_page : (named : Side) → gives named ≡ side_of side → of_handed page (page_of named left right page) ≡ page_reply_of side left right page
   unfolding side_of page_reply_of
-  its_page named e = by (eqb side 1) (eqb side 2) e
+  its_page named e = by (eqb side 1) (eqb side 2) _ e
     where
-      by : (t u : Bool) {rest : PageReply} → gives named ≡ cond t (gives Side.Left) (cond u (gives Side.Right) (refuses no_selection))
+      by : (t u : Bool) (rest : PageReply) → gives named ≡ cond t (gives Side.Left) (cond u (gives Side.Right) (refuses no_selection))
           → of_handed page (page_of named left right page) ≡ cond t (of_handed page (page_of Side.Left left right page)) (cond u (of_handed page (page_of Side.Right left right page)) rest)
-      by true u e = ap (λ (r : Result Side). of_handed page (page_of (on_result r (λ n. named) (λ s. s)) left right page)) e
-      by false true e = ap (λ (r : Result Side). of_handed page (page_of (on_result r (λ n. named) (λ s. s)) left right page)) e
-      by false false e = absurd (given_not e)
+      by true u rest e = ap (λ (r : Result Side). of_handed page (page_of (on_result r (λ n. named) (λ s. s)) left right page)) e
+      by false true rest e = ap (λ (r : Result Side). of_handed page (page_of (on_result r (λ n. named) (λ s. s)) left right page)) e
+      by false false rest e = absurd (given_not e)

@@ -5,7 +5,7 @@ mod pack;
 
 use constants::sizes::LONGEST_LISTING;
 use pack::{Entry, HEADER_SIZE, entry_at, hung_by};
-use standardinput::{Input, read_input};
+use standardinput::read_input;
 use std::io;
 
 // Bytes of the longest pack.
@@ -13,8 +13,7 @@ const LONGEST_PACK: usize = 131072;
 
 fn main(rt: HostRuntime) {
     let mut pack = [0u8; LONGEST_PACK + 1];
-    let read = read_input(rt.stdin(), &mut pack);
-    let Input::Read(count) = read else {
+    let Ok(count) = read_input(rt.stdin(), &mut pack) else {
         let _ = eprintln!(rt; "listpack: standard input cannot be read");
         return;
     };
@@ -33,13 +32,14 @@ fn list_pack(rt: &impl Print, pack: &[u8]) -> io::Result<()> {
 }
 
 // Lists the entries of a pack in turn. The last line says how many there are, or where the pack is cut.
+#[tactic(auto, using(crate::proofs::Entries::within))]
 fn list_entries(rt: &impl Print, pack: &[u8]) -> io::Result<()> {
     let mut at = 0;
-    let mut count = 0;
+    let mut count = 0usize;
     loop {
         match entry_at(pack, at) {
-            Entry::Nothing => return print_count(rt, count),
-            Entry::Cut => return print_cut(rt, at),
+            Entry::Nothing => return println!(rt; "{count} traces"),
+            Entry::Cut => return println!(rt; "pack cut short at {at}"),
             Entry::Whole(sizes) => {
                 let name = at + HEADER_SIZE;
                 let trace = name + sizes.name;
@@ -60,14 +60,4 @@ fn list_entry(rt: &impl Print, name: &[u8], trace: &[u8]) -> io::Result<()> {
     rt.write_all(name)?;
     rt.write_all(b"\n")?;
     rt.write_all(&text[..length])
-}
-
-// Ends the listing of a whole pack.
-fn print_count(rt: &impl Print, count: usize) -> io::Result<()> {
-    println!(rt; "{count} traces")
-}
-
-// Ends the listing of a pack that is cut short at an offset.
-fn print_cut(rt: &impl Print, at: usize) -> io::Result<()> {
-    println!(rt; "pack cut short at {at}")
 }

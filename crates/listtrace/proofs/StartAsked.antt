@@ -13,8 +13,7 @@ use Rattle.bus.specs.declared.start.Hung.{Hung}
 use Rattle.framelisting.specs.Ascii.{ascii}
 use Rattle.tracelisting.specs.Beginning.{begins}
 use Rattle.tracelisting.proofs.Beginning.{begins_so}
-use Rattle.listtrace.specs.StartAsked.{start_asked, upright_argument, StartAsked}
-use Rattle.listtrace.specs.declared.arguments.Asked.{Asked}
+use Rattle.listtrace.specs.StartAsked.{Asked, start_asked, upright_argument, StartAsked}
 
 -- nothing is left of a list of length 0
 empty : (l : List ℕ) → length l ≡ 0 → l ≡ []

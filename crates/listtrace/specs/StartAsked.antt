@@ -1,9 +1,18 @@
 -- Document 02, Order 3: the listing program begins with the new start, and with the old one where it is named.
-use Rattle.std.specs.Prelude.{ℕ, ◌≤◌, ◌<◌, ◌≡◌, cond, ◌&&◌, List, [], ◌∷◌, ltb, eqb, length}
+use Rattle.std.specs.Prelude.{ℕ, ◌≤◌, ◌<◌, ◌≡◌, cond, ◌&&◌, List, [], ◌∷◌, Option, Some, None, ltb, eqb, length}
 use Rattle.bus.specs.declared.start.Hung.{Hung}
 use Rattle.framelisting.specs.Ascii.{ascii}
 use Rattle.tracelisting.specs.Beginning.{begins}
-use Rattle.listtrace.specs.declared.arguments.Asked.{Asked}
+
+-- A start, or nothing that the program knows.
+pub data Asked : Type 0 where
+  Start : Hung → Asked
+  Unknown : Asked
+
+-- The same, of what the code's function answers.
+abbrev pub asked_of : Option Hung → Asked
+asked_of (Some hung) = Asked.Start hung
+asked_of None = Asked.Unknown
 
 -- What is asked for by so many words, the program's own name among them, of which this is the second.
 unfoldable pub start_asked : ℕ → List ℕ → Asked

@@ -3,10 +3,10 @@
 
 mod arguments;
 
-use arguments::{Asked, start_asked};
+use arguments::start_asked;
 use bus::start::Hung;
 use constants::sizes::{LONGEST_LISTING, LONGEST_TRACE};
-use standardinput::{Input, read_input};
+use standardinput::read_input;
 use std::env::{Env, FillError};
 use std::io::Stdin;
 
@@ -17,27 +17,21 @@ fn main(rt: HostRuntime) {
     let mut word = [0u8; ARGUMENT_ROOM];
     let length = rt.arg(1, &mut word).unwrap_or(0);
     // How many words the program was called by, its own name among them.
-    let mut count = 0;
     let mut nothing = [0u8; 0];
-    for i in 0..usize::MAX {
-        if let Err(FillError::NotPresent) = rt.arg(i, &mut nothing) {
-            break;
-        }
-        count = i + 1;
-    }
-    match start_asked(count, &word[..length]) {
-        Asked::Start(hung) => list_from(&rt, rt.stdin(), hung),
-        Asked::Unknown => {
-            let _ = eprintln!(rt; "listtrace: the only argument is --upright");
-        }
-    }
+    let count = (0..usize::MAX)
+        .take_while(|i| !matches!(rt.arg(*i, &mut nothing), Err(FillError::NotPresent)))
+        .count();
+    let Some(hung) = start_asked(count, &word[..length]) else {
+        let _ = eprintln!(rt; "listtrace: the only argument is --upright");
+        return;
+    };
+    list_from(&rt, rt.stdin(), hung);
 }
 
 // Reads the trace, and prints its listing from the start as the module hangs.
 fn list_from(rt: &(impl Print + Eprint), stdin: Stdin, hung: Hung) {
     let mut trace = [0u8; LONGEST_TRACE + 1];
-    let read = read_input(stdin, &mut trace);
-    let Input::Read(count) = read else {
+    let Ok(count) = read_input(stdin, &mut trace) else {
         let _ = eprintln!(rt; "listtrace: standard input cannot be read");
         return;
     };

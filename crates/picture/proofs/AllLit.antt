@@ -13,7 +13,7 @@ use Rattle.picture.specs.Scan.{ram_row, com_of, used, ram_row_of, panel_shows, r
 use Rattle.picture.specs.Rows.{rows_in_use, scan_of}
 use Rattle.picture.specs.Frame.{while_on}
 use Rattle.picture.specs.declared.rows.PanelRow.{PanelRow}
-use Rattle.picture.specs.declared.rows.Shown.{Shown}
+use Rattle.picture.specs.Shown.{Shown}
 use Rattle.picture.proofs.AllRows.{all_used}
 
 pub all_lit : (r : Registers) (memory : List ℕ) (row : PanelRow) (x : ℕ) → rows_in_use r ≡ height → r.entire ≡ 1 → while_on r memory (row_shows (scan_of r) row) x ≡ 1

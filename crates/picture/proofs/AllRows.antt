@@ -13,7 +13,7 @@ use Rattle.bus.proofs.Tests.{chosen}
 use Rattle.picture.proofs.Bijection.{Bijection}
 use Rattle.picture.proofs.Turns.{turn_of, back_of, amount, turn_below, back_below, turn_back, back_turn, rule}
 use Rattle.picture.specs.declared.rows.PanelRow.{PanelRow}
-use Rattle.picture.specs.declared.rows.Shown.{Shown}
+use Rattle.picture.specs.Shown.{Shown}
 
 -- with all rows in use each COM is
 pub all_used : (s : Scan) (row : PanelRow) → 0 < s.size → s.in_use ≡ s.size → used s (com_of s row) ≡ true

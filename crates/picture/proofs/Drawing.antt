@@ -22,7 +22,7 @@ use Rattle.picture.specs.Rows.{scan_of}
 use Rattle.picture.specs.Frame.{turned, shown_bit, while_on, segment, frame, place_of}
 use Rattle.picture.specs.Draw.{Drawn, drawn, draw_on, draw}
 use Rattle.picture.specs.Drawing.{DrawCall, Drawing}
-use Rattle.picture.specs.declared.rows.Shown.{Shown}
+use Rattle.picture.specs.Shown.{Shown}
 use Rattle.picture.proofs.Places.{frame_length, frame_row, frame_place, off_dark}
 
 -- the outcome by what the frame's length, the other two lengths and the ranges test to

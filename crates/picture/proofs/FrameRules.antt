@@ -14,7 +14,7 @@ use Rattle.picture.specs.Rows.{rows_in_use, scan_of}
 use Rattle.picture.specs.Frame.{turned, shown_bit, while_on, segment}
 use Rattle.picture.specs.FrameRules.{com_at, PanelRowRules, IconLineRules, SegmentRules, FrameRules}
 use Rattle.picture.specs.declared.rows.RamRow.{RamRow}
-use Rattle.picture.specs.declared.rows.Shown.{Shown}
+use Rattle.picture.specs.Shown.{Shown}
 use Rattle.picture.proofs.Lines.{line_same}
 use Rattle.picture.proofs.Places.{frame_row, bits_show}
 

@@ -18,7 +18,7 @@ use Rattle.picture.specs.Demand3.{Full, scroll}
 use Rattle.picture.proofs.Bijection.{Bijection}
 use Rattle.picture.proofs.Turns.{turn_of, back_of, amount, amount_below}
 use Rattle.picture.proofs.Places.{frame_place, bits_show}
-use Rattle.picture.specs.declared.rows.Shown.{Shown}
+use Rattle.picture.specs.Shown.{Shown}
 use Rattle.picture.proofs.AllRows.{leaving_icons, rows_bijection, scroll_of, rows_shown}
 
 -- what demand 3's settings hold of the registers that a frame depends on

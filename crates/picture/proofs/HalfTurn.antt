@@ -19,7 +19,7 @@ use Rattle.picture.specs.Frame.{shown_bit, while_on, segment}
 use Rattle.picture.specs.FrameRules.{com_at}
 use Rattle.picture.specs.HalfTurn.{upside_down, upright, HalfTurns}
 use Rattle.picture.specs.declared.rows.RamRow.{RamRow}
-use Rattle.picture.specs.declared.rows.Shown.{Shown}
+use Rattle.picture.specs.Shown.{Shown}
 use Rattle.picture.proofs.Places.{frame_place}
 use Rattle.picture.proofs.FrameRules.{dark_shows, row_dark, row_normal, row_reversed, icons_shown}
 use Rattle.picture.proofs.CentredBand.{centred_band}

@@ -16,7 +16,7 @@ use Rattle.picture.specs.Rows.{scan_of}
 use Rattle.picture.specs.Frame.{bit, shown_bit, while_on, segment, frame}
 use Rattle.picture.specs.Ignored.{draw_nothing, DrawAlike, SameBits, Ignored}
 use Rattle.picture.specs.declared.rows.RamRow.{RamRow}
-use Rattle.picture.specs.declared.rows.Shown.{Shown}
+use Rattle.picture.specs.Shown.{Shown}
 use Rattle.picture.proofs.Lines.{grid_same}
 use Rattle.picture.proofs.RamRows.{ram_within}
 use Rattle.picture.proofs.AllRows.{columns_bijection}

@@ -1,13 +1,11 @@
 -- a row of places, and rows one after the other
 pub mod Lines
+-- arrays made place by place
+pub mod Made
 -- the frame: its length, its rows and its places
 pub mod Places
 -- a RAM row that is shown is one of the memory
 pub mod RamRows
--- a page that is lent on has its RAM rows' bits
-pub mod PageBits
--- masks of low bits are remainders
-pub mod Masks
 -- bijections of the numbers below n
 pub mod Bijection
 -- the row rule with all rows in use is a turn of the rows, over any size
@@ -38,3 +36,5 @@ pub mod Demand3
 pub mod FullAtStart
 -- the whole frame at once
 pub mod Upright
+-- drawing asks no byte past the memory's 1,188
+pub mod FirstBytes

@@ -60,7 +60,7 @@ grid_same w zero f g e = refl
 grid_same w (suc h) f g e = rw (grid_same w h f g (λ y x k l. e y x (omega arith) l), line_same w (f h) (g h) (λ x l. e h x (omega arith) l))
 
 -- rows and frames whose places are all alike
-line_alike : (w v : ℕ) → line w (λ x. v) ≡ replicate w v
+pub line_alike : (w v : ℕ) → line w (λ x. v) ≡ replicate w v
 unfolding line
 line_alike zero v = refl
 line_alike (suc w) v = rw (line_alike w v) (replicate-append-replicate w 1 v ∙ rw add-one)

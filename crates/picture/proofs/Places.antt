@@ -14,7 +14,7 @@ use Rattle.picture.specs.Rows.{scan_of}
 use Rattle.picture.specs.Frame.{bit, turned, shown_bit, while_on, segment, line, frame, row_of, place_of}
 use Rattle.picture.specs.declared.rows.RamRow.{RamRow}
 use Rattle.picture.proofs.Lines.{line_same, line_at, grid_length, grid_row, grid_same, grid_alike}
-use Rattle.picture.specs.declared.rows.Shown.{Shown}
+use Rattle.picture.specs.Shown.{Shown}
 
 pub frame_length : (r : Registers) (memory : List ℕ) → length (frame r memory) ≡ frame_size
 unfolding frame

@@ -1,7 +1,7 @@
 -- A row that is shown is one of the memory: a dot row or, after the last of them, the icons.
 -- Assumes nothing.
 use mathlib.Core.Path.{◌≡◌, subst}
-use Prim.Native.Nat.{ℕ, ◌≤◌, ◌<◌}
+use Prim.Native.Nat.{◌≤◌, ◌<◌}
 use native.Mathlib.Nat.{mod-lt, le_of_lt, le_refl}
 use lib.Dec.{ltb, eqb}
 use Rattle.bus.proofs.Tests.{chosen}
@@ -9,19 +9,15 @@ use Rattle.picture.specs.Scan.{Scan, com_of, used, ram_row_of, panel_shows, row_
 use Rattle.picture.specs.declared.rows.PanelRow.{PanelRow}
 use Rattle.picture.specs.declared.rows.Com.{Com}
 use Rattle.picture.specs.declared.rows.RamRow.{RamRow}
-use Rattle.picture.specs.declared.rows.Shown.{Shown}
-
--- the RAM row that is shown, if any, is at most h
-abbrev WithinRam : ℕ → Shown → Type 0
-WithinRam h Shown.Dark = Unit
-WithinRam h (Shown.Ram row) = row.0 ≤ h
+use Rattle.picture.specs.Shown.{Shown}
+use Rattle.picture.specs.Upright.{WithinRam}
 
 module _ (s : Scan) (pos : 0 < s.size) where
   ram_row_within : (k : Com) → (ram_row_of s k).0 ≤ s.size
   unfolding ram_row_of
   ram_row_within k = chosen (λ (row : RamRow). row.0 ≤ s.size) (eqb s.direction 0) _ _ (λ e. le_of_lt (mod-lt _ pos)) (λ e. le_of_lt (mod-lt _ pos))
 
-  shows_within : (row : PanelRow) → WithinRam s.size (row_shows s row)
+  pub shows_within : (row : PanelRow) → WithinRam s.size (row_shows s row)
   unfolding row_shows panel_shows
   shows_within row =
       chosen (WithinRam s.size) (ltb row.0 s.size) _ _

@@ -7,22 +7,22 @@ use mathlib.Core.List.{List}
 use Prim.Native.Nat.{ℕ, zero, suc, ◌+◌, ◌*◌, ◌-◌, ◌/◌, ◌%◌, ◌^◌, ◌≤◌, ◌<◌}
 use native.Mathlib.Omega.{arith}
 use native.Mathlib.Nat.{mod-lt, add-mod-mod}
-use borrow.Author.Tests.{lt-ltb, le-ltb, eq-eqb, ne_eqb}
+use borrow.Author.Tests.{eq-eqb, ne_eqb}
 use lib.Bits.{bit_xor, bit_and, and_mask, xor_shr, xor_mod, xor_zero_r}
 use lib.Dec.{eqb}
-use lib.ListN.{get_or, take, drop}
-use lib.Seq.{get_or-take, get_or-drop}
+use lib.ListN.{get_or}
+use Rattle.std.specs.Prelude.{Option, None}
 use Rattle.constants.specs.Sizes.{width, pages, height, frame_rows}
 use Rattle.bus.specs.Memory.{address}
 use Rattle.bus.specs.declared.registers.Registers.{Registers}
 use Rattle.picture.specs.Scan.{panel_row, column_of, row_shows}
 use Rattle.picture.specs.Rows.{scan_of}
 use Rattle.picture.specs.Frame.{bit, turned, shown_bit, while_on, segment, line, grid, frame}
-use Rattle.picture.specs.Upright.{row_number, upright_byte, numbered}
+use Rattle.picture.specs.Upright.{upright_byte, WithinRam, RowsOf, seen}
 use Rattle.picture.specs.declared.rows.RamRow.{RamRow}
-use Rattle.picture.specs.declared.rows.Shown.{Shown}
+use Rattle.picture.specs.Shown.{Shown, shown_of}
 use Rattle.picture.proofs.Lines.{line_same, line_at, grid_same, grid_at}
-use Rattle.picture.proofs.RamRows.{ram_within}
+use Rattle.picture.proofs.RamRows.{shows_within}
 
 -- a column of the page is one of its columns
 pub column_within : (direction x : ℕ) → x < width → column_of width direction x < width
@@ -32,30 +32,6 @@ column_within direction x h = either (eqb direction 0)
     either : (b : Bool) → cond b x (width - 1 - x) < width
     either true = h
     either false = omega arith
-
--- a row by its number: none, and a bit of a page that is lent on
-pub dark_number : (upright : List ℕ) (number : ℕ) {later : List ℕ} → height < number → later ≡ line width (λ x. 0) → later ≡ line width (numbered upright number)
-unfolding numbered
-dark_number upright number l drawn = drawn ∙ line_same width _ _ (λ x h. rw (lt-ltb height number l))
-
-pub lit_number : (upright : List ℕ) (number n : ℕ) {later : List ℕ} → number ≤ height → n ≡ width → later ≡ line width (λ x. get_or (take n (drop (number / 8 * width) upright)) x 0 / 2 ^ bit_and number 7 % 2) → later ≡ line width (numbered upright number)
-unfolding numbered bit
-lit_number upright number n l e drawn =
-    drawn ∙ line_same width _ _ (λ x h. rw (le-ltb height number l, and_mask number 3, get_or-take n (drop (number / 8 * width) upright) x 0 (omega arith), get_or-drop (number / 8 * width) upright x 0))
-
--- a page brought upright
-pub page_straight : (page : List ℕ) (direction flip : ℕ) {later : List ℕ} → direction ≡ 0 → later ≡ line width (λ x. bit_xor (get_or page x 0) flip) → later ≡ line width (λ x. bit_xor (get_or page (column_of width direction x) 0) flip)
-unfolding column_of
-page_straight page direction flip e made = made ∙ line_same width _ _ (λ x h. rw (eq-eqb direction 0 e))
-
-pub page_turned : (page : List ℕ) (direction flip : ℕ) {later : List ℕ} → direction ≢ 0 → later ≡ line width (λ x. bit_xor (get_or page (width - 1 - x) 0) flip) → later ≡ line width (λ x. bit_xor (get_or page (column_of width direction x) 0) flip)
-unfolding column_of
-page_turned page direction flip n made = made ∙ line_same width _ _ (λ x h. rw (ne_eqb direction 0 n))
-
-pub page_upright : (direction reverse : ℕ) (memory later : List ℕ) (p n : ℕ) → n ≡ width → later ≡ line width (λ x. bit_xor (get_or (take n (drop (p * width) memory)) (column_of width direction x) 0) (255 * reverse)) → later ≡ line width (upright_byte direction reverse memory p)
-unfolding upright_byte
-page_upright direction reverse memory later p n e made =
-    made ∙ line_same width _ _ (λ x h. rw (e, get_or-take width (drop (p * width) memory) (column_of width direction x) 0 (column_within direction x h), get_or-drop (p * width) memory (column_of width direction x) 0))
 
 -- a bit of a byte all of whose bits are turned round, or none
 all_bits : (k : ℕ) → k < 8 → 255 / 2 ^ k % 2 ≡ 1
@@ -86,6 +62,22 @@ byte_turned byte k (suc zero) l m =
     rw (xor_shr byte 255 k, xor_mod (byte / 2 ^ k) (255 / 2 ^ k) 1, all_bits k l) (bit_turned (byte / 2 ^ k % 2) (mod-lt _ (omega arith)))
 byte_turned byte k (suc (suc reverse)) l m = absurd (omega arith)
 
+-- the bits of a RAM row, made of the page that it lies in: as some registers show it, and of a memory that is upright
+pub row_bits : (r : Registers) (memory : List ℕ) (row : RamRow) {page b : ℕ} {shown bits : List ℕ} → page ≡ row.0 / 8 → b ≡ row.0 % 8
+    → shown ≡ line width (upright_byte r.column_direction (bit_and r.reverse 1) memory page) → bits ≡ line width (λ x. get_or shown x 0 / 2 ^ b % 2) → bits ≡ line width (shown_bit r memory row)
+unfolding bit shown_bit turned upright_byte
+row_bits r memory row {page = page} p q s made =
+    made ∙
+    line_same width _ _ (λ x h. rw (s, line_at width (upright_byte r.column_direction (bit_and r.reverse 1) memory page) x h, p, q, and_mask r.reverse 1)
+    (byte_turned (get_or memory (address (row.0 / 8) (column_of width r.column_direction x)) 0) (row.0 % 8) (r.reverse % 2) (omega arith) (omega arith) ∙ rw (turned, add-mod-mod)))
+
+pub upright_bits : (upright : List ℕ) (row : RamRow) {page b : ℕ} {shown bits : List ℕ} → page ≡ row.0 / 8 → b ≡ row.0 % 8
+    → shown ≡ line width (upright_byte 0 0 upright page) → bits ≡ line width (λ x. get_or shown x 0 / 2 ^ b % 2) → bits ≡ line width (bit address upright row)
+unfolding bit column_of upright_byte
+upright_bits upright row {page = page} p q s made =
+    made ∙
+    line_same width _ _ (λ x h. rw (s, line_at width (upright_byte 0 0 upright page) x h, p, q, xor_zero_r (get_or upright (address (row.0 / 8) x) 0)))
+
 -- a memory that is upright for some registers: its bits are what the registers show
 abbrev pub Upright : Registers → List ℕ → List ℕ → Type 0
 Upright r memory upright = (p x : ℕ) → p < pages → x < width → get_or upright (address p x) 0 ≡ upright_byte r.column_direction (r.reverse % 2) memory p x
@@ -109,14 +101,17 @@ module _ (r : Registers) (memory upright : List ℕ) (on : r.on ≢ 0) (entire :
   upright_bit row x l h =
       rw (holds (row.0 / 8) x (omega arith) h) (byte_turned (get_or memory (address (row.0 / 8) (column_of width r.column_direction x)) 0) (row.0 % 8) (r.reverse % 2) (omega arith) (omega arith) ∙ rw (turned, add-mod-mod))
 
-  shown_place : (shown : Shown) (x : ℕ) → ((row : RamRow) → shown ≡ Shown.Ram row → row.0 ≤ height) → x < width → numbered upright (row_number shown) x ≡ segment r memory shown x
-  unfolding numbered row_number segment while_on
+  shown_place : (shown : Shown) (x : ℕ) → WithinRam height shown → x < width → seen upright shown x ≡ segment r memory shown x
+  unfolding seen segment while_on
   shown_place Shown.Dark x within h = rw (ne_eqb r.on 0 on)
-  shown_place (Shown.Ram row) x within h =
-      rw (ne_eqb r.on 0 on, ne_eqb r.entire 1 entire, le-ltb height row.0 (within row refl)) (upright_bit row x (within row refl) h)
+  shown_place (Shown.Ram row) x within h = rw (ne_eqb r.on 0 on, ne_eqb r.entire 1 entire) (upright_bit row x within h)
 
-  -- the frame is drawn by the numbers of its rows
-  pub frame_numbered : (numbers : List ℕ) → numbers ≡ line frame_rows (λ y. row_number (row_shows (scan_of r) (panel_row y))) → grid width frame_rows (λ y. numbered upright (get_or numbers y 0)) ≡ frame r memory
+  -- the frame is drawn by what each of its rows shows
+  pub frame_seen : (rows : List (Option RamRow)) → RowsOf r rows → grid width frame_rows (λ y. seen upright (shown_of (get_or rows y None))) ≡ frame r memory
   unfolding frame
-  frame_numbered numbers e =
-      grid_same width frame_rows _ _ (λ y x k h. rw (e, line_at frame_rows (λ y. row_number (row_shows (scan_of r) (panel_row y))) y k) (shown_place (row_shows (scan_of r) (panel_row y)) x (λ row q. ram_within (scan_of r) (omega arith) (panel_row y) q) h))
+  frame_seen rows shows =
+      grid_same width frame_rows _ _ (λ y x k h. rw (shows.each y k) (shown_place (row_shows (scan_of r) (panel_row y)) x (shows_within (scan_of r) (omega arith) (panel_row y)) h))
+
+-- each of those rows is one of the memory
+pub rows_within : (r : Registers) (rows : List (Option RamRow)) → RowsOf r rows → (y : ℕ) → y < frame_rows → WithinRam height (shown_of (get_or rows y None))
+rows_within r rows shows y l = rw (shows.each y l) (shows_within (scan_of r) (omega arith) (panel_row y))

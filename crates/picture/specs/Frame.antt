@@ -6,7 +6,7 @@ use Rattle.bus.specs.declared.registers.Registers.{Registers}
 use Rattle.picture.specs.Scan.{panel_row, row_shows, column_of}
 use Rattle.picture.specs.Rows.{scan_of}
 use Rattle.picture.specs.declared.rows.RamRow.{RamRow}
-use Rattle.picture.specs.declared.rows.Shown.{Shown}
+use Rattle.picture.specs.Shown.{Shown}
 
 -- Bit b of page p is RAM row 8p + b, bit 0 the least: the bit of a RAM row in a column, where a rule says at which byte a page and a column lie.
 unfoldable pub bit : (ℕ → ℕ → ℕ) → List ℕ → RamRow → ℕ → ℕ

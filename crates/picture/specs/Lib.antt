@@ -1,3 +1,5 @@
+-- what a row of the frame shows
+pub mod Shown
 -- the three countings of rows; scan, start line and columns over numbers
 pub mod Scan
 -- the numbers that this chip's scan goes by

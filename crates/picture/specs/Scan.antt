@@ -3,7 +3,7 @@ use Rattle.std.specs.Prelude.{ℕ, ◌+◌, ◌-◌, ◌%◌, Bool, cond, ltb, e
 use Rattle.picture.specs.declared.rows.PanelRow.{PanelRow}
 use Rattle.picture.specs.declared.rows.Com.{Com}
 use Rattle.picture.specs.declared.rows.RamRow.{RamRow}
-use Rattle.picture.specs.declared.rows.Shown.{Shown}
+use Rattle.picture.specs.Shown.{Shown}
 
 abbrev pub panel_row : ℕ → PanelRow
 panel_row p = record { 0 = p }

@@ -1,145 +1,95 @@
 // The whole frame of bits: what each row shows is worked out for all rows first, and the memory is brought upright once, so that a row is a bit of a page as it lies.
-ghost use Rattle.std.specs.Prelude.{◌≡◌, ◌≢◌, ◌++◌, ◌≤◌, ◌<◌, ◌*◌, ◌-◌, length, get_or, drop};
-ghost use Rattle.std.specs.Int.Bits.{bit_xor};
-ghost use Rattle.constants.specs.Sizes.{width, pages, memory_size, frame_rows, frame_size};
-ghost use Rattle.picture.specs.Scan.{panel_row, column_of, row_shows};
-ghost use Rattle.picture.specs.Rows.{scan_of};
+ghost use Rattle.std.specs.Prelude.{◌≡◌, ◌≢◌, ℕ, ◌<◌, length, get_or, None};
+ghost use Rattle.constants.specs.Sizes.{width, pages, height, frame_rows};
+ghost use Rattle.picture.specs.Shown.{shown_of};
 ghost use Rattle.picture.specs.Frame.{line, grid, frame};
-ghost use Rattle.picture.specs.Upright.{row_number, upright_byte, numbered};
+ghost use Rattle.picture.specs.Upright.{upright_byte, WithinRam, RowsOf, seen};
 
-use crate::page::draw_page;
-use crate::row::fill;
-use crate::rows::{PanelRow, Shown, row_shows};
+use crate::page::{bits_of, shown_page};
+use crate::rows::{PanelRow, RamRow, row_shows};
 use bus::registers::Registers;
-use constants::sizes::{FRAME_ROWS, HEIGHT, MEMORY_SIZE, PAGES, WIDTH};
-
-// The number of a row that shows nothing.
-const DARK: u8 = 255;
-
-// All bits of a byte.
-const ALL_BITS: u8 = 255;
+use constants::sizes::{FRAME_ROWS, FRAME_SIZE, MEMORY_SIZE, PAGES, WIDTH};
+use std::array;
 
 // Draws the frame of a display that is on and not entirely on.
-pub fn draw_whole(registers: Registers, memory: &[u8], places: &mut [u8])
-    requires { (registers.on ≢ 0) × (registers.entire ≢ 1) × (memory_size ≤ length memory.now) × (frame_size ≤ length places.old) }
-    ensures { places.new ≡ frame registers memory.now ++ drop frame_size places.old }
+pub fn draw_whole(registers: Registers, memory: &[u8; MEMORY_SIZE], places: &mut [u8; FRAME_SIZE])
+    requires { (registers.on ≢ 0) × (registers.entire ≢ 1) }
+    ensures { places.new ≡ frame registers memory.now }
 {
-    let mut numbers = [0; FRAME_ROWS];
-    number_rows(registers, &mut numbers);
-    let reverse = registers.reverse & 1;
-    if registers.column_direction == 0 {
-        if reverse == 0 {
-            draw_numbered(&numbers, memory, places);
-            return;
-        }
+    let rows = rows_shown(registers);
+    if registers.column_direction == 0 && registers.reverse & 1 == 0 {
+        draw_upright(&rows, memory, places);
+    } else {
+        draw_turned(registers, &rows, memory, places);
     }
+}
+
+// The RAM row that each row of the frame shows, or none.
+fn rows_shown(registers: Registers) -> [Option<RamRow>; FRAME_ROWS]
+    ensures { RowsOf registers result }
+{
+    array::from_fn(|y| row_shows(registers, PanelRow(y as u8)))
+}
+
+// Draws the frame of a memory that is not upright as it lies. A function of its own, so that only such frames clear an array.
+fn draw_turned(
+    registers: Registers,
+    rows: &[Option<RamRow>; FRAME_ROWS],
+    memory: &[u8; MEMORY_SIZE],
+    places: &mut [u8; FRAME_SIZE],
+)
+    requires { (registers.on ≢ 0) × (registers.entire ≢ 1) × RowsOf registers rows.now }
+    ensures { places.new ≡ frame registers memory.now }
+{
     let mut upright = [0; MEMORY_SIZE];
+    let reverse = registers.reverse & 1;
     bring_upright(registers.column_direction, reverse, memory, &mut upright);
-    draw_numbered(&numbers, &upright, places);
+    draw_upright(rows, &upright, places);
 }
 
-// Works out what each row of the frame shows.
-fn number_rows(registers: Registers, numbers: &mut [u8])
-    requires { length numbers.old ≡ frame_rows }
-    ensures { numbers.new ≡ line frame_rows (λ y. row_number (row_shows (scan_of registers) (panel_row y))) }
-{
-    let mut y = 0;
-    while y < FRAME_ROWS {
-        numbers[y] = number_of(registers, PanelRow(y as u8));
-        y += 1;
-    }
-}
-
-// What a row shows, as a number.
-fn number_of(registers: Registers, row: PanelRow) -> u8
-    ensures { result ≡ row_number (row_shows (scan_of registers) row) }
-{
-    match row_shows(registers, row) {
-        Shown::Dark => DARK,
-        Shown::Ram(ram) => ram.0,
-    }
-}
-
-// Brings each page upright.
-fn bring_upright(direction: u8, reverse: u8, memory: &[u8], upright: &mut [u8])
-    requires { (reverse < 2) × (memory_size ≤ length memory.now) × (length upright.old ≡ memory_size) }
+// Brings each page upright. The part is cut by hand, as in draw.rt.
+fn bring_upright(
+    direction: u8,
+    reverse: u8,
+    memory: &[u8; MEMORY_SIZE],
+    upright: &mut [u8; MEMORY_SIZE],
+)
+    requires { reverse < 2 }
     ensures { upright.new ≡ grid width pages (upright_byte direction reverse memory.now) }
 {
-    let flip = ALL_BITS * reverse;
-    let pages = PAGES as usize;
-    let mut p = 0;
-    while p < pages {
-        let start = p * WIDTH;
+    for p in 0..PAGES {
+        let start = usize::from(p) * WIDTH;
         let end = start + WIDTH;
-        upright_page(
-            direction,
-            flip,
-            &memory[start..end],
-            &mut upright[start..end],
-        );
-        p += 1;
+        upright[start..end].copy_from_slice(&shown_page(memory, p, direction, reverse));
     }
 }
 
-// A page as it is shown from left to right, some bits of each byte turned round.
-fn upright_page(direction: u8, flip: u8, page: &[u8], upright: &mut [u8])
-    requires { (length page.now ≡ width) × (length upright.old ≡ width) }
-    ensures { upright.new ≡ line width (λ x. bit_xor (get_or page.now (column_of width direction x) 0) flip) }
+// Draws each row by the RAM row that it shows, from a memory that is upright. The part is cut by hand, as in draw.rt; and the loop is not one with that, since a closure would have to be told in words of calls what `grid` says at once.
+fn draw_upright(
+    rows: &[Option<RamRow>; FRAME_ROWS],
+    upright: &[u8; MEMORY_SIZE],
+    places: &mut [u8; FRAME_SIZE],
+)
+    requires { (y : ℕ) → y < frame_rows → WithinRam height (shown_of (get_or rows.now y None)) }
+    ensures { places.new ≡ grid width frame_rows (λ y. seen upright.now (shown_of (get_or rows.now y None))) }
 {
-    if direction == 0 {
-        flip_page(flip, page, upright);
-    } else {
-        turn_page(flip, page, upright);
-    }
-}
-
-// A page with some bits of each byte turned round.
-fn flip_page(flip: u8, page: &[u8], flipped: &mut [u8])
-    requires { (length page.now ≡ width) × (length flipped.old ≡ width) }
-    ensures { flipped.new ≡ line width (λ x. bit_xor (get_or page.now x 0) flip) }
-{
-    let mut x = 0;
-    while x < WIDTH {
-        flipped[x] = page[x] ^ flip;
-        x += 1;
-    }
-}
-
-// The same from the last byte to the first.
-fn turn_page(flip: u8, page: &[u8], turned: &mut [u8])
-    requires { (length page.now ≡ width) × (length turned.old ≡ width) }
-    ensures { turned.new ≡ line width (λ x. bit_xor (get_or page.now (width - 1 - x) 0) flip) }
-{
-    let mut x = 0;
-    while x < WIDTH {
-        let column = WIDTH - 1 - x;
-        turned[x] = page[column] ^ flip;
-        x += 1;
-    }
-}
-
-// Draws each row by its number, from a memory that is upright.
-fn draw_numbered(numbers: &[u8; FRAME_ROWS], upright: &[u8], places: &mut [u8])
-    requires { (memory_size ≤ length upright.now) × (frame_size ≤ length places.old) }
-    ensures { places.new ≡ grid width frame_rows (λ y. numbered upright.now (get_or numbers.now y 0)) ++ drop frame_size places.old }
-{
-    for y in 0..FRAME_ROWS {
+    for (y, row) in rows.iter().enumerate() {
         let start = y * WIDTH;
         let end = start + WIDTH;
-        draw_number(numbers[y], upright, &mut places[start..end]);
+        draw_shown(*row, upright, &mut places[start..end]);
     }
 }
 
-// Draws one row by its number.
-fn draw_number(number: u8, upright: &[u8], places: &mut [u8])
-    requires { (memory_size ≤ length upright.now) × (length places.old ≡ width) }
-    ensures { places.new ≡ line width (numbered upright.now number) }
+// Draws one row by the RAM row that it shows.
+fn draw_shown(shown: Option<RamRow>, upright: &[u8; MEMORY_SIZE], places: &mut [u8])
+    requires { WithinRam height (shown_of shown) × (length places.old ≡ width) }
+    ensures { places.new ≡ line width (seen upright.now (shown_of shown)) }
 {
-    if number > HEIGHT {
-        fill(places, 0);
-        return;
+    match shown {
+        None => places.fill(0),
+        Some(row) => {
+            let page = shown_page(upright, row.page(), 0, 0);
+            places.copy_from_slice(&bits_of(&page, row.bit()));
+        }
     }
-    let start = ((number >> 3) as usize) * WIDTH;
-    let end = start + WIDTH;
-    draw_page(&upright[start..end], number & 7, places);
 }

@@ -23,7 +23,7 @@ use Rattle.picture.specs.Scan.{panel_row, ram_row, com_of, used, ram_row_of, pan
 use Rattle.picture.specs.Rows.{scan_of}
 use Rattle.samples.specs.Samples.{Samples, number_for, picture, Reached}
 use Rattle.picture.proofs.Places.{row_plain, off_dark}
-use Rattle.picture.specs.declared.rows.Shown.{Shown}
+use Rattle.picture.specs.Shown.{Shown}
 
 -- where the display is on, entire on lights a row that shows a RAM row, and no other
 shade : (r : Registers) (memory : List ℕ) (row : RamRow) (x : ℕ) → r.on ≡ 1 → r.entire ≡ 1 → (t : Bool) → segment r memory (cond t (Shown.Ram row) Shown.Dark) x ≡ cond (t || false) 1 0

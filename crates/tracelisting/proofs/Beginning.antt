@@ -1,14 +1,13 @@
 -- A text begins with a word exactly when it is the word with something after it.
 -- Assumes nothing.
-use mathlib.Core.Path.{◌≡◌, refl, ◌∙◌, ap}
+use mathlib.Core.Path.{◌≡◌, refl, sym, ◌∙◌, ap}
 use mathlib.Core.Bool.{true, false, ◌&&◌, false≢true}
 use mathlib.Core.List.{List, [], ◌∷◌, ◌++◌}
-use Prim.Native.Nat.{ℕ, suc, ◌+◌, ◌≤◌, ◌<◌}
-use native.Mathlib.Omega.{arith}
-use borrow.Author.Tests.{eq-eqb, eqb-true}
+use Prim.Native.Nat.{ℕ}
+use borrow.Author.Tests.{eq-eqb, ne_eqb, eqb-true}
 use lib.Dec.{eqb}
-use lib.ListN.{length, get_or, drop, drop_of_length-le}
-use lib.Seq.{drop-cons}
+use native.Mathlib.Decide.{ℕ_discrete}
+use Rattle.std.specs.List.{starts_with}
 use Rattle.codes.proofs.Tests.{both}
 use Rattle.tracelisting.specs.Beginning.{begins, Begins}
 
@@ -29,17 +28,16 @@ back (letter ∷ word) rest = rw (eq-eqb letter letter refl, back word rest) ref
 pub begins_so : Begins
 begins_so word text = (there word text, λ w. ap (begins word) w.1 ∙ back word w.0)
 
--- from a place of both on: the letter there and what follows,
-pub letter_there : (word text : List ℕ) (i : ℕ) → i < length word → i < length text → begins (drop i word) (drop i text) ≡ (eqb (get_or text i 0) (get_or word i 0) && begins (drop (i + 1) word) (drop (i + 1) text))
-unfolding begins
-letter_there word text i w t = let e : i + 1 ≡ suc i = omega arith in rw (e, drop-cons word i 0 w, drop-cons text i 0 t) refl
+-- and the library says the same of it
+eqb_sym : (a b : ℕ) → eqb a b ≡ eqb b a
+eqb_sym a b = either (ℕ_discrete a b)
+  where
+    either : Dec (a ≡ b) → eqb a b ≡ eqb b a
+    either (yes e) = rw e
+    either (no n) = rw (ne_eqb a b n, ne_eqb b a (λ e. n (sym e)))
 
--- no letter where the text has ended,
-pub text_ended : (word text : List ℕ) (i : ℕ) → i < length word → length text ≤ i → begins (drop i word) (drop i text) ≡ false
+pub begins_with_it : (word text : List ℕ) → starts_with eqb text word ≡ begins word text
 unfolding begins
-text_ended word text i w t = rw (drop-cons word i 0 w, drop_of_length-le text {i = i} t) refl
-
--- and nothing to look for where the word has.
-pub word_ended : (word text : List ℕ) (i : ℕ) → length word ≤ i → begins (drop i word) text ≡ true
-unfolding begins
-word_ended word text i w = rw (drop_of_length-le word {i = i} w) refl
+begins_with_it [] text = refl
+begins_with_it (letter ∷ word) [] = refl
+begins_with_it (letter ∷ word) (first ∷ text) = rw (eqb_sym letter first, begins_with_it word text)

@@ -6,18 +6,20 @@ use Prim.Native.Nat.{ℕ, ◌^◌, ◌≤◌, ◌<◌}
 use native.Mathlib.Omega.{arith}
 use borrow.Author.Tests.{le-ltb}
 use lib.ListN.{length, replicate}
+use Rattle.std.specs.Prelude.{Result, Ok, Err}
+use Rattle.std.specs.Result.{result_unwrap_or}
 use Rattle.constants.specs.Numbers.{taken}
 use Rattle.constants.specs.Sizes.{image_size, memory_size, frame_size, longest_listing}
 use Rattle.bus.specs.Registers.{power_on, image_of}
 use Rattle.bus.specs.Image.{short, stored}
 use Rattle.bus.specs.Start.{registers_at_start, memory_at_start, started, start_of}
 use Rattle.bus.specs.declared.start.Hung.{Hung}
-use Rattle.trace.specs.Run.{ran, run}
-use Rattle.trace.specs.declared.run.Stop.{Stop}
+use Rattle.trace.specs.Run.{Stop, ran, run}
 use Rattle.picture.specs.Draw.{drawn, draw}
 use Rattle.framelisting.specs.Text.{listing_of}
-use Rattle.framelisting.specs.Listing.{outcome, written, listed}
-use Rattle.framelisting.specs.declared.Listed.{Listed}
+use Rattle.constants.specs.Refusals.{number_of_refusal}
+use Rattle.constants.specs.declared.refusal.Refusal.{Refusal}
+use Rattle.framelisting.specs.Listing.{Listed, listed_of, outcome, written, listed}
 use Rattle.framelisting.proofs.LentBuffers.{always_enough}
 use Rattle.trace.specs.EitherStart.{ran_from_start}
 use Rattle.tracelisting.specs.TraceListing.{frame_after, listing_of_trace, printed, printed_of}
@@ -38,18 +40,14 @@ whole hung trace text state memory begun stop later left frame text' number answ
     ap (λ r. listing_of r.stop.number r.stop.offset (draw r.state r.memory (replicate frame_size 0)).frame)
     (p ∙ ap (λ begin. run begin.state begin.memory trace) (s ∙ start_there hung)))
 
--- the text stands at the start of the buffer, with its length
-pub finished : (hung : Hung) (trace text text' : List ℕ) (answer : Listed) (size : ℕ) → longest_listing ≤ length text → outcome answer text' ≡ written (listing_of_trace hung trace) text → answer ≡ Listed.Written size → printed size text' ≡ printed_of (listing_of_trace hung trace) text
+-- the text stands at the start of the buffer, with its length; it is never refused
+pub finished : (listing text later : List ℕ) (answer : Result ℕ Refusal) → longest_listing ≤ length text → outcome (listed_of answer) later ≡ written listing text → printed (result_unwrap_or answer 0) later ≡ printed_of listing text
 unfolding written printed_of
-finished hung trace text text' answer size t e a =
-    let same : Listed.Written size ≡ Listed.Written (length (listing_of_trace hung trace)) = sym a ∙ ap (λ o. o.answer) e in
-    let long : size ≡ length (listing_of_trace hung trace) = cc in
+finished listing text later (Ok size) t e =
+    let same : Listed.Written size ≡ Listed.Written (length listing) = ap (λ o. o.answer) e in
+    let long : size ≡ length listing = cc in
     rw (le-ltb (length text) longest_listing t, long, ap (λ o. o.text) e)
-
--- it is never refused
-pub never_refused : (listing text text' : List ℕ) (answer : Listed) (number : ℕ) → outcome answer text' ≡ written listing text → answer ≡ Listed.Refused number → ⊥
-unfolding written
-never_refused listing text text' answer number e a =
-    let same : Listed.Refused number ≡ Listed.Written (length listing) = sym a ∙ ap (λ o. o.answer) e in
+finished listing text later (Err refusal) t e =
+    let same : Listed.Refused (number_of_refusal refusal) ≡ Listed.Written (length listing) = ap (λ o. o.answer) e in
     let z : ◌≡◌ {A = ℕ} 0 1 = cc in
-    omega arith
+    absurd (omega arith)

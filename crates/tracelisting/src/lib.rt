@@ -8,8 +8,8 @@ ghost use Rattle.constants.specs.Sizes.{longest_listing};
 ghost use Rattle.tracelisting.specs.TraceListing.{listing_of_trace, text_for, printed, printed_of};
 
 use bus::start::Hung;
+use constants::refusal::number_met;
 use constants::sizes::{FRAME_SIZE, IMAGE_SIZE, LONGEST_LISTING, LONGEST_TRACE, MEMORY_SIZE};
-use framelisting::Listed;
 
 // Puts what the listing program prints for its input, from the start as the module hangs, into a buffer that is long enough for any listing, and answers the text's length.
 pub fn list_input(hung: Hung, input: &[u8], text: &mut [u8]) -> usize
@@ -31,13 +31,11 @@ fn list_trace(hung: Hung, trace: &[u8], text: &mut [u8]) -> usize
     let mut state = [0u8; IMAGE_SIZE];
     let mut memory = [0u8; MEMORY_SIZE];
     let mut frame = [0u8; FRAME_SIZE];
-    bus::start::start(hung, &mut state, &mut memory);
+    let _ = bus::start::start(hung, &mut state, &mut memory);
     let stop = trace::run::run(&mut state, &mut memory, trace);
-    picture::draw::draw(&state, &memory, &mut frame);
-    match framelisting::list(stop.number, stop.offset, &frame, text) {
-        Listed::Written(length) => length,
-        Listed::Refused(_) => 0,
-    }
+    let _ = picture::draw::draw(&state, &memory, &mut frame);
+    let number = number_met(stop.outcome);
+    framelisting::list(number, stop.offset, &frame, text).unwrap_or(0)
 }
 
 // Puts a line into such a buffer, and answers its length.
@@ -48,10 +46,6 @@ fn put_notice(line: &[u8], text: &mut [u8]) -> usize
     if text.len() < LONGEST_LISTING {
         return 0;
     }
-    let mut i = 0;
-    while i < line.len() {
-        text[i] = line[i];
-        i += 1;
-    }
-    i
+    text[..line.len()].copy_from_slice(line);
+    line.len()
 }

@@ -6,15 +6,5 @@ ghost use Rattle.tracelisting.specs.Beginning.{begins};
 pub fn begins_with(text: &[u8], word: &[u8]) -> bool
     ensures { result ≡ begins word.now text.now }
 {
-    let mut i = 0;
-    while i < word.len() {
-        if text.len() <= i {
-            return false;
-        }
-        if text[i] != word[i] {
-            return false;
-        }
-        i += 1;
-    }
-    true
+    text.starts_with(word)
 }

@@ -1,24 +1,17 @@
 -- What the two chips' states and memories are asked first, by the tests of the code.
 -- Assumes nothing.
-use mathlib.Core.Path.{◌≡◌, refl, sym, ap}
+use mathlib.Core.Path.{◌≡◌, refl, sym}
 use mathlib.Core.Bool.{Bool, true, false, cond, ◌||◌, false≢true}
 use Prim.Native.Nat.{ℕ, ◌≤◌}
 use native.Mathlib.Omega.{arith}
 use lib.ListN.{length}
-use Rattle.std.specs.Prelude.{Ok, Err}
 use Rattle.constants.specs.Numbers.{too_short}
-use Rattle.constants.specs.Refusals.{Met, number_of_refusal, number_met}
-use Rattle.constants.specs.declared.refusal.Refusal.{Refusal}
 use Rattle.constants.specs.Sizes.{memory_size}
-use Rattle.bus.specs.Image.{short, asked_state}
-use Rattle.bus.specs.declared.registers.Registers.{Registers}
-use Rattle.bus.specs.Answer.{Asked}
+use Rattle.bus.specs.Image.{short}
 use Rattle.bus.proofs.Legal.{long}
 use Rattle.widebus.specs.Pair.{Pair, Lent}
-use Rattle.widebus.specs.Asked.{BothAsked, any_short, both_found, asked_both}
-use Rattle.widebus.specs.OnBoth.{lengths_met}
+use Rattle.widebus.specs.Asked.{BothAsked, any_short, asked_both}
 use Rattle.widebus.specs.declared.both.Both.{Both}
-use Rattle.widebus.proofs.Numbered.{none_refused}
 
 -- neither of two tests
 pub neither : (s t : Bool) → (s || t) ≡ false → (s ≡ false) × (t ≡ false)

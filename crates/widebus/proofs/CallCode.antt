@@ -8,7 +8,7 @@ use Rattle.std.specs.Prelude.{Ok, Err}
 use Rattle.constants.specs.Numbers.{taken, too_short, out_of_range, both_selected}
 use Rattle.constants.specs.Refusals.{Met, number_of_refusal, number_met}
 use Rattle.constants.specs.declared.refusal.Refusal.{Refusal}
-use Rattle.bus.specs.Image.{short, legal}
+use Rattle.bus.specs.Image.{legal}
 use Rattle.bus.specs.Registers.{power_on}
 use Rattle.bus.specs.Chip.{Event, reset_pulse}
 use Rattle.bus.specs.Events.{number_of, byte_of, dummy_of}
@@ -132,9 +132,9 @@ module _ (number : ℕ) (e : Event) (all : Pair Lent) (decided : Decided number 
     by_both l none h = selected (rw (l, none) h)
 
     -- a read with both selected is refused 14
-    pub read_both : selection ≡ Selection.Both → is_read e ≡ true → (refusal : Refusal) → number_of_refusal refusal ≡ both_selected → wide_called (reply_to (Err refusal)) all ≡ wide_call number e all
-    unfolding call_selected
-    read_both l reads refusal same = selected (rw (l, reads) (as_refused refusal all (sym same)))
+    pub read_both : selection ≡ Selection.Both → is_read e ≡ true → {n : ℕ} → n ≡ both_selected → wide_called (numbered n) all ≡ wide_call number e all
+    unfolding call_selected refused_wide reply_of number_of byte_of dummy_of
+    read_both l reads same = selected (rw (l, reads, same))
 
 -- on states that were asked
 module _ (number : ℕ) (e : Event) (all : Pair Lent) (up : TakenUp number e all) {selection : Selection} (named : gives selection ≡ selection_of number) where

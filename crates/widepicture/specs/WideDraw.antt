@@ -6,7 +6,7 @@ use Rattle.picture.specs.Frame.{row_of}
 use Rattle.picture.specs.Draw.{Drawn, drawn}
 use Rattle.widebus.specs.Pair.{Pair, Lent, chips_of}
 use Rattle.widebus.specs.Asked.{asked_both}
-use Rattle.widebus.specs.declared.both.BothAsked.{BothAsked}
+use Rattle.widebus.specs.Asked.{BothAsked}
 use Rattle.widepicture.specs.WideFrame.{wide_frame}
 
 -- Drawing on what was asked first; bytes of the lent frame past its needed length never change.

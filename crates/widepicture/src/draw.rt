@@ -1,19 +1,20 @@
 // The call that draws the wide frame, lent states and memories of both chips and a frame.
-ghost use Rattle.std.specs.Prelude.{◌≡◌, ◌++◌, ◌≤◌, length, drop};
-ghost use Rattle.constants.specs.Sizes.{memory_size, frame_rows, wide_frame_size};
+ghost use Rattle.std.specs.Prelude.{◌≡◌, ◌≤◌, length};
+ghost use Rattle.constants.specs.Refusals.{number_met};
+ghost use Rattle.constants.specs.Sizes.{memory_size, frame_rows};
 ghost use Rattle.picture.specs.Frame.{frame};
 ghost use Rattle.picture.specs.Draw.{drawn};
 ghost use Rattle.widebus.specs.Pair.{chips_of, both_lent};
 ghost use Rattle.widepicture.specs.WideFrame.{wide_frame, first_column};
 ghost use Rattle.widepicture.specs.WideDraw.{draw_wide, rows_written};
 
-use crate::whole::{Shade, fill, shade_of};
+use crate::whole::shade_of;
 use bus::registers::Registers;
-use constants::refusal::{TAKEN, TOO_SHORT};
+use constants::refusal::Refusal;
 use constants::sizes::{FRAME_ROWS, WIDE_FRAME_SIZE, WIDE_WIDTH, WIDTH};
 use picture::draw::draw_line;
 use picture::rows::PanelRow;
-use widebus::both::{Both, BothAsked, ask};
+use widebus::both::{Both, ask};
 use widebus::selection::Side;
 
 // Draws the wide frame, or refuses and writes nothing.
@@ -23,49 +24,47 @@ pub fn draw(
     right_state: &[u8],
     right_memory: &[u8],
     frame: &mut [u8],
-) -> u8
-    ensures { drawn result frame.new ≡ draw_wide (both_lent left_state.now left_memory.now right_state.now right_memory.now) frame.old }
+) -> Result<(), Refusal>
+    ensures { drawn (number_met result) frame.new ≡ draw_wide (both_lent left_state.now left_memory.now right_state.now right_memory.now) frame.old }
 {
-    if frame.len() < WIDE_FRAME_SIZE {
-        return TOO_SHORT;
-    }
-    match ask(left_state, left_memory, right_state, right_memory) {
-        BothAsked::Found(registers) => {
-            draw_both(registers, left_memory, right_memory, frame);
-            TAKEN
-        }
-        BothAsked::Refused(number) => number,
-    }
+    let Some(places) = frame.first_chunk_mut() else {
+        return Err(Refusal::TooShort);
+    };
+    let registers = ask(left_state, left_memory, right_state, right_memory)?;
+    draw_both(registers, left_memory, right_memory, places);
+    Ok(())
 }
 
 // Draws both halves, or the whole frame at once where the registers of both chips tell one shade, since each narrow frame is then drawn at once too.
-fn draw_both(registers: Both, left_memory: &[u8], right_memory: &[u8], frame: &mut [u8])
-    requires { (memory_size ≤ length left_memory.now) × (memory_size ≤ length right_memory.now) × (wide_frame_size ≤ length frame.old) }
-    ensures { frame.new ≡ wide_frame (chips_of registers left_memory.now right_memory.now) ++ drop wide_frame_size frame.old }
+fn draw_both(
+    registers: Both,
+    left_memory: &[u8],
+    right_memory: &[u8],
+    places: &mut [u8; WIDE_FRAME_SIZE],
+)
+    requires { (memory_size ≤ length left_memory.now) × (memory_size ≤ length right_memory.now) }
+    ensures { places.new ≡ wide_frame (chips_of registers left_memory.now right_memory.now) }
 {
     let left = shade_of(registers.left);
     let right = shade_of(registers.right);
-    if let Shade::All(shade) = left {
-        if let Shade::All(other) = right {
-            if shade == other {
-                fill(frame, shade);
-                return;
-            }
+    if let (Some(shade), Some(other)) = (left, right) {
+        if shade == other {
+            places.fill(shade);
+            return;
         }
     }
-    draw_half(Side::Left, registers.left, left_memory, frame);
-    draw_half(Side::Right, registers.right, right_memory, frame);
+    draw_half(Side::Left, registers.left, left_memory, places);
+    draw_half(Side::Right, registers.right, right_memory, places);
 }
 
-// Draws each row of one chip into its half of a wide row. A loop for each chip is what keeps the wide frame near twice the time of one.
-fn draw_half(side: Side, registers: Registers, memory: &[u8], places: &mut [u8])
-    requires { (memory_size ≤ length memory.now) × (wide_frame_size ≤ length places.old) }
+// Draws each row of one chip into its half of a wide row. A loop for each chip is what keeps the wide frame near twice the time of one. The part is cut by hand, as in picture's draw.rt.
+fn draw_half(side: Side, registers: Registers, memory: &[u8], places: &mut [u8; WIDE_FRAME_SIZE])
+    requires { memory_size ≤ length memory.now }
     ensures { places.new ≡ rows_written (first_column side) frame_rows (frame registers memory.now) places.old }
 {
     let first = first_column(side);
     for y in 0..FRAME_ROWS {
-        let row = y * WIDE_WIDTH;
-        let start = row + first;
+        let start = y * WIDE_WIDTH + first;
         let end = start + WIDTH;
         draw_line(
             registers,

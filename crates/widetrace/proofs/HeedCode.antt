@@ -17,7 +17,7 @@ use Rattle.constants.specs.declared.refusal.Refusal.{Refusal}
 use Rattle.constants.proofs.Refusals.{refusal_not_taken}
 use Rattle.bus.specs.Chip.{Chip}
 use Rattle.bus.specs.Stretch.{Stretched, stretch, stretch_of}
-use Rattle.bus.specs.declared.stretch.Stretch.{Stretch}
+use Rattle.bus.specs.Stretch.{Stretch}
 use Rattle.bus.proofs.StretchLaws.{stretches, the_chip_never_zero}
 use Rattle.trace.specs.Code.{Named, number_of_kind, recorded_in}
 use Rattle.trace.specs.Given.{Unknown, no_kind, loaded}

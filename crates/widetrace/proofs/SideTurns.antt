@@ -18,7 +18,7 @@ use Rattle.constants.specs.Sizes.{header_size}
 use Rattle.bus.specs.Chip.{Chip}
 use Rattle.bus.specs.Stretch.{stretch, stretch_of}
 use Rattle.bus.specs.declared.registers.Registers.{Registers}
-use Rattle.bus.specs.declared.stretch.Stretch.{Stretch}
+use Rattle.bus.specs.Stretch.{Stretch}
 use Rattle.trace.specs.Play.{stopped, done, gives, play_record}
 use Rattle.trace.specs.Kinds.{events_of, replay, chip_of}
 use Rattle.trace.specs.Code.{recorded_in}

@@ -3,8 +3,8 @@ use Prim.Native.Nat.{◌-◌, ◌≤◌}
 use lib.ListN.{length}
 use Rattle.listpack.proofs.list_entries.Given as goal
 
-abbrev pub invariant-loop-sizes : goal.invariant-loop-sizes
-invariant-loop-sizes g l = (l.at ≤ length l.pack) × (l.count ≤ l.at)
+abbrev pub invariant-loop-count : goal.invariant-loop-count
+invariant-loop-count g l = (l.at ≤ length l.pack) × (l.count ≤ l.at)
 
-abbrev pub decreases-loop-sizes : goal.decreases-loop-sizes
-decreases-loop-sizes g l = length l.pack - l.at
+abbrev pub decreases-loop-count : goal.decreases-loop-count
+decreases-loop-count g l = length l.pack - l.at

@@ -2,9 +2,11 @@
 use mathlib.Core.Path.{◌≡◌}
 use native.Mathlib.Omega.{arith}
 use borrow.Author.Tests.{lt-ltb}
-use Rattle.framelisting.specs.Listing.{outcome, written}
+use Rattle.constants.specs.Refusals.{number_met}
+use Rattle.trace.specs.Code.{stop_met}
+use Rattle.framelisting.specs.Listing.{listed_of, outcome, written}
 use Rattle.tracelisting.specs.TraceListing.{listing_of_trace, printed_of}
-use Rattle.tracelisting.proofs.ListedByCalls.{whole, finished, never_refused}
+use Rattle.tracelisting.proofs.ListedByCalls.{whole, finished}
 use Rattle.tracelisting.proofs.list_trace.Goals as goal
 use Rattle.tracelisting.proofs.list_trace.Goals.{After-list}
 
@@ -13,13 +15,10 @@ unfolding printed_of
 returns-then-text-lt-LONGEST_LISTING c = rw (lt-ltb _ _ c.if-text-lt-LONGEST_LISTING.true)
 
 -- what the listing leaves
-left : (c : After-list) → outcome c.list.result c.list.new.text ≡ written (listing_of_trace c.args.hung c.args.trace.now) c.args.text.now
+left : (c : After-list) → outcome (listed_of c.list.result) c.list.new.text ≡ written (listing_of_trace c.args.hung c.args.trace.now) c.args.text.now
 left c =
-    whole c.args.hung c.args.trace.now c.args.text.now c.start.new.state c.start.new.memory c.start.result c.run-stop.result c.run-stop.new.state c.run-stop.new.memory c.draw.new.frame c.list.new.text c.draw.result c.list.result c.start.ensures c.run-stop.ensures c.draw.ensures c.list.ensures (omega (arith, c.run-stop)) (omega (arith, c.run-stop)) (omega (arith, c.draw)) c.if-text-lt-LONGEST_LISTING.false
+    whole c.args.hung c.args.trace.now c.args.text.now c.start.new.state c.start.new.memory (number_met c.start.result) (stop_met c.run-stop.result) c.run-stop.new.state c.run-stop.new.memory c.draw.new.frame c.list.new.text (number_met c.draw.result) (listed_of c.list.result) c.start.ensures c.run-stop.ensures c.draw.ensures (rw c.number_met-number.ensures at c.list.ensures) (rw (← c.number_met-number.ensures) (omega (arith, c.number_met-number))) (omega (arith, c.run-stop)) (omega (arith, c.draw)) c.if-text-lt-LONGEST_LISTING.false
 
-pub returns-in-Written : goal.returns-in-Written
-returns-in-Written c =
-    finished c.args.hung c.args.trace.now c.args.text.now _ _ _ c.if-text-lt-LONGEST_LISTING.false (left (goal.at.returns-in-Written c).After-list) c.in-Written.is
-
-pub returns-in-Refused : goal.returns-in-Refused
-returns-in-Refused c = absurd (never_refused _ _ _ _ _ (left (goal.at.returns-in-Refused c).After-list) c.in-Refused.is)
+pub returns : goal.returns
+returns c =
+    rw c.unwrap_or.ensures (finished (listing_of_trace c.args.hung c.args.trace.now) c.args.text.now _ c.list.result c.if-text-lt-LONGEST_LISTING.false (left (goal.at.returns c).After-list))

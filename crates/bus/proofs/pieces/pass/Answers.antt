@@ -1,20 +1,15 @@
 -- `bus::pieces::pass` meets its contract: what is passed over comes first.
 use mathlib.Core.Path.{◌≡◌, sym, ◌∙◌, ap, subst}
-use Prim.Native.Nat.{◌+◌}
 use native.Mathlib.Omega.{arith}
 use lib.ListN.{length, drop, length-drop}
 use Rattle.constants.specs.Numbers.{taken}
 use Rattle.bus.specs.Places.{fresh}
 use Rattle.bus.specs.Registers.{◌with◌≔◌}
 use Rattle.bus.specs.Events.{access}
-use Rattle.bus.specs.Recorded.{read_as, chip_of, replay}
-use Rattle.bus.proofs.StretchLaws.{all_left}
-use Rattle.bus.specs.Reads.{PassedOver, reads_from, dummy_reads, after_dummy}
+use Rattle.bus.specs.Recorded.{chip_of}
+use Rattle.bus.specs.Reads.{PassedOver, reads_from, after_dummy}
 use Rattle.bus.proofs.PieceLaws.{dummy_first, further, part_to_the_end, still_ready, dummy_once, not_fresh}
 use Rattle.bus.proofs.pieces.pass.Goals as goal
-
-pub returns-then-bytes-lt-FEWEST : goal.returns-then-bytes-lt-FEWEST
-returns-then-bytes-lt-FEWEST c = (omega arith, all_left replay read_as c.args.bytes.now _)
 
 pub slice_bounds-pass-count : goal.slice_bounds-pass-count
 slice_bounds-pass-count c = omega (arith, c.dummy_reads-dummies.ensures, dummy_once c.args.registers.fresh)
@@ -43,6 +38,3 @@ returns c =
       omega (arith, first.0, length-drop d bytes, c.dummy_reads-dummies.ensures, dummy_once r.fresh),
       dummy_first bytes r memory allowed (omega arith) ∙ ap (λ k. reads_from k bytes (chip_of (r with fresh ≔ after_dummy r.fresh) memory)) (sym c.dummy_reads-dummies.ensures) ∙ ap (λ x. reads_from d bytes (chip_of x memory)) (sym left) ∙ further bytes d passed.result.count _ _ first.1,
     )
-
-pub returns-in_default : goal.returns-in_default
-returns-in_default c = (omega arith, all_left replay read_as c.args.bytes.now _)

@@ -1,5 +1,5 @@
 -- `bus::pieces::write_round` meets its contract: what is left of the stretch decides, piece by piece.
-use mathlib.Core.Path.{◌≡◌, refl, sym, ◌∙◌, ap}
+use mathlib.Core.Path.{◌≡◌, sym, ◌∙◌, ap}
 use mathlib.Core.List.{map}
 use Prim.Native.Nat.{◌+◌, ◌≤◌}
 use native.Mathlib.Omega.{arith}
@@ -13,18 +13,12 @@ use Rattle.bus.specs.Events.{access}
 use Rattle.bus.specs.Recorded.{recorded_write, chip_of, replay}
 use Rattle.bus.specs.Stretch.{stretch, stretched}
 use Rattle.bus.proofs.Access.{opened}
-use Rattle.bus.proofs.StretchLaws.{stretch_from, all_left, none_left}
+use Rattle.bus.proofs.StretchLaws.{stretch_from, none_left}
 use Rattle.bus.proofs.PieceLaws.{part_given}
 use Rattle.bus.proofs.pieces.write_round.Goals as goal
 
-pub loop-left-init : goal.loop-left-init
-loop-left-init c = (0, omega arith, refl, refl, c.requires.0, all_left replay recorded_write c.args.bytes.now _)
-
 pub piece_size-requires : goal.piece_size-requires
 piece_size-requires c = let some = eqb-false _ _ (sym c.is_empty.ensures ∙ c.loop-left-test.true) in ((opened _ _ c.loop-left.invariant.4).column, omega (arith, some))
-
-pub write_piece-registers-requires : goal.write_piece-registers-requires
-write_piece-registers-requires c = (c.loop-left.invariant.4, omega (arith, c.split_at.ensures.front_len), omega (arith, c.split_at.ensures.front_len))
 
 pub loop-left-preserved : goal.loop-left-preserved
 loop-left-preserved c =
@@ -46,9 +40,6 @@ loop-left-preserved c =
       ap (λ k. access w.result k) same ∙ w.ensures.0,
       loop.invariant.5 ∙ part_given replay recorded_write bytes at n inside _ _ written,
     )
-
-pub shape_of-memory : goal.shape_of-memory
-shape_of-memory c = c.loop-left.invariant.3
 
 pub returns : goal.returns
 returns c =

@@ -1,9 +1,9 @@
--- `bus::put::put_each` meets its contract: the first i are put, and the rest is as it was.
+-- `bus::put::put_each` meets its contract: the first i are put.
+use Prim.Native.Nat.{ℕ, ◌<◌}
 use mathlib.Core.Path.{◌≡◌}
-use mathlib.Core.List.{map}
+use lib.ListN.{get_or}
 use Rattle.bus.specs.Memory.{kept}
-use Rattle.bus.proofs.SideBySide.{over}
 use Rattle.bus.proofs.put.put_each.Given as goal
 
 abbrev pub invariant-loop-i : goal.invariant-loop-i
-invariant-loop-i l = l.places ≡ over l.i (map (kept l.page) l.bytes) l.fn.places
+invariant-loop-i l = (k : ℕ) → k < l.i → get_or l.places k 0 ≡ kept l.page (get_or l.bytes k 0)

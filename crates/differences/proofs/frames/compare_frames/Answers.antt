@@ -1,22 +1,20 @@
 -- `differences::frames::compare_frames` meets its contract: what is asked first refuses first.
-use mathlib.Core.Path.{◌≡◌, sym, ◌∙◌}
+use mathlib.Core.Path.{◌≡◌, sym, ◌∙◌, ap}
 use mathlib.Core.Bool.{true, false}
 use mathlib.Core.List.{List}
-use Prim.Native.Nat.{ℕ, ◌*◌, ◌≤◌, ◌<◌}
+use Prim.Native.Nat.{ℕ, ◌≤◌, ◌<◌}
 use native.Mathlib.Omega.{arith}
-use borrow.Author.Tests.{lt-ltb, le-ltb, ltb-true, ltb-false}
+use Rattle.std.proofs.lemmas.Grind.{common_steps}
+use borrow.Author.Tests.{lt-ltb, le-ltb}
 use lib.ListN.{length, take}
-use Rattle.constants.specs.Numbers.{frame_byte_above}
-use Rattle.constants.specs.Sizes.{frame_size, frame_entry_size}
+use Rattle.constants.specs.Sizes.{frame_size}
 use Rattle.differences.specs.Runs.{runs_of}
 use Rattle.differences.specs.Entries.{run_entry}
-use Rattle.differences.specs.Compare.{outcome, Outcome, listed, any_above, compare_frames}
-use Rattle.differences.specs.declared.compared.Compared.{Compared}
-use Rattle.differences.proofs.Entries.{run_sized}
+use Rattle.differences.specs.Compare.{outcome, listed, any_above, compare_frames}
+use Rattle.differences.specs.Compared.{Compared}
 use Rattle.differences.proofs.Given.{none_above}
-use Rattle.differences.proofs.Listed.{listed_not}
 use Rattle.differences.proofs.PutBack.{put_back}
-use Rattle.differences.proofs.PutEntries.{put_listed}
+use Rattle.differences.proofs.Coded.{frames_listed, handed_on}
 use Rattle.differences.proofs.frames.compare_frames.Goals as goal
 
 -- each thing that is asked
@@ -40,43 +38,38 @@ all_in_order : (f g list : List ℕ) → frame_size ≤ length f → frame_size 
 unfolding compare_frames
 all_in_order f g list h k e d = rw (le-ltb (length f) frame_size h, le-ltb (length g) frame_size k, e, d)
 
-pub returns-then-first-lt-FRAME_SIZE : goal.returns-then-first-lt-FRAME_SIZE
-returns-then-first-lt-FRAME_SIZE c = sym (first_short _ _ _ c.if-first-lt-FRAME_SIZE.true)
+pub returns-in_err-first : goal.returns-in_err-first
+returns-in_err-first c =
+    let refused = c.in_err-first.ensures in
+    rw (handed_on _ _ c.from_residual.ensures, refused.1) (sym (first_short _ _ _ refused.0))
 
-pub returns-then-second-lt-FRAME_SIZE : goal.returns-then-second-lt-FRAME_SIZE
-returns-then-second-lt-FRAME_SIZE c = sym (second_short _ _ _ c.if-first-lt-FRAME_SIZE.false c.if-second-lt-FRAME_SIZE.true)
-
-pub look-seen-requires : goal.look-seen-requires
-look-seen-requires c = (c.if-first-lt-FRAME_SIZE.false, c.if-second-lt-FRAME_SIZE.false)
+pub returns-in_err-second : goal.returns-in_err-second
+returns-in_err-second c =
+    let refused = c.in_err-second.ensures in
+    rw (handed_on _ _ c.from_residual-in_err-second.ensures, refused.1) (sym (second_short _ _ _ c.in_ok-first.ensures.0 refused.0))
 
 pub returns-then-seen : goal.returns-then-seen
-returns-then-seen c = sym (first_above _ _ _ c.if-first-lt-FRAME_SIZE.false c.if-second-lt-FRAME_SIZE.false (sym c.look-seen.ensures.0 ∙ c.if-seen.true))
+returns-then-seen c =
+    let f = c.in_ok-first.ensures in
+    sym (first_above _ _ _ f.0 c.in_ok-second.ensures.0 (ap any_above (sym f.1) ∙ sym c.look-seen.ensures.0 ∙ c.if-seen.true))
 
 pub returns-then-seen-2 : goal.returns-then-seen-2
-returns-then-seen-2 c = sym (put_back.same_frames _ _ _ c.if-first-lt-FRAME_SIZE.false c.if-second-lt-FRAME_SIZE.false (none_above frame_size _ (sym c.look-seen.ensures.0 ∙ c.if-seen.false)) (c.look-seen.ensures.1 c.if-seen-2.true))
+returns-then-seen-2 c =
+    let f = c.in_ok-first.ensures in
+    let g = c.in_ok-second.ensures in
+    sym (put_back.same_frames _ _ _ f.0 g.0 (none_above frame_size _ (ap any_above (sym f.1) ∙ sym c.look-seen.ensures.0 ∙ c.if-seen.false)) (sym f.1 ∙ c.look-seen.ensures.1 c.if-seen-2.true ∙ g.1))
 
--- refused by a number that is 12
-by_twelve : {n : ℕ} {list : List ℕ} {due : Outcome} → n ≡ frame_byte_above → due ≡ outcome (Compared.Refused frame_byte_above) list → outcome (Compared.Refused n) list ≡ due
-by_twelve e h = rw e (sym h)
+pub returns-then-above : goal.returns-then-above
+returns-then-above c =
+    let f = c.in_ok-first.ensures in
+    let g = c.in_ok-second.ensures in
+    let above : any_above c.in_ok-second.second.now ≡ true = grind (arith, common_steps) in
+    sym (second_above _ _ _ f.0 g.0 (ap any_above (sym f.1) ∙ sym c.look-seen.ensures.0 ∙ c.if-seen.false) (ap any_above (sym g.1) ∙ above))
 
-pub returns-then-any_above : goal.returns-then-any_above
-returns-then-any_above c = by_twelve (omega arith) (second_above _ _ _ c.if-first-lt-FRAME_SIZE.false c.if-second-lt-FRAME_SIZE.false (sym c.look-seen.ensures.0 ∙ c.if-seen.false) (sym c.any_above.ensures ∙ c.if-any_above.true))
-
-pub returns-then-too_small : goal.returns-then-too_small
-returns-then-too_small c =
-    let all = all_in_order _ _ _ c.if-first-lt-FRAME_SIZE.false c.if-second-lt-FRAME_SIZE.false (sym c.look-seen.ensures.0 ∙ c.if-seen.false) (sym c.any_above.ensures ∙ c.if-any_above.false) in
-    sym (all ∙ listed_not frame_entry_size run_entry run_sized _ _ (ltb-true _ _ (sym c.too_small.ensures ∙ c.if-too_small.true)))
-
-pub put_rows-requires : goal.put_rows-requires
-put_rows-requires c =
-    let a = c.args in
-    let room : length (runs_of a.first.now a.second.now) * frame_entry_size ≤ length a.list.now = ltb-false _ _ (sym c.too_small.ensures ∙ c.if-too_small.false) in
-    record {
-      frame_size_in_bounds = (c.if-first-lt-FRAME_SIZE.false, c.if-second-lt-FRAME_SIZE.false);
-      room = omega (arith, room);
-    }
-
-pub returns-else-too_small : goal.returns-else-too_small
-returns-else-too_small c =
-    let all = all_in_order _ _ _ c.if-first-lt-FRAME_SIZE.false c.if-second-lt-FRAME_SIZE.false (sym c.look-seen.ensures.0 ∙ c.if-seen.false) (sym c.any_above.ensures ∙ c.if-any_above.false) in
-    put_listed frame_entry_size run_entry run_sized c.put_rows.ensures (ltb-false _ _ (sym c.too_small.ensures ∙ c.if-too_small.false)) ∙ sym all
+pub returns : goal.returns
+returns c =
+    let f = c.in_ok-first.ensures in
+    let g = c.in_ok-second.ensures in
+    let none = ap any_above (sym f.1) ∙ sym c.look-seen.ensures.0 ∙ c.if-seen.false in
+    let above : any_above c.in_ok-second.second.now ≡ false = grind (arith, common_steps) in
+    c.list_all.ensures ∙ frames_listed _ _ _ _ _ f.1 g.1 ∙ sym (all_in_order _ _ _ f.0 g.0 none (ap any_above (sym g.1) ∙ above))

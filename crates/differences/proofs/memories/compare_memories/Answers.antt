@@ -1,18 +1,15 @@
 -- `differences::memories::compare_memories` meets its contract: what is asked first refuses first.
-use mathlib.Core.Path.{◌≡◌, sym, ◌∙◌}
+use mathlib.Core.Path.{◌≡◌, sym, ◌∙◌, ap}
 use mathlib.Core.List.{List}
-use Prim.Native.Nat.{ℕ, ◌*◌, ◌≤◌, ◌<◌}
-use native.Mathlib.Omega.{arith}
-use borrow.Author.Tests.{lt-ltb, le-ltb, ltb-true, ltb-false}
+use Prim.Native.Nat.{ℕ, ◌≤◌, ◌<◌}
+use borrow.Author.Tests.{lt-ltb, le-ltb}
 use lib.ListN.{length}
-use Rattle.constants.specs.Sizes.{memory_size, memory_entry_size}
+use Rattle.constants.specs.Sizes.{memory_size}
 use Rattle.differences.specs.Bytes.{bytes_of}
 use Rattle.differences.specs.Entries.{byte_entry}
 use Rattle.differences.specs.Compare.{outcome, listed, compare_memories}
-use Rattle.differences.specs.declared.compared.Compared.{Compared}
-use Rattle.differences.proofs.Entries.{byte_sized}
-use Rattle.differences.proofs.Listed.{listed_not}
-use Rattle.differences.proofs.PutEntries.{put_listed}
+use Rattle.differences.specs.Compared.{Compared}
+use Rattle.differences.proofs.Coded.{memories_listed, handed_on}
 use Rattle.differences.proofs.memories.compare_memories.Goals as goal
 
 -- each thing that is asked
@@ -28,23 +25,18 @@ all_in_order : (f g list : List ℕ) → memory_size ≤ length f → memory_siz
 unfolding compare_memories
 all_in_order f g list h k = rw (le-ltb (length f) memory_size h, le-ltb (length g) memory_size k)
 
-pub returns-then-first-lt-MEMORY_SIZE : goal.returns-then-first-lt-MEMORY_SIZE
-returns-then-first-lt-MEMORY_SIZE c = sym (first_short _ _ _ c.if-first-lt-MEMORY_SIZE.true)
+pub returns-in_err-first : goal.returns-in_err-first
+returns-in_err-first c =
+    let refused = c.in_err-first.ensures in
+    rw (handed_on _ _ c.from_residual.ensures, refused.1) (sym (first_short _ _ _ refused.0))
 
-pub returns-then-second-lt-MEMORY_SIZE : goal.returns-then-second-lt-MEMORY_SIZE
-returns-then-second-lt-MEMORY_SIZE c = sym (second_short _ _ _ c.if-first-lt-MEMORY_SIZE.false c.if-second-lt-MEMORY_SIZE.true)
-
-pub returns-then-too_small : goal.returns-then-too_small
-returns-then-too_small c = sym (all_in_order _ _ _ c.if-first-lt-MEMORY_SIZE.false c.if-second-lt-MEMORY_SIZE.false ∙ listed_not memory_entry_size byte_entry byte_sized _ _ (ltb-true _ _ (sym c.too_small.ensures ∙ c.if-too_small.true)))
-
-pub put_pages-requires : goal.put_pages-requires
-put_pages-requires c =
-    let a = c.args in
-    let room : length (bytes_of a.first.now a.second.now) * memory_entry_size ≤ length a.list.now = ltb-false _ _ (sym c.too_small.ensures ∙ c.if-too_small.false) in
-    record {
-      memory_size_in_bounds = (c.if-first-lt-MEMORY_SIZE.false, c.if-second-lt-MEMORY_SIZE.false);
-      room = omega (arith, room);
-    }
+pub returns-in_err-second : goal.returns-in_err-second
+returns-in_err-second c =
+    let refused = c.in_err-second.ensures in
+    rw (handed_on _ _ c.from_residual-in_err-second.ensures, refused.1) (sym (second_short _ _ _ c.in_ok-first.ensures.0 refused.0))
 
 pub returns : goal.returns
-returns c = put_listed memory_entry_size byte_entry byte_sized c.put_pages.ensures (ltb-false _ _ (sym c.too_small.ensures ∙ c.if-too_small.false)) ∙ sym (all_in_order _ _ _ c.if-first-lt-MEMORY_SIZE.false c.if-second-lt-MEMORY_SIZE.false)
+returns c =
+    let f = c.in_ok-first.ensures in
+    let g = c.in_ok-second.ensures in
+    c.list_all.ensures ∙ memories_listed _ _ _ _ _ f.1 g.1 ∙ sym (all_in_order _ _ _ f.0 g.0)

@@ -8,6 +8,6 @@ pub returns-then-begins_with : goal.returns-then-begins_with
 unfolding hung_by ascii
 returns-then-begins_with c = rw (sym c.begins_with.ensures ∙ c.if-begins_with.true) refl
 
-pub returns : goal.returns
+pub returns-else-begins_with : goal.returns-else-begins_with
 unfolding hung_by ascii
-returns c = rw (sym c.begins_with.ensures ∙ c.if-begins_with.false) refl
+returns-else-begins_with c = rw (sym c.begins_with.ensures ∙ c.if-begins_with.false) refl

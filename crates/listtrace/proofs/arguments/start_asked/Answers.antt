@@ -1,41 +1,27 @@
 -- `listtrace::arguments::start_asked` meets its contract: each test decides as the definition's does.
-use mathlib.Core.Path.{◌≡◌, refl, sym, ◌∙◌}
-use mathlib.Core.Bool.{and-false}
+use mathlib.Core.Path.{◌≡◌, sym, ◌∙◌}
+use mathlib.Core.Bool.{false≢true}
 use native.Mathlib.Omega.{arith}
-use borrow.Author.Tests.{lt-ltb, le-ltb, ne_eqb}
-use lib.ListN.{length}
-use Rattle.framelisting.specs.Ascii.{ascii}
-use Rattle.listtrace.specs.StartAsked.{start_asked}
+use Rattle.std.proofs.lemmas.Bool.Decides.{Decides-eqb}
+use Rattle.std.proofs.lemmas.Slice.Eq.{slice_eq-Decides}
+use Rattle.listtrace.specs.StartAsked.{start_asked, upright_argument}
+use Rattle.listtrace.proofs.StartAsked.{start_asked_lem}
 use Rattle.listtrace.proofs.arguments.start_asked.Goals as goal
+use Rattle.listtrace.proofs.arguments.start_asked.Goals.{else-count-eq2-via-then-count-eq2+else-eq, else-count-eq2-via-else-count-eq2}
 
 pub returns-then-count-lt2 : goal.returns-then-count-lt2
-unfolding start_asked
-returns-then-count-lt2 c = rw (lt-ltb _ 2 c.if-count-lt2.true) refl
+returns-then-count-lt2 c = sym (start_asked_lem.none _ _ c.if-count-lt2.true)
 
-pub returns-then-count-gt2 : goal.returns-then-count-gt2
-unfolding start_asked
-returns-then-count-gt2 c =
-    let count = c.args.count in
-    rw (le-ltb count 2 (omega arith), ne_eqb count 2 (λ e. omega arith)) refl
-
-pub returns-then-word-ne-UPRIGHT_LENGTH : goal.returns-then-word-ne-UPRIGHT_LENGTH
-unfolding start_asked
-returns-then-word-ne-UPRIGHT_LENGTH c =
-    let a = c.args in
-    rw (le-ltb a.count 2 (omega arith), ne_eqb (length a.word.now) 9 (λ e. omega arith), and-false) refl
-
-pub returns-then-begins_with : goal.returns-then-begins_with
-unfolding start_asked ascii
-returns-then-begins_with c =
-    let a = c.args in
-    let two : a.count ≡ 2 = omega arith in
-    let nine : length a.word.now ≡ 9 = omega arith in
-    rw (two, nine, sym c.begins_with.ensures ∙ c.if-begins_with.true) refl
+pub returns-then-eq : goal.returns-then-eq
+returns-then-eq c =
+    let spelt : c.args.word.now ≡ upright_argument = (slice_eq-Decides Decides-eqb _ _ c.eq.result c.eq.ensures).0 c.if-eq.true ∙ c.as_slice.ensures in
+    rw (c.if-count-eq2.true, spelt) (sym start_asked_lem.named)
 
 pub returns : goal.returns
-unfolding start_asked ascii
 returns c =
-    let a = c.args in
-    let two : a.count ≡ 2 = omega arith in
-    let nine : length a.word.now ≡ 9 = omega arith in
-    rw (two, nine, sym c.begins_with.ensures ∙ c.if-begins_with.false) refl
+    elim c.else-count-eq2.branch [
+      else-count-eq2-via-then-count-eq2+else-eq w ↦
+        let differs : c.args.word.now ≡ upright_argument → ⊥ = λ e. false≢true (sym w.if-eq.false ∙ (slice_eq-Decides Decides-eqb _ _ w.eq.result w.eq.ensures).1 (e ∙ sym w.as_slice.ensures)) in
+        rw w.if-count-eq2.true (sym (start_asked_lem.other _ differs))
+    | else-count-eq2-via-else-count-eq2 w ↦ sym (start_asked_lem.more _ _ (omega (arith, c.if-count-lt2.false, w.if-count-eq2.false)))
+    ]

@@ -1,10 +1,11 @@
 -- `picture::draw::draw_rows` meets its contract: the rows passed are drawn, what follows is as it was.
 use mathlib.Core.Path.{◌≡◌, refl, ◌∙◌}
+use mathlib.Core.List.{append-nil}
 use Prim.Native.Nat.{◌+◌, ◌*◌, ◌-◌}
 use native.Mathlib.Omega.{arith}
-use lib.ListN.{length-take, length-drop}
+use lib.ListN.{drop_of_length-le}
 use Rattle.constants.specs.Sizes.{width, frame_rows}
-use Rattle.picture.proofs.Lines.{grid_kept, grid_turn}
+use Rattle.picture.proofs.Lines.{grid_turn}
 use Rattle.picture.specs.Frame.{grid, frame}
 use Rattle.picture.proofs.draw.draw_rows.Invariants.{shown}
 use Rattle.picture.proofs.draw.draw_rows.Goals as goal
@@ -13,30 +14,15 @@ pub loop-y-init : goal.loop-y-init
 unfolding grid
 loop-y-init c = (omega arith, refl)
 
-pub slice_bounds-draw_row-end : goal.slice_bounds-draw_row-end
-slice_bounds-draw_row-end c =
-    let a = c.args in
-    rw (c.loop-y.invariant.1, grid_kept width c.loop-y.y (shown a.registers a.memory.now) a.places.now (omega arith)) (omega arith)
-
-pub draw_row-requires : goal.draw_row-requires
-draw_row-requires c =
-    let a = c.args in
-    let y = c.loop-y.y in
-    (omega arith, omega arith, rw (length-take, length-drop, c.loop-y.invariant.1, grid_kept width y (shown a.registers a.memory.now) a.places.now (omega arith)) (omega arith))
-
 pub loop-y-preserved : goal.loop-y-preserved
 loop-y-preserved c =
     let a = c.args in
     let y = c.loop-y.y in
     (omega arith, rw c.loop-y.invariant.1 (grid_turn width y (y * width + width - y * width) (shown a.registers a.memory.now) a.places.now c.draw_row.new.places (omega arith) c.draw_row.ensures))
 
-pub shape_of-places : goal.shape_of-places
-shape_of-places c =
-    let a = c.args in
-    rw c.loop-y.invariant.1 (grid_kept width c.loop-y.y (shown a.registers a.memory.now) a.places.now (omega arith))
-
 pub returns : goal.returns
 unfolding frame
 returns c =
+    let a = c.args in
     let e : c.loop-y.y ≡ frame_rows = omega arith in
-    c.loop-y.invariant.1 ∙ rw e
+    c.loop-y.invariant.1 ∙ rw (e, drop_of_length-le a.places.now {i = frame_rows * width} (omega arith), append-nil)

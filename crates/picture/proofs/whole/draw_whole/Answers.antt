@@ -1,22 +1,13 @@
--- `picture::whole::draw_whole` meets its contract: the memory is upright, as it lies or made so, and each row has its number.
+-- `picture::whole::draw_whole` meets its contract: the memory is upright as it lies, or is made so.
 use mathlib.Core.Path.{◌∙◌}
-use borrow.Author.Rules.{rules}
-use lib.Bits.{mask_lt}
-use Rattle.picture.proofs.Upright.{upright_already, upright_made, frame_numbered}
+use Rattle.picture.proofs.Upright.{upright_already, frame_seen, rows_within}
 use Rattle.picture.proofs.whole.draw_whole.Goals as goal
 
-pub returns-then-reverse-eq0 : goal.returns-then-reverse-eq0
-returns-then-reverse-eq0 c =
-    let a = c.args in
-    let upright = upright_already a.registers a.memory.now c.if-registers-eq0.true c.if-reverse-eq0.true in
-    c.draw_numbered.ensures ∙ rw (frame_numbered a.registers a.memory.now a.memory.now c.requires.0 c.requires.1 upright _ c.number_rows.ensures)
+pub draw_upright-requires : goal.draw_upright-requires
+draw_upright-requires c = rows_within c.args.registers _ c.rows_shown-rows.ensures
 
-pub bring_upright-requires : goal.bring_upright-requires
-bring_upright-requires c = search (rules, mask_lt c.args.registers.reverse 1)
-
-pub returns : goal.returns
-returns c =
+pub returns-then-registers-eq0-2 : goal.returns-then-registers-eq0-2
+returns-then-registers-eq0-2 c =
     let a = c.args in
-    let made = c.bring_upright.new.upright in
-    let upright = upright_made a.registers a.memory.now made c.bring_upright.ensures in
-    c.draw_numbered-2.ensures ∙ rw (frame_numbered a.registers a.memory.now made c.requires.0 c.requires.1 upright _ c.number_rows.ensures)
+    let upright = upright_already a.registers a.memory.now c.if-registers-eq0.true c.if-registers-eq0-2.true in
+    c.draw_upright.ensures ∙ frame_seen a.registers a.memory.now a.memory.now c.requires.0 c.requires.1 upright _ c.rows_shown-rows.ensures

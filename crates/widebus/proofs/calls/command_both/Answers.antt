@@ -22,7 +22,7 @@ pub returns : goal.returns
 returns c =
     let a = c.args in
     let follows : command_meets a.byte a.left_state.now ≡ taken → command_meets a.byte a.right_state.now ≡ taken = elim c.if-awaited.branch [
-      then-awaited+in_ok-tried+in_ok-tried-2 w ↦ λ _. sym w.in_ok-tried-2.ensures
-    | else-awaited w ↦ λ took. sym (alike a.byte a.left_state.now a.right_state.now c.requires.0.enough c.requires.1.enough (sym c.awaited.ensures ∙ w.if-awaited.false ∙ c.awaited-2.ensures)) ∙ took
+      | then-awaited+in_ok-tried+in_ok-tried-2 w ↦ λ _. sym w.in_ok-tried-2.ensures
+      | else-awaited w ↦ λ took. sym (alike a.byte a.left_state.now a.right_state.now c.requires.0.enough c.requires.1.enough (sym c.awaited.ensures ∙ w.if-awaited.false ∙ c.awaited-2.ensures)) ∙ took
     ] in
     right_next a.byte _ _ follows c.in_ok-command.ensures refl c.command-2.ensures

@@ -1,7 +1,6 @@
 -- `widebus::calls::read` meets its contract: what is asked first, the selection, and the event on the one selected state.
 use mathlib.Core.Path.{refl}
 use native.Mathlib.Omega.{arith}
-use Rattle.constants.specs.declared.refusal.Refusal.{Refusal}
 use Rattle.widebus.proofs.Numbered.{exits}
 use Rattle.widebus.proofs.CallCode.{ranges_refuse, taken_up, not_selected, on_left, on_right, read_both}
 use Rattle.widebus.proofs.calls.read.Goals as goal
@@ -20,4 +19,4 @@ pub returns-in-Right : goal.returns-in-Right
 returns-in-Right c = on_right _ _ _ (taken_up _ _ _ refl c.in_ok-ask_ranges.ensures) c.in_ok-try_from.ensures c.in-Right.is c.read-in-Right.ensures
 
 pub returns-in-Both : goal.returns-in-Both
-returns-in-Both c = read_both _ _ _ (taken_up _ _ _ refl c.in_ok-ask_ranges.ensures).decided c.in_ok-try_from.ensures c.in-Both.is refl Refusal.BothSelected (omega arith)
+returns-in-Both c = read_both _ _ _ (taken_up _ _ _ refl c.in_ok-ask_ranges.ensures).decided c.in_ok-try_from.ensures c.in-Both.is refl (grind arith)

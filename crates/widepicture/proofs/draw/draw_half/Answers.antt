@@ -4,18 +4,12 @@ use Prim.Native.Nat.{◌+◌, ◌*◌, ◌-◌}
 use native.Mathlib.Omega.{arith}
 use Rattle.constants.specs.Sizes.{width, frame_rows, wide_width}
 use Rattle.widepicture.specs.WideDraw.{rows_written}
-use Rattle.widepicture.proofs.HalfRows.{column_within, rows_kept, rows_turn}
+use Rattle.widepicture.proofs.HalfRows.{column_within, rows_turn}
 use Rattle.widepicture.proofs.draw.draw_half.Goals as goal
 
 pub loop-y-init : goal.loop-y-init
 unfolding rows_written
 loop-y-init c = (omega arith, omega (arith, column_within c.args.side, c.first_column-first.ensures), refl)
-
-pub slice_bounds-draw_line-end : goal.slice_bounds-draw_line-end
-slice_bounds-draw_line-end c =
-    let a = c.args in
-    let loop = c.loop-y in
-    omega (arith, rows_kept a.registers a.memory.now c.first_column-first.result loop.invariant.1 a.places.now (omega arith) loop.y loop.invariant.0 loop.invariant.2)
 
 pub loop-y-preserved : goal.loop-y-preserved
 loop-y-preserved c =
@@ -23,12 +17,6 @@ loop-y-preserved c =
     let loop = c.loop-y in
     let start = loop.y * wide_width + c.first_column-first.result in
     (omega arith, loop.invariant.1, rows_turn a.registers a.memory.now c.first_column-first.result loop.invariant.1 a.places.now (omega arith) loop.y (start + width - start) loop.places c.draw_line.new.places (omega arith) (omega arith) loop.invariant.2 (omega arith) c.draw_line.ensures)
-
-pub shape_of-places : goal.shape_of-places
-shape_of-places c =
-    let a = c.args in
-    let loop = c.loop-y in
-    rows_kept a.registers a.memory.now c.first_column-first.result loop.invariant.1 a.places.now (omega arith) loop.y loop.invariant.0 loop.invariant.2
 
 pub returns : goal.returns
 returns c =

@@ -1,11 +1,11 @@
 -- `bus::pieces::Reading::pass_again` meets its contract: the one byte is read again and again.
-use mathlib.Core.Path.{◌≡◌, sym, ◌∙◌, ap}
+use mathlib.Core.Path.{sym, ◌∙◌, ap}
 use native.Mathlib.Omega.{arith}
 use lib.ListN.{get_or}
 use Rattle.bus.specs.Memory.{kept}
 use Rattle.bus.specs.Recorded.{read_as, replay}
 use Rattle.bus.proofs.Access.{opened, address_inside}
-use Rattle.bus.proofs.StretchLaws.{all_left, none_left}
+use Rattle.bus.proofs.StretchLaws.{none_left}
 use Rattle.bus.proofs.PieceLaws.{again_read}
 use Rattle.bus.proofs.pieces.Reading.pass_again.Goals as goal
 
@@ -18,6 +18,3 @@ returns-then-repeats c =
     let bytes = c.args.bytes.now in
     let byte = c.kept-byte.ensures ∙ ap (λ k. kept s.registers.page (get_or s.memory.now k 0)) c.address-at.ensures in
     (omega arith, again_read bytes s.registers s.memory.now s.allowed s.no_dummy c.requires (λ i h. sym byte ∙ c.repeats.ensures c.if-repeats.true i h) ∙ sym (none_left replay read_as bytes _))
-
-pub returns-else-repeats : goal.returns-else-repeats
-returns-else-repeats c = (omega arith, all_left replay read_as c.args.bytes.now _)

@@ -4,4 +4,4 @@ use Rattle.picture.proofs.rows.PanelRow.belongs_to.Goals as goal
 
 pub returns : goal.returns
 unfolding com_of
-returns c = rw (c.around.ensures, c.shifted_by.ensures)
+returns c = rw (c.around.ensures, c.from.ensures, c.shifted_by.ensures)
