@@ -82,12 +82,7 @@ pub fn play(mut registers: Registers, memory: &mut [u8], trace: &[u8]) -> Played
 }
 
 // The end of a played trace.
-fn end(
-    outcome: Result<(), Refusal>,
-    offset: usize,
-    count: usize,
-    registers: Registers,
-) -> Played
+fn end(outcome: Result<(), Refusal>, offset: usize, count: usize, registers: Registers) -> Played
     ensures { result ≡ record { stop = record { outcome = outcome; offset = offset; count = count }; registers = registers } }
 {
     Played {
