@@ -216,9 +216,27 @@ check 'two calls of one name' err_has 'two functions are ssd1815b_draw: host::dr
 read_of < <(program | sed 's/{"Call":\[{"Fn":\["bus::image::ask"/{"CallV":[{"Fn":["bus::image::ask"/')
 refused 'a call through a pointer' '^host::draw::ssd1815b_draw: has callv$'
 read_of < <(program | sed 's/{"Fn":\["bus::image::ask"/{"Method":["bus::image::ask"/')
-refused 'a call by a trait' '^host::draw::ssd1815b_draw: has a call by method$'
-read_of < <(program | sed '/"bus::image::ask",{"params"/s/"dicts":\[\]/"dicts":[{"Given":0}]/')
-refused 'a trait that a call is handed' '^host::draw::ssd1815b_draw > bus::image::ask: has a call that is handed a trait$'
+refused 'a call by a trait that nobody handed' '^host::draw::ssd1815b_draw: has a trait by bus::image::ask$'
+# handed TRAIT: the program, where the call of bus::image::short is handed it.
+handed() { program | sed "/\"bus::image::ask\",{\"params\"/s/\"dicts\":\[\]/\"dicts\":[$1]/"; }
+read_of < <(handed '{"Given":0}'; fn bus::image::Tried::tried Rem/Unsigned)
+passed 'a trait that a call hands on'
+read_of < <(handed '{"Impl":["bus::image::Tried",[],[]]}'; fn bus::image::Tried::tried Rem/Unsigned)
+refused 'a trait that a call is handed' '^host::draw::ssd1815b_draw > bus::image::ask > bus::image::Tried::tried: has rem$'
+read_of < <(handed '{"Impl":["bus::image::Tried",[],[{"Impl":["bus::image::Inner",[],[]]}]]}'; fn bus::image::Tried::tried Eq; fn bus::image::Inner::tried Rem/Unsigned)
+refused 'a trait within it' '^host::draw::ssd1815b_draw > bus::image::ask > bus::image::Inner::tried: has rem$'
+read_of < <(handed '{"Impl":["bus::image::Tried",[],[]]}')
+refused 'a trait of which nothing is there' '^host::draw::ssd1815b_draw > bus::image::ask: has a call that is handed bus::image::Tried, of which nothing is there$'
+read_of < <(handed '{"Object":0}')
+refused 'a trait that is not known' '^host::draw::ssd1815b_draw > bus::image::ask: has a trait by object$'
+read_of < <(program | sed '/^\["bus::image::short",{"params"/s/"params":1/"params":1,"generics":{"bounds":[{"of":"core::Try"}]}/'
+  fn core::Try::tried+decl Rem/Unsigned; fn core::Try::again Rem/Unsigned)
+refused "a trait's own function" '^host::draw::ssd1815b_draw > bus::image::ask > bus::image::short > core::Try::again: has rem$'
+check "a trait's own function: no more" out_is 'host::draw::ssd1815b_draw > bus::image::ask > bus::image::short > core::Try::again: has rem'
+read_of < <(program | sed '/^\["picture::rows::around"/d'; fn picture::rows::around Eq core::steps; fn core::steps 'Eq Loop')
+refused 'what the row rule reaches, in a loop' 'picture::rows::around > core::steps: has a loop$'
+read_of < <(program | sed '/^\["picture::rows::around"/d'; fn picture::rows::around Eq core::steps; fn core::steps Mul/Unsigned)
+refused 'what the row rule reaches, which multiplies' 'picture::rows::around > core::steps: has mul$'
 read_of < <(program Sub/Unsigned '{"Map":{"Div":"Unsigned"}}')
 refused 'an operation of many numbers at once' 'picture::rows::around: has map div$'
 read_of < <(program | sed '/"picture::draw::draw",{"params"/s/"Op2":/"Vec2":/')

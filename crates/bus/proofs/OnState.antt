@@ -13,12 +13,11 @@ use Rattle.constants.specs.Numbers.{too_short}
 use Rattle.constants.specs.Refusals.{Met, number_met}
 use Rattle.bus.specs.Places.{awaited}
 use Rattle.bus.specs.Registers.{registers_of, ◌with◌≔◌}
-use Rattle.bus.specs.Events.{number_of, byte_of, dummy_of, obeyed, command, access, write, written, read}
+use Rattle.bus.specs.Events.{number_of, byte_of, dummy_of, obeyed, command, access}
 use Rattle.bus.specs.Chip.{Event, command_byte, data_written, data_read, reset_pulse, step}
 use Rattle.bus.specs.Image.{short, legal, asked}
 use Rattle.bus.specs.Calls.{called, reply_of, state_after, refused, concluded, asked_before, call_on, call}
 use Rattle.bus.specs.OnState.{on_state, numbered, access_on, OnAccepted}
-use Rattle.bus.specs.declared.registers.Registers.{Registers}
 use Rattle.bus.specs.Answer.{Answer}
 use Rattle.bus.specs.Answer.{Reply, reply_to}
 use Rattle.bus.proofs.Legal.{long}

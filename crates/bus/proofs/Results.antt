@@ -7,7 +7,7 @@ use Rattle.std.specs.Prelude.{Option, Some, None, Result, Ok, Err}
 use Rattle.constants.specs.Refusals.{Met}
 use Rattle.constants.specs.declared.refusal.Refusal.{Refusal}
 use Rattle.constants.proofs.Refusals.{refusal_of, undone, met_of, met_undone}
-use Rattle.bus.specs.Answer.{Answer, Asked, Reply, answer_of, answer_of_read, asked_of, reply_to, reply_to_read}
+use Rattle.bus.specs.Answer.{Answer, Asked, Reply, answer_of, answer_of_read, asked_of, reply_to_read}
 use Rattle.bus.specs.declared.registers.Registers.{Registers}
 use Rattle.bus.specs.declared.answer.Read.{Read}
 

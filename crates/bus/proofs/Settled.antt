@@ -10,7 +10,7 @@ use Rattle.constants.specs.declared.refusal.Refusal.{Refusal}
 use Rattle.constants.proofs.Refusals.{met_of, met_undone}
 use Rattle.constants.proofs.Settles.{equation, told_from}
 use Rattle.bus.specs.Calls.{Called, called}
-use Rattle.bus.specs.Start.{Started, started}
+use Rattle.bus.specs.Start.{started}
 use Rattle.bus.specs.Registers.{power_on}
 use Rattle.bus.specs.Chip.{Chip}
 use Rattle.bus.specs.Events.{silently}
@@ -18,7 +18,7 @@ use Rattle.bus.specs.Stretch.{Stretched, stretch_of}
 use Rattle.bus.specs.Settled.{Settled, SettledOnState}
 use Rattle.bus.specs.Answer.{Answer, answer_of, answer_of_read, asked_of, reply_to, reply_to_read}
 use Rattle.bus.specs.declared.registers.Registers.{Registers}
-use Rattle.bus.specs.declared.stretch.Stretch.{Stretch}
+use Rattle.bus.specs.Stretch.{Stretch}
 use Rattle.bus.proofs.Results.{told_answer, answer_told, told_read, read_told, told_asked, asked_told, told_reply, reply_told}
 
 -- an outcome of a result, state and memory

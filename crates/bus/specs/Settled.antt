@@ -19,7 +19,7 @@ use Rattle.bus.specs.declared.registers.Registers.{Registers}
 use Rattle.bus.specs.declared.registers.PowerState.{PowerState}
 use Rattle.bus.specs.Answer.{Answer, Reply, answer_of, answer_of_read, asked_of, reply_to, reply_to_read}
 use Rattle.bus.specs.declared.answer.Read.{Read}
-use Rattle.bus.specs.declared.stretch.Stretch.{Stretch}
+use Rattle.bus.specs.Stretch.{Stretch}
 use Rattle.bus.specs.declared.start.Hung.{Hung}
 
 pub record Settled : Type 0 where

@@ -6,7 +6,7 @@ use Rattle.bus.specs.Result.{Result, on_result}
 use Rattle.bus.specs.Chip.{Chip}
 use Rattle.bus.specs.Recorded.{chip_of}
 use Rattle.bus.specs.declared.registers.Registers.{Registers}
-use Rattle.bus.specs.declared.stretch.Stretch.{Stretch}
+use Rattle.bus.specs.declared.stretch.Stretch as declared
 
 -- What a stretch comes to: the state reached, how many events were taken, and the number that stopped it, 0 where all were taken.
 pub record Stretched (S : Type 0) : Type 0 where
@@ -25,6 +25,10 @@ counted_on before rest = stretched rest.state (before + rest.count) rest.number
 unfoldable pub stretch : {S E : Type 0} → (E → S → Result S) → List E → S → Stretched S
 stretch step [] s = stretched s 0 Numbers.taken
 stretch step (event ∷ rest) s = on_result (step event s) (λ number. stretched s 0 number) (λ t. counted_on 1 (stretch step rest t))
+
+-- The code's of one chip.
+abbrev pub Stretch : Type 0
+Stretch = declared.Stretch Registers
 
 -- The code's, with the memory that is left beside it.
 abbrev pub stretch_of : Stretch → List ℕ → Stretched Chip

@@ -128,7 +128,7 @@ impl Held for [u8; IMAGE_SIZE] {
     }
 }
 
-// The registers of an image.
+// The registers of an image. It is no `From`: most callers hold a `&mut` image, and `Registers::from(&*image)` is no plainer.
 pub fn load(image: &[u8; IMAGE_SIZE]) -> Registers
     ensures { result ≡ registers_of image.now }
 {

@@ -10,10 +10,10 @@ use crate::registers::Registers;
 use constants::refusal::Refusal;
 use constants::sizes::WIDTH;
 
-// What a stretch comes to: the registers, the count of events taken, and the refusal that stopped it, if any.
+// What a stretch comes to: the registers, those of one chip where no other type is named, the count of events taken, and the refusal that stopped it, if any.
 #[derive(Clone, Copy)]
-pub struct Stretch {
-    pub registers: Registers,
+pub struct Stretch<R = Registers> {
+    pub registers: R,
     pub count: usize,
     pub outcome: Result<(), Refusal>,
 }

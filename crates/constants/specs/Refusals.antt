@@ -29,3 +29,12 @@ Met = Result Unit Refusal
 abbrev pub number_met : Met → ℕ
 number_met (Ok done) = taken
 number_met (Err refusal) = number_of_refusal refusal
+
+-- Of a count that may be refused: the number, 0 where it is not; and the count, 0 where it is.
+abbrev pub number_counted : Result ℕ Refusal → ℕ
+number_counted (Ok count) = taken
+number_counted (Err refusal) = number_of_refusal refusal
+
+abbrev pub count_handed : Result ℕ Refusal → ℕ
+count_handed (Ok count) = count
+count_handed (Err refusal) = 0

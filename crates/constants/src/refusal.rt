@@ -1,6 +1,6 @@
 // Document 01, "Numbers given", and the refusals of document 02: each by name, and its number.
 ghost use Rattle.std.specs.Prelude.{◌≡◌};
-ghost use Rattle.constants.specs.Refusals.{number_of_refusal, number_met};
+ghost use Rattle.constants.specs.Refusals.{number_of_refusal, number_met, number_counted, count_handed};
 
 // The number of what is taken.
 pub const TAKEN: u8 = 0;
@@ -59,32 +59,19 @@ pub fn number_met(met: Result<(), Refusal>) -> u8
     }
 }
 
-pub const TOO_SHORT: u8 = 1;
-
-pub const OUT_OF_RANGE: u8 = 2;
-
-pub const OUTSIDE_TABLE: u8 = 3;
-
-pub const NO_PAGE: u8 = 4;
-
-pub const NOT_ALLOWED: u8 = 5;
-
-pub const CODE_AWAITED: u8 = 6;
-
-pub const COLUMN_ABOVE: u8 = 7;
-
-pub const HEADER_CUT: u8 = 8;
-
-pub const KIND_UNKNOWN: u8 = 9;
-
-pub const READ_DIFFERS: u8 = 10;
-
-pub const LIST_TOO_SMALL: u8 = 11;
-
-pub const FRAME_BYTE_ABOVE: u8 = 12;
-
-pub const NO_SELECTION: u8 = 13;
-
-pub const BOTH_SELECTED: u8 = 14;
-
-pub const TEST_MODE: u8 = 15;
+// The number for C of a count that may be refused; the count goes to where the host wants it, 0 where it is refused.
+pub fn hand_count(counted: Result<usize, Refusal>, count: &mut usize) -> u8
+    ensures number { result ≡ number_counted counted }
+    ensures count { count.new ≡ count_handed counted }
+{
+    match counted {
+        Ok(all) => {
+            *count = all;
+            TAKEN
+        }
+        Err(refusal) => {
+            *count = 0;
+            u8::from(refusal)
+        }
+    }
+}

@@ -7,9 +7,9 @@ ghost use Rattle.differences.specs.Found.{byte_bytes, bytes_found};
 ghost use Rattle.differences.specs.Laws.{byte_bytes_sized, bytes_found_few, bytes_found_none};
 ghost use Rattle.differences.specs.Put.{Room, Put};
 
-use crate::list::{Entry, put_entry};
+use crate::list::{Entry, ROW, put_entry};
 use bus::data::kept;
-use constants::sizes::{MEMORY_ENTRY_SIZE, WIDTH};
+use constants::sizes::MEMORY_ENTRY_SIZE;
 
 // A differing byte: its place in the memory, and its contents in the first memory and in the second.
 #[derive(Clone, Copy)]
@@ -46,9 +46,9 @@ impl Entry for DifferingByte {
 
     const SIZE: usize = MEMORY_ENTRY_SIZE;
 
-    fn count(row: u8, first: &[u8; WIDTH], second: &[u8; WIDTH]) -> u8 {
+    fn count(row: u8, first: &[u8; ROW], second: &[u8; ROW]) -> u8 {
         let mut count = 0;
-        for column in 0..WIDTH {
+        for column in 0..ROW {
             count += u8::from(kept(row, first[column]) != kept(row, second[column]));
         }
         count
@@ -58,12 +58,12 @@ impl Entry for DifferingByte {
         list: &mut [u8],
         at: usize,
         row: u8,
-        first: &[u8; WIDTH],
-        second: &[u8; WIDTH],
+        first: &[u8; ROW],
+        second: &[u8; ROW],
     ) -> usize {
-        let start = usize::from(row) * WIDTH;
+        let start = usize::from(row) * ROW;
         let mut next = at;
-        for column in 0..WIDTH {
+        for column in 0..ROW {
             let was = kept(row, first[column]);
             let is = kept(row, second[column]);
             if was != is {

@@ -25,7 +25,8 @@ pub fn compare_frames(first: &[u8], second: &[u8], list: &mut [u8]) -> Result<us
     if seen.same {
         return Ok(0);
     }
-    if any_above(second) {
+    let above = any_above(second);
+    if above {
         return Err(Refusal::FrameByteAbove);
     }
     list_all::<Run, FRAME_SIZE, FIVE_ROWS>(first, second, list)

@@ -10,6 +10,9 @@ ghost use Rattle.differences.specs.Put.{Room, Put};
 use constants::refusal::Refusal;
 use constants::sizes::WIDTH;
 
+// Bytes of a row: of a frame's row, or of a memory's page.
+pub const ROW: usize = WIDTH;
+
 // What a list has of a row where it differs: the runs of a frame's row, or the bytes of a memory's page.
 pub trait Entry {
     // An entry as bytes, and how many they are.
@@ -23,7 +26,7 @@ pub trait Entry {
     const SIZE: usize;
 
     // How many entries a row has.
-    fn count(row: u8, first: &[u8; WIDTH], second: &[u8; WIDTH]) -> u8
+    fn count(row: u8, first: &[u8; ROW], second: &[u8; ROW]) -> u8
         ensures { result ≡ length (found row first.now second.now) };
 
     // Puts the entries of a row from number `at` on, and says the number after them.
@@ -31,8 +34,8 @@ pub trait Entry {
         list: &mut [u8],
         at: usize,
         row: u8,
-        first: &[u8; WIDTH],
-        second: &[u8; WIDTH],
+        first: &[u8; ROW],
+        second: &[u8; ROW],
     ) -> usize
         requires { Room SIZE list.old at (found row first.now second.now) }
         ensures { Put SIZE bytes list.old at (found row first.now second.now) result list.new };
@@ -89,8 +92,8 @@ fn count_all<E: Entry, const BYTES: usize>(first: &[u8; BYTES], second: &[u8; BY
     requires { (BYTES / width * width ≡ BYTES) × (BYTES ≤ frame_size) }
     ensures { result ≡ length (by_rows width E.found first.now second.now (BYTES / width) 0) }
 {
-    let (first, _) = first.as_chunks::<WIDTH>();
-    let (second, _) = second.as_chunks::<WIDTH>();
+    let (first, _) = first.as_chunks::<ROW>();
+    let (second, _) = second.as_chunks::<ROW>();
     let mut count = 0;
     for (row, (was, is)) in first.iter().zip(second).enumerate() {
         count += usize::from(E::count(row as u8, was, is));
@@ -112,8 +115,8 @@ fn put_all<E: Entry, const BYTES: usize, const CHUNK: usize>(
     let (second, _) = second.as_chunks::<CHUNK>();
     let mut next = 0;
     for (chunk, (was, is)) in first.iter().zip(second).enumerate() {
-        if was != is {
-            next = put_rows::<E, CHUNK>(list, next, chunk * (CHUNK / WIDTH), was, is);
+        if *was != *is {
+            next = put_rows::<E, CHUNK>(list, next, chunk * (CHUNK / ROW), was, is);
         }
     }
     next
@@ -131,11 +134,11 @@ fn put_rows<E: Entry, const CHUNK: usize>(
     requires room { Room E.SIZE list.old at (by_rows width (λ (p : ℕ). E.found (from + p)) first.now second.now (CHUNK / width) 0) }
     ensures { Put E.SIZE E.bytes list.old at (by_rows width (λ (p : ℕ). E.found (from + p)) first.now second.now (CHUNK / width) 0) result list.new }
 {
-    let (first, _) = first.as_chunks::<WIDTH>();
-    let (second, _) = second.as_chunks::<WIDTH>();
+    let (first, _) = first.as_chunks::<ROW>();
+    let (second, _) = second.as_chunks::<ROW>();
     let mut next = at;
     for (row, (was, is)) in first.iter().zip(second).enumerate() {
-        if was != is {
+        if *was != *is {
             next = E::put(list, next, (from + row) as u8, was, is);
         }
     }

@@ -7,8 +7,8 @@ ghost use Rattle.differences.specs.Found.{run_bytes, runs_found};
 ghost use Rattle.differences.specs.Laws.{run_bytes_sized, runs_found_few, runs_found_none};
 ghost use Rattle.differences.specs.Put.{Room, Put, Uniform, OneRun};
 
-use crate::list::{Entry, put_entry};
-use constants::sizes::{FRAME_ENTRY_SIZE, LAST_COLUMN, WIDTH};
+use crate::list::{Entry, ROW, put_entry};
+use constants::sizes::{FRAME_ENTRY_SIZE, LAST_COLUMN};
 
 // A run: its row, its first and last column, and what its places hold in the first frame and in the second.
 #[derive(Clone, Copy)]
@@ -53,12 +53,12 @@ impl Entry for Run {
     const SIZE: usize = FRAME_ENTRY_SIZE;
 
     // The places where a run begins.
-    fn count(_row: u8, first: &[u8; WIDTH], second: &[u8; WIDTH]) -> u8 {
+    fn count(_row: u8, first: &[u8; ROW], second: &[u8; ROW]) -> u8 {
         if first == second {
             return 0;
         }
         let mut count = u8::from(first[0] != second[0]);
-        for x in 1..WIDTH {
+        for x in 1..ROW {
             let differs = first[x] != second[x];
             let goes_on = (first[x], second[x]) == (first[x - 1], second[x - 1]);
             count += u8::from(differs & !goes_on);
@@ -71,8 +71,8 @@ impl Entry for Run {
         list: &mut [u8],
         at: usize,
         row: u8,
-        first: &[u8; WIDTH],
-        second: &[u8; WIDTH],
+        first: &[u8; ROW],
+        second: &[u8; ROW],
     ) -> usize {
         if one_run(first, second) {
             let run = Run {
@@ -90,14 +90,14 @@ impl Entry for Run {
 }
 
 // Whether a row differs in one way throughout: asked for speed, as `false` tells nothing.
-fn one_run(first: &[u8; WIDTH], second: &[u8; WIDTH]) -> bool
+fn one_run(first: &[u8; ROW], second: &[u8; ROW]) -> bool
     ensures { result ≡ true → OneRun width first.now second.now }
 {
     first[0] != second[0] && uniform(first) && uniform(second)
 }
 
 // Whether all places of a row hold the same. It looks at all of them, many together: `iter().all` stops at the first that differs, and takes 33 ns for 5.
-fn uniform(row: &[u8; WIDTH]) -> bool
+fn uniform(row: &[u8; ROW]) -> bool
     ensures { result ≡ true → Uniform width row.now }
 {
     let mut uniform = true;
@@ -108,20 +108,20 @@ fn uniform(row: &[u8; WIDTH]) -> bool
 }
 
 // Puts the runs of a row: each from the differing place where it begins to its end, and the next from there on.
-// `while`, as `x` goes on after each run's last place and not by one.
+// A `while`: `x` goes on after each run's last place, and a `for` goes on by one.
 fn put_runs(
     list: &mut [u8],
     at: usize,
     row: u8,
-    first: &[u8; WIDTH],
-    second: &[u8; WIDTH],
+    first: &[u8; ROW],
+    second: &[u8; ROW],
 ) -> usize
     requires { Room frame_entry_size list.old at (runs_found row first.now second.now) }
     ensures { Put frame_entry_size run_bytes list.old at (runs_found row first.now second.now) result list.new }
 {
     let mut next = at;
     let mut x = 0;
-    while x < WIDTH {
+    while x < ROW {
         if first[x] == second[x] {
             x += 1;
         } else {
@@ -142,12 +142,12 @@ fn put_runs(
 }
 
 // The last place of the run that begins at a place.
-fn run_last(first: &[u8; WIDTH], second: &[u8; WIDTH], from: usize) -> usize
+fn run_last(first: &[u8; ROW], second: &[u8; ROW], from: usize) -> usize
     requires { from < width }
     ensures { result ≡ from + more first.now second.now (width - (from + 1)) from }
 {
     let mut last = from;
-    for x in from + 1..WIDTH {
+    for x in from + 1..ROW {
         if (first[x], second[x]) != (first[from], second[from]) {
             return last;
         }

@@ -2,3 +2,5 @@
 pub mod RecordWalk
 -- What each exported call states has one result.
 pub mod Settled
+-- a count as C is handed it
+pub mod Handed

@@ -3,8 +3,7 @@ ghost use Rattle.std.specs.Prelude.{◌≡◌};
 ghost use Rattle.differences.specs.Compare.{compare_frames, compare_memories};
 ghost use Rattle.host.specs.Compare.{compare_reply, of_compared};
 
-use constants::refusal::TAKEN;
-use differences::compared::Compared;
+use constants::refusal::hand_count;
 
 // Lists the differing runs of two frames: the count of entries goes to where the host wants it, 0 where it is refused.
 #[unsafe(no_mangle)]
@@ -16,16 +15,8 @@ pub extern "C" fn ssd1815b_compare_frames(
 ) -> u8
     ensures { compare_reply result count.new list.new ≡ of_compared (compare_frames first.now second.now list.old) }
 {
-    match differences::frames::compare_frames(first, second, list) {
-        Compared::Listed(entries) => {
-            *count = entries;
-            TAKEN
-        }
-        Compared::Refused(refusal) => {
-            *count = 0;
-            refusal
-        }
-    }
+    let compared = differences::frames::compare_frames(first, second, list);
+    hand_count(compared, count)
 }
 
 // Lists the differing bytes of two memories, in the same way.
@@ -38,14 +29,6 @@ pub extern "C" fn ssd1815b_compare_memories(
 ) -> u8
     ensures { compare_reply result count.new list.new ≡ of_compared (compare_memories first.now second.now list.old) }
 {
-    match differences::memories::compare_memories(first, second, list) {
-        Compared::Listed(entries) => {
-            *count = entries;
-            TAKEN
-        }
-        Compared::Refused(refusal) => {
-            *count = 0;
-            refusal
-        }
-    }
+    let compared = differences::memories::compare_memories(first, second, list);
+    hand_count(compared, count)
 }

@@ -2,10 +2,12 @@
 ghost use Rattle.std.specs.Prelude.{◌≡◌};
 ghost use Rattle.picture.specs.Draw.{drawn, draw};
 
+use constants::refusal::number_met;
+
 // Draws the frame, or refuses 1 or 2 and writes nothing.
 #[unsafe(no_mangle)]
 pub extern "C" fn ssd1815b_draw(state: &[u8], memory: &[u8], frame: &mut [u8]) -> u8
     ensures { drawn result frame.new ≡ draw state.now memory.now frame.old }
 {
-    picture::draw::draw(state, memory, frame)
+    number_met(picture::draw::draw(state, memory, frame))
 }

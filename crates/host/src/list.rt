@@ -3,8 +3,7 @@ ghost use Rattle.std.specs.Prelude.{◌≡◌};
 ghost use Rattle.framelisting.specs.Listing.{listed};
 ghost use Rattle.host.specs.List.{list_reply, of_listed};
 
-use constants::refusal::TAKEN;
-use framelisting::Listed;
+use constants::refusal::hand_count;
 
 // Lists a frame, after a stopped run's number and offset: the text's length goes to where the host wants it, 0 where it is refused.
 #[unsafe(no_mangle)]
@@ -17,14 +16,6 @@ pub extern "C" fn ssd1815b_list(
 ) -> u8
     ensures { list_reply result length.new text.new ≡ of_listed (listed number offset frame.now text.old) }
 {
-    match framelisting::list(number, offset, frame, text) {
-        Listed::Written(written) => {
-            *length = written;
-            TAKEN
-        }
-        Listed::Refused(refusal) => {
-            *length = 0;
-            refusal
-        }
-    }
+    let listed = framelisting::list(number, offset, frame, text);
+    hand_count(listed, length)
 }

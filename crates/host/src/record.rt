@@ -3,7 +3,7 @@ ghost use Rattle.std.specs.Prelude.{◌≡◌, drop};
 ghost use Rattle.trace.specs.Front.{front_of};
 ghost use Rattle.host.specs.Record.{record_reply, record_of};
 
-use constants::refusal::{Refusal, number_met};
+use constants::refusal::{Refusal, TAKEN};
 use constants::sizes::HEADER_SIZE;
 use trace::records::{Front, front_at};
 
@@ -15,12 +15,12 @@ pub extern "C" fn ssd1815b_record(bytes: &[u8], at: usize, kind: &mut usize, nex
     *kind = 0;
     *next = at;
     match front_at(bytes, at) {
-        Front::Nothing => number_met(Ok(())),
-        Front::Cut => number_met(Err(Refusal::HeaderCut)),
+        Front::Nothing => TAKEN,
+        Front::Cut => u8::from(Refusal::HeaderCut),
         Front::Whole(header) => {
             *kind = header.kind;
             *next = at + HEADER_SIZE + header.length;
-            number_met(Ok(()))
+            TAKEN
         }
     }
 }

@@ -8,3 +8,5 @@ pub mod ReadBytes
 pub mod Samples
 -- one result for each exported call
 pub mod Settled
+-- a count as C is handed it
+pub mod Handed

@@ -6,6 +6,8 @@ ghost use Rattle.widepicture.specs.WideDraw.{draw_wide};
 
 use constants::refusal::number_met;
 
+// A number for the refusal, and four lent slices: C's interface (host/ssd1815b.h).
+
 // Draws the wide frame, or refuses 1 or 2 and writes nothing.
 #[unsafe(no_mangle)]
 pub extern "C" fn ssd1815b_wide_draw(

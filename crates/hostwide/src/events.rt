@@ -7,6 +7,8 @@ ghost use Rattle.hostwide.specs.Events.{states_reply, lent_reply, read_reply, of
 
 use constants::refusal::{TAKEN, number_met};
 
+// Four names that differ in the call below, numbers for selection and refusal, byte and mark through references, and four lent slices: C's interface (host/ssd1815b.h).
+
 // A command byte.
 #[unsafe(no_mangle)]
 pub extern "C" fn ssd1815b_wide_command(

@@ -3,7 +3,9 @@ ghost use Rattle.std.specs.Prelude.{◌≡◌};
 ghost use Rattle.framelisting.specs.Listing.{listed_wide};
 ghost use Rattle.hostwide.specs.List.{list_reply, of_listed};
 
-use constants::refusal::TAKEN;
+use constants::refusal::hand_count;
+
+// A number for the refusal, and the length through a reference, as `ssd1815b_list` of crates/host has it: C's interface (host/ssd1815b.h).
 
 // Lists a wide frame, after a stopped run's number and offset: the text's length goes to where the host wants it, 0 where it is refused.
 #[unsafe(no_mangle)]
@@ -16,14 +18,6 @@ pub extern "C" fn ssd1815b_wide_list(
 ) -> u8
     ensures { list_reply result length.new text.new ≡ of_listed (listed_wide number offset frame.now text.old) }
 {
-    match framelisting::list_wide(number, offset, frame, text) {
-        Ok(written) => {
-            *length = written;
-            TAKEN
-        }
-        Err(refusal) => {
-            *length = 0;
-            u8::from(refusal)
-        }
-    }
+    let listed = framelisting::list_wide(number, offset, frame, text);
+    hand_count(listed, length)
 }

@@ -7,6 +7,8 @@ use constants::refusal::{Refusal, TAKEN};
 use constants::sizes::{MEMORY_SIZE, WIDTH};
 use widebus::selection::Side;
 
+// Numbers for side and refusal, place and length through references: C's interface (host/ssd1815b.h).
+
 // The part's place in that side's memory and its length go to where the host wants them, 0 both where it is refused.
 #[unsafe(no_mangle)]
 pub extern "C" fn ssd1815b_wide_page<'a>(

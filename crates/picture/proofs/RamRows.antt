@@ -1,7 +1,7 @@
 -- A row that is shown is one of the memory: a dot row or, after the last of them, the icons.
 -- Assumes nothing.
 use mathlib.Core.Path.{◌≡◌, subst}
-use Prim.Native.Nat.{ℕ, ◌≤◌, ◌<◌}
+use Prim.Native.Nat.{◌≤◌, ◌<◌}
 use native.Mathlib.Nat.{mod-lt, le_of_lt, le_refl}
 use lib.Dec.{ltb, eqb}
 use Rattle.bus.proofs.Tests.{chosen}

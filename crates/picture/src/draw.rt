@@ -28,7 +28,7 @@ pub fn draw(state: &[u8], memory: &[u8], frame: &mut [u8]) -> Result<(), Refusal
     Ok(())
 }
 
-// Draws the frame. Bits are drawn with all rows in view; each row of one shade by itself, which the compiler makes one fill of them.
+// Draws the frame. Registers and memory are no struct together: the row rule takes the one alone and pages the other, and an upright memory is drawn in the memory's place. Bits are drawn with all rows in view; each row of one shade by itself, which the compiler makes one fill of them.
 fn draw_frame(registers: Registers, memory: &[u8; MEMORY_SIZE], places: &mut [u8; FRAME_SIZE])
     ensures { places.new ≡ frame registers memory.now }
 {
@@ -39,7 +39,7 @@ fn draw_frame(registers: Registers, memory: &[u8; MEMORY_SIZE], places: &mut [u8
     }
 }
 
-// Draws each row into its own part of the frame.
+// Draws each row into its own part of the frame. The part is cut by hand: after a loop over `chunks_exact_mut` a proof knows no place of the frame.
 fn draw_rows(registers: Registers, memory: &[u8; MEMORY_SIZE], places: &mut [u8; FRAME_SIZE])
     ensures { places.new ≡ frame registers memory.now }
 {

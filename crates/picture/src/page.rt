@@ -12,12 +12,7 @@ const ALL_BITS: u8 = 255;
 
 // A page as it is shown from left to right, all bits turned round where reverse is 1. Put into its callers, where it is no array in memory.
 #[inline(always)]
-pub fn shown_page(
-    memory: &[u8; MEMORY_SIZE],
-    page: u8,
-    direction: u8,
-    reverse: u8,
-) -> [u8; WIDTH]
+pub fn shown_page(memory: &[u8; MEMORY_SIZE], page: u8, direction: u8, reverse: u8) -> [u8; WIDTH]
     requires { (page < pages) × (reverse < 2) }
     ensures { result ≡ line width (upright_byte direction reverse memory.now page) }
 {
@@ -30,7 +25,7 @@ pub fn shown_page(
     array::from_fn(|x| memory[last - x] ^ flip)
 }
 
-// A bit of each byte of a page. With the bit known where it is drawn 16 places are drawn at once; with the bit as a number a frame takes 12 % longer.
+// A bit of each byte of a page. With the bit known where it is drawn 16 places are drawn at once; with the bit as a number a frame takes 12 to 16 % longer.
 #[inline(always)]
 pub fn bits_of(page: &[u8; WIDTH], bit: u8) -> [u8; WIDTH]
     requires { bit < 8 }
@@ -53,10 +48,10 @@ fn bits<const BIT: u8>(page: &[u8; WIDTH]) -> [u8; WIDTH]
     requires { BIT < 8 }
     ensures { result ≡ line width (λ x. get_or page.now x 0 / 2 ^ BIT % 2) }
 {
-    array::from_fn(|x|
-        requires { (x < width) × (BIT < 8) }
-        ensures { result ≡ get_or page.entry.now x 0 / 2 ^ BIT % 2 }
-    {
-        (page[x] >> BIT) & 1
-    })
+    array::from_fn(
+        |x|
+            requires { (x < width) × (BIT < 8) }
+            ensures { result ≡ get_or page.entry.now x 0 / 2 ^ BIT % 2 }
+        { (page[x] >> BIT) & 1 },
+    )
 }

@@ -12,12 +12,7 @@ use constants::sizes::{MEMORY_SIZE, WIDTH};
 
 // Draws one row of the frame into its own 132 bytes. Where all 64 rows are in use entire on lights every one, and the rule is not asked (DECISIONS 38). Put into its callers' loops, so that rows of one shade become one fill.
 #[inline(always)]
-pub fn draw_row(
-    registers: Registers,
-    memory: &[u8; MEMORY_SIZE],
-    row: PanelRow,
-    places: &mut [u8],
-)
+pub fn draw_row(registers: Registers, memory: &[u8; MEMORY_SIZE], row: PanelRow, places: &mut [u8])
     requires { length places.old ≡ width }
     ensures { places.new ≡ line width (segment registers memory.now (row_shows (scan_of registers) row)) }
 {

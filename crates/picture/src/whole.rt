@@ -12,11 +12,7 @@ use constants::sizes::{FRAME_ROWS, FRAME_SIZE, MEMORY_SIZE, PAGES, WIDTH};
 use std::array;
 
 // Draws the frame of a display that is on and not entirely on.
-pub fn draw_whole(
-    registers: Registers,
-    memory: &[u8; MEMORY_SIZE],
-    places: &mut [u8; FRAME_SIZE],
-)
+pub fn draw_whole(registers: Registers, memory: &[u8; MEMORY_SIZE], places: &mut [u8; FRAME_SIZE])
     requires { (registers.on ≢ 0) × (registers.entire ≢ 1) }
     ensures { places.new ≡ frame registers memory.now }
 {
@@ -28,7 +24,7 @@ pub fn draw_whole(
     }
 }
 
-// The RAM row that each row of the frame shows, or none.
+// The RAM row that each row of the frame shows, or none. `y as u8`, here and in draw.rt: `try_from` would be a branch that is never taken.
 fn rows_shown(registers: Registers) -> [Option<RamRow>; FRAME_ROWS]
     ensures { RowsOf registers result }
 {
@@ -51,7 +47,7 @@ fn draw_turned(
     draw_upright(rows, &upright, places);
 }
 
-// Brings each page upright. The part is cut by hand: after a loop over `chunks_exact_mut` a proof knows no byte of the pages.
+// Brings each page upright. The part is cut by hand, as in draw.rt.
 fn bring_upright(
     direction: u8,
     reverse: u8,
@@ -68,7 +64,7 @@ fn bring_upright(
     }
 }
 
-// Draws each row by the RAM row that it shows, from a memory that is upright.
+// Draws each row by the RAM row that it shows, from a memory that is upright. The part is cut by hand, as in draw.rt; and the loop is not one with that, since a closure would have to be told in words of calls what `grid` says at once.
 fn draw_upright(
     rows: &[Option<RamRow>; FRAME_ROWS],
     upright: &[u8; MEMORY_SIZE],

@@ -2,7 +2,7 @@
 -- Assumes nothing.
 use mathlib.Core.Path.{◌≡◌, refl, sym, ◌∙◌, ap}
 use mathlib.Core.Bool.{cond}
-use mathlib.Core.List.{List, [], ◌∷◌, map}
+use mathlib.Core.List.{List, [], ◌∷◌}
 use Prim.Native.Nat.{ℕ, ◌+◌, ◌-◌, ◌≤◌}
 use native.Mathlib.Nat.{add-zero}
 use native.Mathlib.Omega.{arith}
@@ -16,7 +16,7 @@ use Rattle.constants.specs.Refusals.{Met, number_met}
 use Rattle.constants.proofs.Refusals.{refusal_not_taken}
 use Rattle.bus.specs.Chip.{Chip}
 use Rattle.bus.specs.Stretch.{stretched, counted_on, stretch, stretch_of}
-use Rattle.bus.specs.declared.stretch.Stretch.{Stretch}
+use Rattle.bus.specs.Stretch.{Stretch}
 use Rattle.bus.proofs.StretchLaws.{stretches, the_chip_never_zero}
 use Rattle.trace.specs.Play.{Result, refuses, gives, on_result, Machine, stopped, done, play_events}
 use Rattle.trace.specs.Kinds.{Recorded, recorded_command, recorded_write, read_as, replay, chip_of, the_chip}

@@ -3,7 +3,7 @@ use Rattle.std.specs.Prelude.{ℕ, ◌≡◌, List, [], ◌∷◌, map, length, 
 use Rattle.constants.specs.Refusals.{Met, number_of_refusal, number_met}
 use Rattle.constants.specs.declared.refusal.Refusal.{Refusal}
 use Rattle.bus.specs.Chip.{Chip, reset_pulse}
-use Rattle.bus.specs.declared.stretch.Stretch.{Stretch}
+use Rattle.bus.specs.Stretch.{Stretch}
 use Rattle.trace.specs.Play.{stopped, done, played}
 use Rattle.trace.specs.Play as play
 use Rattle.trace.specs.Kinds.{Recorded, event, recorded_command, recorded_write, read_as, events_of, chip_of}

@@ -20,15 +20,14 @@ use Rattle.bus.specs.Result.{refuses, gives, on_result}
 use Rattle.bus.specs.Recorded.{Recorded, event, read_as, recorded_command, recorded_write, chip_of, happened, replay}
 use Rattle.bus.specs.Stretch.{Stretched, stretched, stretch, stretch_of}
 use Rattle.bus.specs.Bytes.{All}
-use Rattle.bus.specs.declared.stretch.Stretch.{Stretch}
+use Rattle.bus.specs.Stretch.{Stretch}
 use Rattle.bus.proofs.StretchLaws.{stretches, the_chip_never_zero}
 use Rattle.widebus.specs.Pair.{Pair, ◌beside◌, chips_of}
 use Rattle.widebus.specs.Events.{to_selected, reads_data, replay_on}
 use Rattle.widebus.specs.OnBoth.{access_both}
-use Rattle.widebus.specs.WideStretch.{wide_stretch_of}
+use Rattle.widebus.specs.WideStretch.{WideStretch, wide_stretch_of}
 use Rattle.widebus.specs.declared.both.Both.{Both}
 use Rattle.widebus.specs.declared.selection.Selection.{Selection}
-use Rattle.widebus.specs.declared.stretch.WideStretch.{WideStretch}
 use Rattle.widebus.proofs.Writes.{write_taken, write_refused, all_taken}
 use Rattle.widebus.proofs.Stretches.{same_steps, left_alone, right_alone, of, second, both_taken, both_stopped}
 

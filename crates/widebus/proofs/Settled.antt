@@ -23,10 +23,9 @@ use Rattle.widebus.specs.Pair.{Pair, both_lent}
 use Rattle.widebus.specs.Asked.{BothAsked, both_asked_of}
 use Rattle.widebus.specs.Page.{Handed, handed_of}
 use Rattle.widebus.specs.WideCalls.{WideCalled, wide_called}
-use Rattle.widebus.specs.WideStretch.{wide_stretch_of}
+use Rattle.widebus.specs.WideStretch.{WideStretch, wide_stretch_of}
 use Rattle.widebus.specs.Settled.{Settled}
 use Rattle.widebus.specs.declared.both.Both.{Both}
-use Rattle.widebus.specs.declared.stretch.WideStretch.{WideStretch}
 
 -- what each result of code stands for tells it
 told_asked : BothAsked → std.Result Both Refusal

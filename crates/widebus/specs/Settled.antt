@@ -12,12 +12,11 @@ use Rattle.widebus.specs.Pair.{both_lent, chips_of}
 use Rattle.widebus.specs.Asked.{both_asked_of, asked_both}
 use Rattle.widebus.specs.Events.{replay_on}
 use Rattle.widebus.specs.WideCalls.{wide_called, wide_call}
-use Rattle.widebus.specs.WideStretch.{wide_stretch_of}
+use Rattle.widebus.specs.WideStretch.{WideStretch, wide_stretch_of}
 use Rattle.widebus.specs.Page.{handed_of, page_of}
 use Rattle.widebus.specs.declared.both.Both.{Both}
 use Rattle.widebus.specs.declared.selection.Side.{Side}
 use Rattle.widebus.specs.declared.selection.Selection.{Selection}
-use Rattle.widebus.specs.declared.stretch.WideStretch.{WideStretch}
 
 pub record Settled : Type 0 where
   pub «both::ask» : (left_state left_memory right_state right_memory : List ℕ) → Settles (λ (r : Result Both Refusal). both_asked_of r ≡ asked_both (both_lent left_state left_memory right_state right_memory))

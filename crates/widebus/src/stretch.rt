@@ -13,14 +13,9 @@ use bus::stretch::Stretch;
 use constants::refusal::Refusal;
 
 // What a stretch comes to: the registers of both chips, the count of events taken, and the refusal that stopped it, if any.
-#[derive(Clone, Copy)]
-pub struct WideStretch {
-    pub registers: Both,
-    pub count: usize,
-    pub outcome: Result<(), Refusal>,
-}
+pub type WideStretch = Stretch<Both>;
 
-// Command bytes.
+// Command bytes. It and `writes` match on the selection by themselves: they differ in the call below and in the memories that go with it, which closures for one chip and for both would all name again.
 pub fn commands(selection: Selection, registers: Both, bytes: &[u8]) -> WideStretch
     ensures { (left right : List ℕ) → wide_stretch_of result left right ≡ stretch (replay_on selection) (map recorded_command bytes.now) (chips_of registers left right) }
 {
@@ -100,7 +95,7 @@ fn writes_for_both(
 fn widened(own: Stretch, left: Registers, right: Registers) -> WideStretch
     ensures { result ≡ record { registers = record { left = left; right = right }; count = own.count; outcome = own.outcome } }
 {
-    WideStretch {
+    Stretch {
         registers: Both { left, right },
         count: own.count,
         outcome: own.outcome,
@@ -111,7 +106,7 @@ fn widened(own: Stretch, left: Registers, right: Registers) -> WideStretch
 fn halted(outcome: Result<(), Refusal>, registers: Both) -> WideStretch
     ensures { result ≡ record { registers = registers; count = 0; outcome = outcome } }
 {
-    WideStretch {
+    Stretch {
         registers,
         count: 0,
         outcome,

@@ -2,14 +2,13 @@
 -- Assumes nothing.
 use mathlib.Core.Path.{◌≡◌, sym, ◌∙◌, ap}
 use mathlib.Core.Logic.{◌≢◌}
-use mathlib.Core.List.{List, ◌∷◌, [], ◌++◌, append_assoc}
+use mathlib.Core.List.{List, ◌++◌}
 use Prim.Native.Nat.{ℕ, zero, suc, ◌+◌, ◌*◌, ◌-◌, ◌≤◌, ◌<◌}
 use native.Mathlib.Omega.{arith}
 use native.Mathlib.Nat.{suc-mul, zero-mul, mul-le-mul_right}
-use native.Mathlib.Numerals.{add-one}
 use borrow.Author.Tests.{ne_eqb}
-use lib.ListN.{length, get_or, set, drop, replicate, length-append, length-drop, length-replicate, replicate-append-replicate}
-use lib.Seq.{drop-cons, set_at, take_at, drop_at}
+use lib.ListN.{length, replicate, length-replicate, replicate-append-replicate}
+use lib.Seq.{take_at, drop_at}
 use Rattle.std.specs.Prelude.{Option, Some}
 use Rattle.constants.specs.Sizes.{width, frame_rows, frame_size, wide_frame_size}
 use Rattle.bus.specs.declared.registers.Registers.{Registers}

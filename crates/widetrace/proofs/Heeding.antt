@@ -15,7 +15,7 @@ use Rattle.bus.specs.Bytes.{All}
 use Rattle.bus.specs.Chip.{Chip, reset_pulse}
 use Rattle.bus.specs.Stretch.{Stretched, stretch, stretch_of}
 use Rattle.bus.specs.declared.registers.Registers.{Registers}
-use Rattle.bus.specs.declared.stretch.Stretch.{Stretch}
+use Rattle.bus.specs.Stretch.{Stretch}
 use Rattle.bus.proofs.StretchLaws.{the_chip_never_zero}
 use Rattle.trace.specs.Records.{Record}
 use Rattle.trace.specs.Play.{Result, refuses, gives, on_result, stopped, done, play_events, play_record}

@@ -1,11 +1,11 @@
 -- What stands at an offset of a trace, as far as a limit, played for one chip.
 -- Assumes nothing.
-use mathlib.Core.Path.{◌≡◌, refl, sym, ◌∙◌, ap}
+use mathlib.Core.Path.{◌≡◌, sym, ◌∙◌, ap}
 use mathlib.Core.Bool.{cond}
 use mathlib.Core.List.{List}
-use Prim.Native.Nat.{ℕ, ◌+◌, ◌-◌, ◌≤◌, ◌<◌}
+use Prim.Native.Nat.{ℕ, ◌+◌, ◌-◌, ◌≤◌}
 use native.Mathlib.Omega.{arith}
-use borrow.Author.Tests.{ne_eqb, le-leb, lt-leb, leb-true, leb-false}
+use borrow.Author.Tests.{leb-true, leb-false}
 use lib.Dec.{leb}
 use lib.ListN.{length, take, drop, length-take, length-drop}
 use lib.Seq.{length-take-le, take_all, take-take}
@@ -18,7 +18,7 @@ use Rattle.constants.specs.Sizes.{header_size}
 use Rattle.bus.specs.Chip.{Chip}
 use Rattle.bus.specs.Stretch.{stretch, stretch_of}
 use Rattle.bus.specs.declared.registers.Registers.{Registers}
-use Rattle.bus.specs.declared.stretch.Stretch.{Stretch}
+use Rattle.bus.specs.Stretch.{Stretch}
 use Rattle.trace.specs.Play.{stopped, done, gives, play_record}
 use Rattle.trace.specs.Kinds.{events_of, replay, chip_of}
 use Rattle.trace.specs.Code.{recorded_in}

@@ -1,5 +1,4 @@
 -- `bus::accepted::access` meets its contract: the length first, then what the registers meet.
-use mathlib.Core.Path.{◌∙◌}
 use Rattle.bus.proofs.OnState.{access_short, access_long}
 use Rattle.bus.proofs.accepted.access.Goals as goal
 

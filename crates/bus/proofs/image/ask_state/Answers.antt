@@ -1,5 +1,4 @@
 -- `bus::image::ask_state` meets its contract: the length first, then the ranges.
-use mathlib.Core.Path.{◌∙◌}
 use borrow.Author.Tests.{lt-ltb, le-ltb}
 use Rattle.bus.specs.Image.{asked_state}
 use Rattle.bus.proofs.First.{first_registers}

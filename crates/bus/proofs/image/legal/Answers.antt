@@ -26,7 +26,7 @@ returns-then-registers-eq0 c =
     let r = c.load-registers.result in
     let f = c.in-Some.ensures.cases in
     let both : c.if-within.value ≡ (within largest_values (image_of r) && one_of awaited_codes r.awaited) =
-        elim c.if-within.branch [ then-within w ↦ and_then (w.value-is ∙ w.awaitable.ensures) (sym c.within.ensures ∙ w.if-within.true) | else-within w ↦ and_else _ (w.value-is ∙ c.within.ensures) (sym c.within.ensures ∙ w.if-within.false) ] in
+    elim c.if-within.branch [ then-within w ↦ and_then (w.value-is ∙ w.awaitable.ensures) (sym c.within.ensures ∙ w.if-within.true) | else-within w ↦ and_else _ (w.value-is ∙ c.within.ensures) (sym c.within.ensures ∙ w.if-within.false) ] in
     let l = first_legal c.args.image.now _ f.enough f.same r c.load-registers.ensures in
     rw (l, ← both, c.if-awaitable.true, eq-eqb _ _ c.if-registers-eq0.true) (either_way (eqb r.modify 0))
 
@@ -35,7 +35,7 @@ returns-else-registers-eq0 c =
     let r = c.load-registers.result in
     let f = c.in-Some.ensures.cases in
     let both : c.if-within.value ≡ (within largest_values (image_of r) && one_of awaited_codes r.awaited) =
-        elim c.if-within.branch [ then-within w ↦ and_then (w.value-is ∙ w.awaitable.ensures) (sym c.within.ensures ∙ w.if-within.true) | else-within w ↦ and_else _ (w.value-is ∙ c.within.ensures) (sym c.within.ensures ∙ w.if-within.false) ] in
+    elim c.if-within.branch [ then-within w ↦ and_then (w.value-is ∙ w.awaitable.ensures) (sym c.within.ensures ∙ w.if-within.true) | else-within w ↦ and_else _ (w.value-is ∙ c.within.ensures) (sym c.within.ensures ∙ w.if-within.false) ] in
     let l = first_legal c.args.image.now _ f.enough f.same r c.load-registers.ensures in
     rw (l, ← both, c.if-awaitable.true, ne_eqb _ _ c.if-registers-eq0.false) (other_way (eqb r.modify 0))
 
@@ -44,6 +44,6 @@ returns-else-awaitable c =
     let r = c.load-registers.result in
     let f = c.in-Some.ensures.cases in
     let both : c.if-within.value ≡ (within largest_values (image_of r) && one_of awaited_codes r.awaited) =
-        elim c.if-within.branch [ then-within w ↦ and_then (w.value-is ∙ w.awaitable.ensures) (sym c.within.ensures ∙ w.if-within.true) | else-within w ↦ and_else _ (w.value-is ∙ c.within.ensures) (sym c.within.ensures ∙ w.if-within.false) ] in
+    elim c.if-within.branch [ then-within w ↦ and_then (w.value-is ∙ w.awaitable.ensures) (sym c.within.ensures ∙ w.if-within.true) | else-within w ↦ and_else _ (w.value-is ∙ c.within.ensures) (sym c.within.ensures ∙ w.if-within.false) ] in
     let l = first_legal c.args.image.now _ f.enough f.same r c.load-registers.ensures in
     rw (l, ← both, c.if-awaitable.false)

@@ -1,6 +1,4 @@
 -- `bus::stretch::reset_pin` meets its contract: one event, which is taken and gives the power-on state.
-use mathlib.Core.Path.{refl}
-use Rattle.bus.specs.Events.{reset_pin}
 use Rattle.bus.specs.Chip.{step}
 use Rattle.bus.specs.Recorded.{happened, replay}
 use Rattle.bus.specs.Stretch.{stretch}

@@ -25,6 +25,6 @@ pub returns : goal.returns
 returns c =
     rw c.halted-2.ensures
     (elim c.if-bytes-registers.branch [
-      then-bytes-registers w ↦ rw (w.registers-is, w.memory-is) (sym w.write_piece-registers.ensures.1)
-    | else-bytes-registers w ↦ rw (w.registers-is, w.memory-is) (sym w.write_round-registers.ensures)
+      | then-bytes-registers w ↦ rw (w.registers-is, w.memory-is) (sym w.write_piece-registers.ensures.1)
+      | else-bytes-registers w ↦ rw (w.registers-is, w.memory-is) (sym w.write_round-registers.ensures)
     ])

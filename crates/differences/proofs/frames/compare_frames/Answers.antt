@@ -3,6 +3,8 @@ use mathlib.Core.Path.{◌≡◌, sym, ◌∙◌, ap}
 use mathlib.Core.Bool.{true, false}
 use mathlib.Core.List.{List}
 use Prim.Native.Nat.{ℕ, ◌≤◌, ◌<◌}
+use native.Mathlib.Omega.{arith}
+use Rattle.std.proofs.lemmas.Grind.{common_steps}
 use borrow.Author.Tests.{lt-ltb, le-ltb}
 use lib.ListN.{length, take}
 use Rattle.constants.specs.Sizes.{frame_size}
@@ -57,16 +59,17 @@ returns-then-seen-2 c =
     let g = c.in_ok-second.ensures in
     sym (put_back.same_frames _ _ _ f.0 g.0 (none_above frame_size _ (ap any_above (sym f.1) ∙ sym c.look-seen.ensures.0 ∙ c.if-seen.false)) (sym f.1 ∙ c.look-seen.ensures.1 c.if-seen-2.true ∙ g.1))
 
-pub returns-then-any_above : goal.returns-then-any_above
-returns-then-any_above c =
+pub returns-then-above : goal.returns-then-above
+returns-then-above c =
     let f = c.in_ok-first.ensures in
     let g = c.in_ok-second.ensures in
-    sym (second_above _ _ _ f.0 g.0 (ap any_above (sym f.1) ∙ sym c.look-seen.ensures.0 ∙ c.if-seen.false) (ap any_above (sym g.1) ∙ sym c.any_above.ensures ∙ c.if-any_above.true))
+    let above : any_above c.in_ok-second.second.now ≡ true = grind (arith, common_steps) in
+    sym (second_above _ _ _ f.0 g.0 (ap any_above (sym f.1) ∙ sym c.look-seen.ensures.0 ∙ c.if-seen.false) (ap any_above (sym g.1) ∙ above))
 
 pub returns : goal.returns
 returns c =
     let f = c.in_ok-first.ensures in
     let g = c.in_ok-second.ensures in
     let none = ap any_above (sym f.1) ∙ sym c.look-seen.ensures.0 ∙ c.if-seen.false in
-    let none_either = ap any_above (sym g.1) ∙ sym c.any_above.ensures ∙ c.if-any_above.false in
-    c.list_all.ensures ∙ frames_listed _ _ _ _ _ f.1 g.1 ∙ sym (all_in_order _ _ _ f.0 g.0 none none_either)
+    let above : any_above c.in_ok-second.second.now ≡ false = grind (arith, common_steps) in
+    c.list_all.ensures ∙ frames_listed _ _ _ _ _ f.1 g.1 ∙ sym (all_in_order _ _ _ f.0 g.0 none (ap any_above (sym g.1) ∙ above))

@@ -1,13 +1,8 @@
 -- `host::compare::ssd1815b_compare_frames` meets its contract by that of the call below it.
-use Rattle.differences.specs.Compare.{number_of, count_of}
-use mathlib.Core.Path.{ap}
+use mathlib.Core.Path.{◌∙◌, ap}
 use Rattle.host.specs.Compare.{of_compared}
+use Rattle.host.proofs.Handed.{compared_handed}
 use Rattle.host.proofs.compare.ssd1815b_compare_frames.Goals as goal
 
-pub returns-in-Listed : goal.returns-in-Listed
-unfolding number_of count_of
-returns-in-Listed c = rw c.in-Listed.is at (ap of_compared c.compare_frames.ensures)
-
-pub returns-in-Refused : goal.returns-in-Refused
-unfolding number_of count_of
-returns-in-Refused c = rw c.in-Refused.is at (ap of_compared c.compare_frames.ensures)
+pub returns : goal.returns
+returns c = rw (c.hand_count.ensures.number, c.hand_count.ensures.count) (compared_handed _ _ ∙ ap of_compared c.compare_frames-compared.ensures)

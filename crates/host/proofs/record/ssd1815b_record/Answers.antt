@@ -19,7 +19,7 @@ returns-in-Nothing c = rw (← c.front_at.ensures, c.in-Nothing.is)
 
 pub returns-in-Cut : goal.returns-in-Cut
 unfolding record_of
-returns-in-Cut c = rw (← c.front_at.ensures, c.in-Cut.is)
+returns-in-Cut c = rw (← c.front_at.ensures, c.in-Cut.is, c.from.ensures)
 
 pub returns-in-Whole : goal.returns-in-Whole
 unfolding record_of

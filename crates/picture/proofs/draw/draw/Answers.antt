@@ -1,10 +1,7 @@
 -- `picture::draw::draw` meets its contract: the frame's length first, then what state and memory are asked, then the rows.
-use mathlib.Core.Path.{◌≡◌, ◌∙◌, sym}
-use mathlib.Core.List.{List, ◌++◌}
-use Prim.Native.Nat.{ℕ}
+use mathlib.Core.Path.{sym}
 use native.Mathlib.Omega.{arith}
 use borrow.Author.Tests.{lt-ltb, le-ltb}
-use lib.ListN.{take, drop, take-append-drop}
 use Rattle.std.proofs.lemmas.Result.{err_from_is_err_and}
 use Rattle.bus.proofs.Legal.{long}
 use Rattle.picture.specs.Draw.{draw, draw_on}

@@ -48,8 +48,8 @@ pub returns-then-row-gt-HEIGHT : goal.returns-then-row-gt-HEIGHT
 returns-then-row-gt-HEIGHT c =
     let a = c.args in
     elim c.then-row-gt-HEIGHT.branch [
-      then-row-gt-HEIGHT-via-then-row-gt-HEIGHT w ↦ no_row a.registers a.memory.now a.row a.places.now w.if-row-gt-HEIGHT.true
-    | then-row-gt-HEIGHT-via-else-row-gt-HEIGHT+then-places-ne-WIDTH w ↦ no_part a.registers a.memory.now a.row a.places.now w.if-places-ne-WIDTH.true
+      | then-row-gt-HEIGHT-via-then-row-gt-HEIGHT w ↦ no_row a.registers a.memory.now a.row a.places.now w.if-row-gt-HEIGHT.true
+      | then-row-gt-HEIGHT-via-else-row-gt-HEIGHT+then-places-ne-WIDTH w ↦ no_part a.registers a.memory.now a.row a.places.now w.if-places-ne-WIDTH.true
     ]
 
 pub returns-in-Some : goal.returns-in-Some

@@ -1,7 +1,5 @@
 -- `picture::page::bits` meets its contract: each place is made by a call.
 use borrow.Author.Rules.{rules}
-use Prim.Native.Nat.{◌/◌, ◌%◌, ◌^◌}
-use lib.ListN.{get_or}
 use Rattle.constants.specs.Sizes.{width}
 use Rattle.picture.proofs.Made.{made_line}
 use Rattle.picture.proofs.page.bits.Goals as goal

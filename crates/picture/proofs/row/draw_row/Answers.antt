@@ -4,7 +4,6 @@ use native.Mathlib.Omega.{arith}
 use borrow.Author.Tests.{eq-eqb, ne_eqb}
 use Rattle.constants.specs.Sizes.{width}
 use Rattle.picture.specs.Rows.{scan_of}
-use Rattle.picture.specs.Shown.{shown_of}
 use Rattle.picture.specs.Frame.{segment, while_on}
 use Rattle.picture.proofs.Lines.{line_same}
 use Rattle.picture.proofs.Made.{filled_line}
@@ -15,13 +14,13 @@ use Rattle.picture.proofs.row.draw_row.Goals as goal
 pub returns-then-registers-eq0 : goal.returns-then-registers-eq0
 unfolding segment
 returns-then-registers-eq0 c =
-    filled_line width 0 c.args.places.now c.requires c.fill.ensures.after ∙ line_same width _ _ (λ x h. rw (eq-eqb c.args.registers.on 0 (omega arith)))
+    filled_line width _ c.args.places.now c.requires c.fill.ensures.after ∙ line_same width _ _ (λ x h. rw (eq-eqb c.args.registers.on 0 (omega arith)) (omega arith))
 
 pub returns-then-registers-eq-ALL_ROWS : goal.returns-then-registers-eq-ALL_ROWS
 unfolding segment
 returns-then-registers-eq-ALL_ROWS c =
     let a = c.args in
-    filled_line width 1 a.places.now c.requires c.fill-then-registers-eq-ALL_ROWS.ensures.after ∙ line_same width _ _ (λ x h. rw (ne_eqb a.registers.on 0 (λ off. omega arith), all_lit a.registers a.memory.now a.row x (omega (arith, c.if-registers-eq-ALL_ROWS.true)) c.if-registers-eq1.true))
+    filled_line width _ a.places.now c.requires c.fill-then-registers-eq-ALL_ROWS.ensures.after ∙ line_same width _ _ (λ x h. rw (ne_eqb a.registers.on 0 (λ off. omega arith), all_lit a.registers a.memory.now a.row x (omega (arith, c.if-registers-eq-ALL_ROWS.true)) c.if-registers-eq1.true) (omega arith))
 
 pub shown_bits-requires : goal.shown_bits-requires
 shown_bits-requires c =
@@ -31,12 +30,12 @@ shown_bits-requires c =
 pub returns-in-None : goal.returns-in-None
 unfolding segment while_on
 returns-in-None c =
-    filled_line width 0 c.args.places.now c.requires c.fill-in-None.ensures.after ∙ line_same width _ _ (λ x h. rw (ne_eqb c.args.registers.on 0 (λ off. omega arith), ← c.row_shows.ensures, c.in-None.is))
+    filled_line width _ c.args.places.now c.requires c.fill-in-None.ensures.after ∙ line_same width _ _ (λ x h. rw (ne_eqb c.args.registers.on 0 (λ off. omega arith), ← c.row_shows.ensures, c.in-None.is) (omega arith))
 
 pub returns-then-registers-eq1-2 : goal.returns-then-registers-eq1-2
 unfolding segment while_on
 returns-then-registers-eq1-2 c =
-    filled_line width 1 c.args.places.now c.requires c.fill-then-registers-eq1-2.ensures.after ∙ line_same width _ _ (λ x h. rw (ne_eqb c.args.registers.on 0 (λ off. omega arith), ← c.row_shows.ensures, c.in-Some.is, eq-eqb _ _ c.if-registers-eq1-2.true))
+    filled_line width _ c.args.places.now c.requires c.fill-then-registers-eq1-2.ensures.after ∙ line_same width _ _ (λ x h. rw (ne_eqb c.args.registers.on 0 (λ off. omega arith), ← c.row_shows.ensures, c.in-Some.is, eq-eqb _ _ c.if-registers-eq1-2.true) (omega arith))
 
 pub returns-else-registers-eq1-2 : goal.returns-else-registers-eq1-2
 unfolding segment while_on

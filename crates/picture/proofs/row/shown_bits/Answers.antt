@@ -1,5 +1,4 @@
 -- `picture::row::shown_bits` meets its contract: the page as it is shown has the row's bits.
-use mathlib.Core.Path.{◌≡◌}
 use native.Mathlib.Omega.{arith}
 use borrow.Author.Rules.{rules}
 use lib.Bits.{mask_lt}
@@ -12,4 +11,4 @@ shown_page-page-requires c = search (rules, mask_lt c.args.registers.reverse 1)
 pub returns : goal.returns
 returns c =
     let a = c.args in
-    row_bits a.registers a.memory.now a.row c.page.ensures c.bit.ensures c.shown_page-page.ensures c.bits_of.ensures
+    row_bits a.registers a.memory.now a.row (omega (arith, c.page.ensures)) (omega (arith, c.bit.ensures)) c.shown_page-page.ensures c.bits_of.ensures

@@ -1,11 +1,9 @@
 -- `bus::registers::Registers::within` meets its contract: the tests are the definition's, registers side by side as one number; and column, byte of A9, awaited code and saved column, which no test asks, are bytes.
 use mathlib.Core.Path.{refl}
 use mathlib.Core.Bool.{and_assoc, and-true}
-use mathlib.Core.List.{[], ◌∷◌}
 use native.Mathlib.Omega.{arith}
 use borrow.Author.Tests.{le-leb}
 use borrow.Author.Rules.{rules}
-use Rattle.bus.specs.Bytes.{Bytes}
 use Rattle.bus.specs.Registers.{largest_values}
 use Rattle.bus.specs.Image.{within}
 use Rattle.bus.proofs.Ranges.{four_as_one, two_as_one, eight_as_one}
