@@ -1,17 +1,15 @@
 -- A whole entry is within its pack.
 -- Assumes nothing.
-use mathlib.Core.Path.{◌≡◌, refl, ◌∙◌, ap}
+use mathlib.Core.Path.{◌≡◌, refl, ap}
 use mathlib.Core.Bool.{Bool, true, false, cond, ◌&&◌}
 use mathlib.Core.List.{List}
-use Prim.Native.Nat.{ℕ, ◌+◌, ◌-◌, ◌≤◌, ◌<◌}
-use native.Mathlib.Nat.{add-zero, add_assoc}
+use Prim.Native.Nat.{ℕ, ◌+◌, ◌≤◌}
 use native.Mathlib.Omega.{arith}
-use borrow.Author.Tests.{eq-eqb, ne_eqb, le-leb, lt-leb, leb-true}
+use borrow.Author.Tests.{leb-true}
 use lib.Dec.{eqb, leb}
 use lib.ListN.{length, drop, length-drop}
-use lib.Seq.{get_or-drop}
 use Rattle.codes.proofs.Tests.{both}
-use Rattle.listpack.specs.Pack.{number, header_size, name_length, trace_length, entry_of}
+use Rattle.listpack.specs.Pack.{header_size, name_length, trace_length, entry_of}
 use Rattle.listpack.specs.declared.pack.Sizes.{Sizes}
 use Rattle.listpack.specs.declared.pack.Entry.{Entry}
 

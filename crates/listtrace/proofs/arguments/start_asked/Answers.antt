@@ -4,7 +4,7 @@ use mathlib.Core.Bool.{false≢true}
 use native.Mathlib.Omega.{arith}
 use Rattle.std.proofs.lemmas.Bool.Decides.{Decides-eqb}
 use Rattle.std.proofs.lemmas.Slice.Eq.{slice_eq-Decides}
-use Rattle.listtrace.specs.StartAsked.{start_asked, upright_argument}
+use Rattle.listtrace.specs.StartAsked.{upright_argument}
 use Rattle.listtrace.proofs.StartAsked.{start_asked_lem}
 use Rattle.listtrace.proofs.arguments.start_asked.Goals as goal
 use Rattle.listtrace.proofs.arguments.start_asked.Goals.{else-count-eq2-via-then-count-eq2+else-eq, else-count-eq2-via-else-count-eq2}
@@ -20,8 +20,8 @@ returns-then-eq c =
 pub returns : goal.returns
 returns c =
     elim c.else-count-eq2.branch [
-      else-count-eq2-via-then-count-eq2+else-eq w ↦
-        let differs : c.args.word.now ≡ upright_argument → ⊥ = λ e. false≢true (sym w.if-eq.false ∙ (slice_eq-Decides Decides-eqb _ _ w.eq.result w.eq.ensures).1 (e ∙ sym w.as_slice.ensures)) in
-        rw w.if-count-eq2.true (sym (start_asked_lem.other _ differs))
-    | else-count-eq2-via-else-count-eq2 w ↦ sym (start_asked_lem.more _ _ (omega (arith, c.if-count-lt2.false, w.if-count-eq2.false)))
+      | else-count-eq2-via-then-count-eq2+else-eq w ↦
+          let differs : c.args.word.now ≡ upright_argument → ⊥ = λ e. false≢true (sym w.if-eq.false ∙ (slice_eq-Decides Decides-eqb _ _ w.eq.result w.eq.ensures).1 (e ∙ sym w.as_slice.ensures)) in
+          rw w.if-count-eq2.true (sym (start_asked_lem.other _ differs))
+      | else-count-eq2-via-else-count-eq2 w ↦ sym (start_asked_lem.more _ _ (omega (arith, c.if-count-lt2.false, w.if-count-eq2.false)))
     ]
