@@ -16,6 +16,8 @@ use crate::registers::Registers;
 use constants::refusal::Refusal;
 use constants::sizes::IMAGE_SIZE;
 
+// Each call takes the image by one line of the library: a function for that line would be no shorter where it is called.
+
 // A command byte, which no memory is asked for.
 pub fn command(state: &mut [u8], byte: u8) -> Result<(), Refusal>
     ensures { (memory : List ℕ) → called (reply_to result) state.new memory ≡ on_state (command_byte byte) state.old memory }

@@ -5,6 +5,7 @@ ghost use Rattle.bus.specs.Chip.{command_byte, data_written, data_read, reset_pu
 ghost use Rattle.bus.specs.Calls.{called, call};
 ghost use Rattle.bus.specs.Accepts.{Accepts};
 
+// State and memory stay two parameters: C lends them so, to be read by three calls and to be changed by one. The calls differ in the event that they pass on.
 use crate::accepted;
 use crate::image::{legal, short};
 use crate::registers::Registers;

@@ -74,7 +74,7 @@ impl Registers {
 pub(crate) fn address(page: u8, column: u8) -> usize
     ensures { result ≡ address page column }
 {
-    (page as usize) * WIDTH + (column as usize)
+    usize::from(page) * WIDTH + usize::from(column)
 }
 
 // What the memory keeps of a byte: on page 8 its bit 0.

@@ -103,7 +103,7 @@ impl Registers {
         }
     }
 
-    // The image of the registers.
+    // The image of the registers, by name in the document's order: a struct is no array; this and `store` are public calls (specs/Settled).
     pub fn image(self) -> [u8; IMAGE_SIZE]
         ensures { result ≡ image_of self }
     {

@@ -16,6 +16,8 @@ use constants::sizes::WIDTH;
 // Fewer reads are read one by one.
 const FEWEST: usize = 32;
 
+// Writes have no such struct as `Reading` below: each piece changes registers and memory.
+
 // A piece written, from the column on; it ends at column 131 or before it.
 pub fn write_piece(registers: Registers, memory: &mut [u8], bytes: &[u8]) -> Registers
     requires { (access registers (length memory.old) ≡ taken) × (0 < length bytes.now) × (registers.column + length bytes.now ≤ width) }
@@ -35,6 +37,7 @@ pub fn write_round(mut registers: Registers, memory: &mut [u8], bytes: &[u8]) ->
     ensures { stretch replay (map recorded_write bytes.now) (chip_of registers memory.old) ≡ stretched (chip_of result memory.new) (length bytes.now) taken }
 {
     let mut left = bytes;
+    // No chunks: the first piece ends at column 131, the others at a row's width.
     while !left.is_empty() {
         let (piece, rest) = left.split_at(piece_size(registers.column, left.len()));
         registers = write_piece(registers, memory, piece);
@@ -119,6 +122,7 @@ impl<'a> Reading<'a> {
         let memory = self.memory;
         let mut registers = self.registers;
         let mut left = bytes;
+        // No chunks: the first piece ends at column 131, the others at a row's width.
         while !left.is_empty() {
             let (piece, after) = left.split_at(piece_size(registers.column, left.len()));
             let from = address(registers.page, registers.column);
@@ -159,7 +163,7 @@ fn after_dummy(fresh: u8) -> u8
     if fresh == 1 { 0 } else { fresh }
 }
 
-// The column where a piece of so many bytes has ended: after 131 comes 0.
+// The column where a piece of so many bytes has ended: after 131 comes 0. It is below 132: `u8::try_from` would have a branch that is never taken.
 fn column_after(column: u8, size: usize) -> u8
     requires { column + size ≤ width }
     ensures { result ≡ column_at (column + size) }

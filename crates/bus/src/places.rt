@@ -52,6 +52,7 @@ pub trait Held {
         ensures size { size self.new ≡ size self.old };
 }
 
+// A register by its name: a struct's fields cannot be counted.
 impl Held for Registers {
     ghost registers = { λ r. r };
 

@@ -9,7 +9,7 @@ use constants::sizes::ICON_PAGE;
 // So many bytes are put at once.
 const CHUNK: usize = 32;
 
-// Puts what a page keeps of some bytes into as many places.
+// Puts what a page keeps of some bytes into as many places. Two slices and a fact, here and in same.rt: a struct of both would be made for each call and taken apart in it.
 pub fn put(page: u8, places: &mut [u8], bytes: &[u8])
     requires { length places.old ≡ length bytes.now }
     ensures { places.new ≡ map (kept page) bytes.now }

@@ -3,6 +3,7 @@ ghost use Rattle.std.specs.Prelude.{◌≡◌};
 ghost use Rattle.bus.specs.Registers.{power_on, power_state, ◌with◌≔◌};
 ghost use Rattle.bus.specs.Places.{column, fresh};
 
+// The registers. Numbers as the image has them: events on any bytes of a lent state are promised (specs/Settled), so that no field is narrower than a byte.
 #[derive(Clone, Copy)]
 pub struct Registers {
     pub page: u8,
@@ -100,6 +101,7 @@ impl Registers {
         PowerState::Awake
     }
 
+    // This and the next are two public calls, each with a field of specs/Settled.
     pub fn with_column(mut self, value: u8) -> Registers
         ensures { result ≡ (self with column ≔ value) }
     {

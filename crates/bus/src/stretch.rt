@@ -23,6 +23,7 @@ pub fn commands(mut registers: Registers, bytes: &[u8]) -> Stretch
     ensures { (memory : List ℕ) → stretch_of result memory ≡ stretch replay (map recorded_command bytes.now) (chip_of registers memory) }
 {
     for (at, byte) in bytes.iter().enumerate() {
+        // By `let .. else`, as document 01 names it of the run; so below.
         let answer = registers.command(*byte);
         let Ok(left) = answer else {
             return halted(answer.and(Ok(())), at, registers);
@@ -43,7 +44,7 @@ pub fn writes(mut registers: Registers, memory: &mut [u8], bytes: &[u8]) -> Stre
     let Ok(()) = met else {
         return halted(met, 0, registers);
     };
-    if bytes.len() <= WIDTH - (registers.column as usize) {
+    if bytes.len() <= WIDTH - usize::from(registers.column) {
         registers = write_piece(registers, memory, bytes);
     } else {
         registers = write_round(registers, memory, bytes);

@@ -65,6 +65,7 @@ impl<'a> Text<'a> {
         requires countable { Countable self.old.at (lines width frame.now frame_rows 0) }
         ensures { Puts self.old (lines width frame.now frame_rows 0) self.new }
     {
+        // No `chunks_exact`: a frame 0 wide is allowed here, and its rows are listed.
         for p in 0..FRAME_ROWS {
             let start = p * width;
             let end = start + width;

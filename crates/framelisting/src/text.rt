@@ -5,7 +5,7 @@ ghost use Rattle.framelisting.specs.Put.{Countable, Put};
 ghost use Rattle.framelisting.specs.Puts.{Puts};
 ghost use Rattle.framelisting.specs.Decimal.{decimal};
 
-// A lent buffer, and the place after what has been put.
+// A lent buffer, and the place after what has been put. What may be put (`Countable`) is of the piece, so that no type of the buffer can hold it.
 #[derive(Drop)]
 pub struct Text<'a> {
     pub buffer: &'a mut [u8],
@@ -50,6 +50,7 @@ impl<'a> Text<'a> {
         self.at <= self.buffer.len() && bytes <= self.buffer.len() - self.at
     }
 
+    // By hand: a place past the buffer's end is counted and takes no byte, which no `Write` of the library does.
     // Puts a number in decimal. A number of up to three digits is put at once where the buffer has room for three.
     pub fn put_number(&mut self, number: usize)
         requires { Countable self.old.at (decimal number) }

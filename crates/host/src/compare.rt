@@ -5,6 +5,8 @@ ghost use Rattle.host.specs.Compare.{compare_reply, of_compared};
 
 use constants::refusal::hand_count;
 
+// In C's form (lib.rt).
+
 // Lists the differing runs of two frames: the count of entries goes to where the host wants it, 0 where it is refused.
 #[unsafe(no_mangle)]
 pub extern "C" fn ssd1815b_compare_frames(

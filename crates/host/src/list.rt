@@ -5,6 +5,8 @@ ghost use Rattle.host.specs.List.{list_reply, of_listed};
 
 use constants::refusal::hand_count;
 
+// In C's form (lib.rt).
+
 // Lists a frame, after a stopped run's number and offset: the text's length goes to where the host wants it, 0 where it is refused.
 #[unsafe(no_mangle)]
 pub extern "C" fn ssd1815b_list(

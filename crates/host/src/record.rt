@@ -7,6 +7,8 @@ use constants::refusal::{Refusal, TAKEN};
 use constants::sizes::HEADER_SIZE;
 use trace::records::{Front, front_at};
 
+// In C's form (lib.rt).
+
 // The record's kind and the offset after it go to where the host wants them: 0 and the offset itself where no whole record stands there.
 #[unsafe(no_mangle)]
 pub extern "C" fn ssd1815b_record(bytes: &[u8], at: usize, kind: &mut usize, next: &mut usize) -> u8

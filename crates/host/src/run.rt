@@ -4,6 +4,8 @@ ghost use Rattle.trace.specs.Run.{ran, stop_of, run};
 
 use constants::refusal::number_met;
 
+// In C's form (lib.rt).
+
 // Runs a trace: the offset where it stopped and the count of whole records done go to where the host wants them.
 #[unsafe(no_mangle)]
 pub extern "C" fn ssd1815b_run(

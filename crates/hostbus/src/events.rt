@@ -6,6 +6,8 @@ ghost use Rattle.hostbus.specs.Events.{state_reply, write_reply, read_reply, of_
 
 use constants::refusal::{TAKEN, number_met};
 
+// In C's form (lib.rt).
+
 // A command byte.
 #[unsafe(no_mangle)]
 pub extern "C" fn ssd1815b_command(state: &mut [u8], memory: &[u8], byte: u8) -> u8

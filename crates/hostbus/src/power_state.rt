@@ -6,6 +6,8 @@ use bus::image::ask_state;
 use bus::registers::PowerState;
 use constants::refusal::TAKEN;
 
+// In C's form (lib.rt).
+
 // The power state of the registers goes to where the host wants it, awake where the state is refused.
 #[unsafe(no_mangle)]
 pub extern "C" fn ssd1815b_power_state(state: &[u8], power: &mut u8) -> u8

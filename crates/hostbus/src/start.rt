@@ -6,6 +6,8 @@ ghost use Rattle.bus.specs.declared.start.Hung.{Hung};
 use bus::start::Hung;
 use constants::refusal::number_met;
 
+// In C's form (lib.rt).
+
 // The start of a new cabinet, whose module hangs upside down: puts its image into the state and zeros into the memory, or refuses 1.
 #[unsafe(no_mangle)]
 pub extern "C" fn ssd1815b_start(state: &mut [u8], memory: &mut [u8]) -> u8

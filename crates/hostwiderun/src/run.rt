@@ -6,6 +6,8 @@ ghost use Rattle.widetrace.specs.WideRun.{wide_ran, wide_run};
 
 use constants::refusal::number_met;
 
+// In C's form (lib.rt).
+
 // Runs a trace: the offset where it stopped and the count of whole records done go to where the host wants them.
 #[unsafe(no_mangle)]
 pub extern "C" fn ssd1815b_wide_run(

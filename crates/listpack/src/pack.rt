@@ -8,6 +8,7 @@ use tracelisting::word::begins_with;
 // Bytes of an entry's header, which has two lengths.
 pub const HEADER_SIZE: usize = 8;
 
+// Lengths and no parts, as the header has them (specs/Pack `entry_of`).
 // What an entry's header says: the length of its name, and of its trace.
 #[derive(Clone, Copy, Debug, PartialEq, Eq)]
 pub struct Sizes {
@@ -31,6 +32,7 @@ pub fn entry_at(pack: &[u8], at: usize) -> Entry
     match pack.get(at..) {
         None | Some([]) => Entry::Nothing,
         Some([n0, n1, n2, n3, t0, t1, t2, t3, rest @ ..]) => {
+            // The library has no `From<u32> for usize`.
             let name = u32::from_le_bytes([*n0, *n1, *n2, *n3]) as usize;
             let trace = u32::from_le_bytes([*t0, *t1, *t2, *t3]) as usize;
             let both = name + trace;

@@ -120,7 +120,7 @@ fn rows_in_use(registers: Registers) -> u16
     u16::from(registers.multiplex) + 1
 }
 
-// A row counted on past the last panel row comes round to the first. Its low byte comes to the same row, since 256 is four times round, and from there two steps are enough (DECISIONS 165).
+// A row counted on past the last panel row comes round to the first. Its low byte comes to the same row, since 256 is four times round, and from there two steps are enough (DECISIONS 165). It is below 64: `u8::try_from` would have a branch that is never taken.
 fn around(row: u16) -> u8
     ensures { result ≡ row % height }
 {

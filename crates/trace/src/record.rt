@@ -20,7 +20,7 @@ pub struct Ending {
     pub outcome: Result<(), Halt>,
 }
 
-// The record with this header that stands at an offset of the trace.
+// The record with this header that stands at an offset of the trace: trace and offset are what the promise speaks of (`record_at at (drop at trace)`).
 pub fn obey(
     header: Header,
     registers: Registers,

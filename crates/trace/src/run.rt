@@ -36,7 +36,7 @@ pub struct Played {
     pub registers: Registers,
 }
 
-// Runs a trace, record by record, up to the first refusal.
+// Runs a trace, record by record, up to the first refusal. No `?`: a refused run answers an offset and a count too.
 pub fn run(state: &mut [u8], memory: &mut [u8], trace: &[u8]) -> Stop
     ensures { ran (stop_met result) state.new memory.new ≡ run state.old memory.old trace.now }
 {

@@ -25,7 +25,7 @@ pub enum Heed {
     Passes(Selection),
 }
 
-// How the chip on a side heeds a record of a kind at an offset, by the bytes of its payload.
+// How the chip on a side heeds a record of a kind at an offset, which is for the refusal alone, by the bytes of its payload.
 pub fn heed_of(
     side: Side,
     selection: Selection,

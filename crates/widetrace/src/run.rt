@@ -17,7 +17,7 @@ use trace::run::Stop;
 use widebus::both::{Both, ask};
 use widebus::selection::{Selection, Side};
 
-// A played trace: where it stopped, and the registers and the selection that it leaves.
+// A played trace: where it stopped, and the registers and the selection that it leaves; both chips' registers, where SidePlayed has one's: a type parameter would serve these two alone.
 #[derive(Clone, Copy)]
 struct WidePlayed {
     stop: Stop,
@@ -25,7 +25,7 @@ struct WidePlayed {
     selection: Selection,
 }
 
-// Runs a trace, record by record, up to the first refusal. A run starts with both chips selected.
+// Runs a trace, record by record, up to the first refusal. A run starts with both chips selected. No `?`: a refused run answers an offset and a count too.
 pub fn run(
     left_state: &mut [u8],
     left_memory: &mut [u8],

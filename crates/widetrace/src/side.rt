@@ -23,6 +23,7 @@ pub struct SidePlayed {
     pub selection: Selection,
 }
 
+// A limit and no shorter trace: a record that the limit cuts is played as far as it, and is not cut (8).
 // Plays what a chip hears of a trace, up to an offset, from given registers and memory with both chips selected.
 pub fn play_side(
     side: Side,
@@ -78,7 +79,7 @@ fn size_before(limit: usize, from: usize, size: usize) -> usize
     size.min(limit.saturating_sub(from))
 }
 
-// The end of a played trace.
+// The end of a played trace: trace's has no selection.
 fn end(
     outcome: Result<(), Refusal>,
     offset: usize,

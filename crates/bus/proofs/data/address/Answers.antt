@@ -1,6 +1,5 @@
--- `bus::data::address` meets its contract: the sum is the definition's.
-use mathlib.Core.Path.{refl}
+-- `bus::data::address` meets its contract by computing.
 use Rattle.bus.proofs.data.address.Goals as goal
 
 pub returns : goal.returns
-returns c = refl
+returns c = rw (c.from.ensures, c.from-2.ensures)

@@ -5,14 +5,14 @@ use Rattle.constants.proofs.Refusals.{refusal_not_taken}
 use borrow.Author.Tests.{eqb-false}
 use Rattle.bus.proofs.Access.{opened}
 use Rattle.bus.proofs.PieceLaws.{refused_first, none_written}
-use Rattle.bus.proofs.stretch.writes.Goals.{then-bytes-registers, else-bytes-registers}
+use Rattle.bus.proofs.stretch.writes.Goals.{then-bytes-from, else-bytes-from}
 use Rattle.bus.proofs.stretch.writes.Goals as goal
 
 pub returns-then-bytes-eq0 : goal.returns-then-bytes-eq0
 returns-then-bytes-eq0 c = let a = c.args in rw c.halted.ensures (sym (none_written a.bytes.now a.registers a.memory.now c.if-bytes-eq0.true))
 
-pub overflow_sub-registers : goal.overflow_sub-registers
-overflow_sub-registers c = let o = opened _ _ (sym (rw c.in-Ok.is at c.access-met.ensures)) in omega (arith, o.column)
+pub overflow_sub-from : goal.overflow_sub-from
+overflow_sub-from c = let o = opened _ _ (sym (rw c.in-Ok.is at c.access-met.ensures)) in omega (arith, o.column, c.from.ensures)
 
 pub returns-in_default : goal.returns-in_default
 returns-in_default c =
@@ -24,7 +24,7 @@ returns-in_default c =
 pub returns : goal.returns
 returns c =
     rw c.halted-2.ensures
-    (elim c.if-bytes-registers.branch [
-      | then-bytes-registers w ↦ rw (w.registers-is, w.memory-is) (sym w.write_piece-registers.ensures.1)
-      | else-bytes-registers w ↦ rw (w.registers-is, w.memory-is) (sym w.write_round-registers.ensures)
+    (elim c.if-bytes-from.branch [
+      | then-bytes-from w ↦ rw (w.registers-is, w.memory-is) (sym w.write_piece-registers.ensures.1)
+      | else-bytes-from w ↦ rw (w.registers-is, w.memory-is) (sym w.write_round-registers.ensures)
     ])
