@@ -137,9 +137,7 @@ fn put_rows<E: Entry, const CHUNK: usize>(
     let (second, _) = second.as_chunks::<ROW>();
     let mut next = at;
     for (row, (was, is)) in first.iter().zip(second).enumerate() {
-        if *was != *is {
-            next = E::put(list, next, (from + row) as u8, was, is);
-        }
+        next = E::put(list, next, (from + row) as u8, was, is);
     }
     next
 }

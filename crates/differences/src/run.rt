@@ -67,7 +67,7 @@ impl Entry for Run {
         count
     }
 
-    // A row that differs in one way throughout is one run.
+    // A row that is the same in both has no run, and one that differs in one way throughout is one.
     fn put(
         list: &mut [u8],
         at: usize,
@@ -75,6 +75,9 @@ impl Entry for Run {
         first: &[u8; ROW],
         second: &[u8; ROW],
     ) -> usize {
+        if first == second {
+            return at;
+        }
         if one_run(first, second) {
             let run = Run {
                 row,
