@@ -69,13 +69,10 @@ impl Entry for DifferingByte {
     ) -> usize {
         let start = usize::from(row) * ROW;
         let mut next = at;
-        let mut column = 0;
-        while column < ROW {
+        for column in 0..ROW {
             let was = kept(row, first[column]);
             let is = kept(row, second[column]);
-            if was == is {
-                column += 1;
-            } else {
+            if was != is {
                 let byte = DifferingByte {
                     place: (start + column) as u16,
                     in_first: was,
@@ -83,7 +80,6 @@ impl Entry for DifferingByte {
                 };
                 byte.put_at(list, next);
                 next += 1;
-                column += 1;
             }
         }
         next

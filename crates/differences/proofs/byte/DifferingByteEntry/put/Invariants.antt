@@ -1,5 +1,5 @@
 -- `differences::byte::DifferingByteEntry::put` meets its contract: the differing bytes from here on are put from here on.
-use Prim.Native.Nat.{◌≤◌, ◌-◌}
+use Prim.Native.Nat.{◌-◌}
 use mathlib.Core.List.{map}
 use Rattle.constants.specs.Sizes.{width, memory_entry_size}
 use Rattle.differences.specs.Bytes.{bytes_from}
@@ -9,7 +9,4 @@ use Rattle.differences.proofs.PutEntries.{Rest}
 use Rattle.differences.proofs.byte.DifferingByteEntry.put.Given as goal
 
 abbrev pub invariant-loop-column : goal.invariant-loop-column
-invariant-loop-column l = (l.column ≤ width) × Rest memory_entry_size byte_bytes byte_bytes_sized l.initial.list l.at (bytes_found l.row l.first l.second) l.list l.next (map code_byte (bytes_from l.row l.first l.second (width - l.column) l.column))
-
-abbrev pub decreases-loop-column : goal.decreases-loop-column
-decreases-loop-column l = width - l.column
+invariant-loop-column l = Rest memory_entry_size byte_bytes byte_bytes_sized l.initial.list l.at (bytes_found l.row l.first l.second) l.list l.next (map code_byte (bytes_from l.row l.first l.second (width - l.column) l.column))
