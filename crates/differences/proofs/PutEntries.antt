@@ -4,10 +4,9 @@ use Prim.Native.Nat.{ℕ, suc, ◌+◌, ◌*◌, ◌≤◌, ◌<◌}
 use mathlib.Core.Path.{◌≡◌, refl, sym, ◌∙◌, ap}
 use mathlib.Core.List.{List, [], ◌∷◌, ◌++◌, append_assoc}
 use native.Mathlib.Nat.{add-zero, add-suc, suc-add, zero-add, zero-mul}
-use native.Mathlib.Numerals.{add-one}
 use native.Mathlib.Omega.{arith}
-use lib.ListN.{length, length-append, drop, drop_of_length-le, set, get_or}
-use lib.Seq.{sets, length-sets, sets-eq, drop-cons}
+use lib.ListN.{length, length-append, drop, set}
+use lib.Seq.{sets, length-sets, sets-eq}
 use Rattle.differences.specs.Entries.{entries}
 use Rattle.differences.specs.Put.{Room, Put}
 use Rattle.differences.specs.Compare.{outcome, listed}
@@ -88,11 +87,18 @@ module _ {A : Type 0} (size : ℕ) (entry : A → List ℕ) (sized : (a : A) →
   pub put_listed : {list : List ℕ} {found : List A} {next : ℕ} {later : List ℕ} → Put size entry list 0 found next later → length found * size ≤ length list → outcome (Compared.Listed next) later ≡ listed entry found list
   put_listed {list} {found} f h = rw (f.counted, zero-add, at_start f h) (sym (listed_all size entry sized found list h))
 
--- bytes put one by one: the first of those that are left, and none
-pub put_on : (list bytes : List ℕ) (start i : ℕ) → i < length bytes → sets list (start + i) (drop i bytes) ≡ sets (set list (start + i) (get_or bytes i 0)) (start + (i + 1)) (drop (i + 1) bytes)
-put_on list bytes start i h =
-    let e : start + (i + 1) ≡ suc (start + i) = omega arith in
-    rw (e, drop-cons bytes i 0 h, add-one i)
+-- bytes stored one by one are the entry of them
+pub five : (list : List ℕ) (s a b c d e : ℕ) → set (set (set (set (set list s a) (s + 1) b) (s + 2) c) (s + 3) d) (s + 4) e ≡ sets list s (a ∷ b ∷ c ∷ d ∷ e ∷ [])
+five list s a b c d e =
+    let e4 : suc (suc (suc (suc s))) ≡ s + 4 = omega arith in
+    let e3 : suc (suc (suc s)) ≡ s + 3 = omega arith in
+    let e2 : suc (suc s) ≡ s + 2 = omega arith in
+    let e1 : suc s ≡ s + 1 = omega arith in
+    rw (e4, e3, e2, e1)
 
-pub put_end : (list bytes : List ℕ) (start i : ℕ) → length bytes ≤ i → sets list (start + i) (drop i bytes) ≡ list
-put_end list bytes start i h = rw (drop_of_length-le bytes h)
+pub four : (list : List ℕ) (s a b c d : ℕ) → set (set (set (set list s a) (s + 1) b) (s + 2) c) (s + 3) d ≡ sets list s (a ∷ b ∷ c ∷ d ∷ [])
+four list s a b c d =
+    let e3 : suc (suc (suc s)) ≡ s + 3 = omega arith in
+    let e2 : suc (suc s) ≡ s + 2 = omega arith in
+    let e1 : suc s ≡ s + 1 = omega arith in
+    rw (e3, e2, e1)

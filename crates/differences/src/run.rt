@@ -1,5 +1,6 @@
 // The runs of differing places of one row.
-ghost use Rattle.std.specs.Prelude.{◌≡◌, ℕ, true, ◌+◌, ◌-◌, ◌≤◌, ◌<◌, length, map};
+ghost use Rattle.std.specs.Prelude.{◌≡◌, ℕ, true, ◌+◌, ◌-◌, ◌*◌, ◌≤◌, ◌<◌, length};
+ghost use Rattle.std.proofs.lemmas.List.Edits.{sets};
 ghost use Rattle.std.proofs.Common.{lit≤};
 ghost use Rattle.constants.specs.Sizes.{width, frame_entry_size};
 ghost use Rattle.differences.specs.Runs.{more, row_runs};
@@ -7,7 +8,7 @@ ghost use Rattle.differences.specs.Found.{run_bytes, runs_found};
 ghost use Rattle.differences.specs.Laws.{run_bytes_sized, runs_found_few, runs_found_none};
 ghost use Rattle.differences.specs.Put.{Room, Put, Uniform, OneRun};
 
-use crate::list::{Entry, ROW, put_entry};
+use crate::list::{Entry, ROW};
 use constants::sizes::{FRAME_ENTRY_SIZE, LAST_COLUMN};
 
 // A run: its row, its first and last column, and what its places hold in the first frame and in the second.
@@ -21,17 +22,17 @@ pub struct Run {
 }
 
 impl Run {
-    // The run as an entry.
-    fn bytes(self) -> [u8; FRAME_ENTRY_SIZE]
-        ensures { result ≡ run_bytes self }
+    // Puts the run as entry number `at`. Byte by byte: with an array and `copy_from_slice`, loops are not unrolled, and six letters take 1,690 ns for 1,520.
+    fn put_at(self, list: &mut [u8], at: usize)
+        requires { at * frame_entry_size + frame_entry_size ≤ length list.old }
+        ensures { list.new ≡ sets list.old (at * frame_entry_size) (run_bytes self) }
     {
-        [
-            self.row,
-            self.first,
-            self.last,
-            self.in_first,
-            self.in_second,
-        ]
+        let start = at * FRAME_ENTRY_SIZE;
+        list[start] = self.row;
+        list[start + 1] = self.first;
+        list[start + 2] = self.last;
+        list[start + 3] = self.in_first;
+        list[start + 4] = self.in_second;
     }
 }
 
@@ -66,7 +67,7 @@ impl Entry for Run {
         count
     }
 
-    // A row that differs in one way throughout is one run.
+    // A row that is the same in both has no run, and one that differs in one way throughout is one.
     fn put(
         list: &mut [u8],
         at: usize,
@@ -74,6 +75,9 @@ impl Entry for Run {
         first: &[u8; ROW],
         second: &[u8; ROW],
     ) -> usize {
+        if first == second {
+            return at;
+        }
         if one_run(first, second) {
             let run = Run {
                 row,
@@ -82,7 +86,7 @@ impl Entry for Run {
                 in_first: first[0],
                 in_second: second[0],
             };
-            put_entry(list, at, &run.bytes());
+            run.put_at(list, at);
             return at + 1;
         }
         put_runs(list, at, row, first, second)
@@ -133,7 +137,7 @@ fn put_runs(
                 in_first: first[x],
                 in_second: second[x],
             };
-            put_entry(list, next, &run.bytes());
+            run.put_at(list, next);
             next += 1;
             x = last + 1;
         }

@@ -8,7 +8,7 @@ use Rattle.std.proofs.Common.{None, rules}
 use Rattle.std.specs.Simd.{first_chunks}
 use Rattle.std.proofs.lemmas.Slice.Zip.{either_empty_from_Zip}
 use Rattle.constants.specs.Sizes.{width}
-use Rattle.differences.proofs.Along.{along, along_start, along_on, along_end, along_over, same_bytes}
+use Rattle.differences.proofs.Along.{along, along_start, along_on, along_end}
 use Rattle.differences.proofs.PutEntries.{begin, turns, done, rest_length, room_for}
 use Rattle.differences.proofs.list.put_rows.Goals as goal
 
@@ -30,22 +30,13 @@ put-next-requires g c =
     let on = along_on (λ (p : ℕ). g.E.Entry.found (c.args.from + p)) it.iter.a.rest.now it.iter.b.rest.now next.iter.a.rest.now next.iter.b.rest.now c.in-Some.was.now c.in-Some.is'.now it.count steps.0.0 steps.0.1 in
     rw steps.1 (room_for _ _ _ _ _ (rw on at c.loop-row.invariant.put) c.requires.room)
 
-pub loop-row-preserved-then-ne : goal.loop-row-preserved-then-ne
-loop-row-preserved-then-ne g c =
-    let steps = c.in-Some.ensures.steps in
-    let it = c.loop-row.row-iterator in
-    let next = c.next.new.self in
-    let on = along_on (λ (p : ℕ). g.E.Entry.found (c.args.from + p)) it.iter.a.rest.now it.iter.b.rest.now next.iter.a.rest.now next.iter.b.rest.now c.in-Some.was.now c.in-Some.is'.now it.count steps.0.0 steps.0.1 in
-    record { can = search rules; finite = search rules; left = omega (arith, steps.2, ap length steps.0.0, c.loop-row.invariant.left); put = rw steps.2 (turns _ _ _ (rw on at c.loop-row.invariant.put) (rw steps.1 at c.put-next.ensures)) }
-
 pub loop-row-preserved : goal.loop-row-preserved
 loop-row-preserved g c =
     let steps = c.in-Some.ensures.steps in
     let it = c.loop-row.row-iterator in
     let next = c.next.new.self in
-    let same = same_bytes _ _ _ c.ne.ensures c.if-ne.false in
-    let over = along_over (λ (p : ℕ). g.E.Entry.found (c.args.from + p)) it.iter.a.rest.now it.iter.b.rest.now next.iter.a.rest.now next.iter.b.rest.now c.in-Some.was.now c.in-Some.is'.now it.count (λ p. g.met.E.Entry.none (c.args.from + p)) steps.0.0 steps.0.1 same in
-    record { can = search rules; finite = search rules; left = omega (arith, steps.2, ap length steps.0.0, c.loop-row.invariant.left); put = rw (steps.2, ← over) c.loop-row.invariant.put }
+    let on = along_on (λ (p : ℕ). g.E.Entry.found (c.args.from + p)) it.iter.a.rest.now it.iter.b.rest.now next.iter.a.rest.now next.iter.b.rest.now c.in-Some.was.now c.in-Some.is'.now it.count steps.0.0 steps.0.1 in
+    record { can = search rules; finite = search rules; left = omega (arith, steps.2, ap length steps.0.0, c.loop-row.invariant.left); put = rw steps.2 (turns _ _ _ (rw on at c.loop-row.invariant.put) (rw steps.1 at c.put-next.ensures)) }
 
 pub shape_of-list : goal.shape_of-list
 shape_of-list g c = rest_length _ _ _ c.loop-row.invariant.put

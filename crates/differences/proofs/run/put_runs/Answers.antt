@@ -1,7 +1,6 @@
 -- `differences::run::put_runs` meets its contract: the runs from here on are put from here on.
 use native.Mathlib.Omega.{arith}
 use mathlib.Core.Path.{◌∙◌}
-use Rattle.std.proofs.Common.{lit<}
 use Rattle.constants.specs.Sizes.{width}
 use Rattle.differences.proofs.PutEntries.{begin, turn, done, rest_length, room_for_one}
 use Rattle.differences.proofs.AlongRow.{open_first, open_same, open_after, run_within, runs_on, runs_here, runs_end}
@@ -20,10 +19,10 @@ overflow_cast-run-else-first-x c =
     let a = c.args in
     omega (arith, run_within width a.first.now a.second.now c.loop-x.x c.run_last-last.result (omega arith) c.run_last-last.ensures)
 
-pub put_entry-requires : goal.put_entry-requires
-put_entry-requires c =
+pub put_at-requires : goal.put_at-requires
+put_at-requires c =
     let a = c.args in
-    (lit< tt, room_for_one _ _ _ (rw (runs_here width a.row a.first.now a.second.now c.loop-x.x c.run_last-last.result (omega arith) c.if-first-x.false c.loop-x.invariant.1 c.run_last-last.ensures) at c.loop-x.invariant.2) c.requires)
+    (room_for_one _ _ _ (rw (runs_here width a.row a.first.now a.second.now c.loop-x.x c.run_last-last.result (omega arith) c.if-first-x.false c.loop-x.invariant.1 c.run_last-last.ensures) at c.loop-x.invariant.2) c.requires)
 
 pub loop-x-preserved : goal.loop-x-preserved
 loop-x-preserved c =
@@ -32,8 +31,13 @@ loop-x-preserved c =
     let last = c.run_last-last.result in (
       omega (arith, run_within width a.first.now a.second.now c.loop-x.x last inside c.run_last-last.ensures),
       open_after width a.first.now a.second.now c.loop-x.x last inside c.run_last-last.ensures,
-      turn _ _ _ (rw (runs_here width a.row a.first.now a.second.now c.loop-x.x last inside c.if-first-x.false c.loop-x.invariant.1 c.run_last-last.ensures) at c.loop-x.invariant.2) (c.put_entry.ensures ∙ rw c.bytes.ensures),
+      turn _ _ _ (rw (runs_here width a.row a.first.now a.second.now c.loop-x.x last inside c.if-first-x.false c.loop-x.invariant.1 c.run_last-last.ensures) at c.loop-x.invariant.2) c.put_at.ensures,
     )
+
+pub overflow_add-x-else-first-x : goal.overflow_add-x-else-first-x
+overflow_add-x-else-first-x c =
+    let a = c.args in
+    omega (arith, run_within width a.first.now a.second.now c.loop-x.x c.run_last-last.result (omega arith) c.run_last-last.ensures)
 
 pub loop-x-smaller : goal.loop-x-smaller
 loop-x-smaller c = omega (arith, c.run_last-last.ensures)
