@@ -156,7 +156,7 @@ fn dummy_reads(fresh: u8) -> usize
     usize::from(fresh == 1)
 }
 
-// Fresh after them.
+// Fresh after them; a value that is neither 0 nor 1 stays.
 fn after_dummy(fresh: u8) -> u8
     ensures { result ≡ after_dummy fresh }
 {

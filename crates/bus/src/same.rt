@@ -30,7 +30,7 @@ fn agree_each(page: u8, places: &[u8], bytes: &[u8]) -> bool
     differing == 0
 }
 
-// Whether one byte was read again and again; as above, all are looked at.
+// Whether one byte was read again and again; as above, all are looked at. As one over pairs the two would be no plainer.
 pub fn repeats(byte: u8, bytes: &[u8]) -> bool
     ensures { result ≡ true → Repeats byte bytes.now }
 {
