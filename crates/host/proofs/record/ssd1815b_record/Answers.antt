@@ -1,7 +1,6 @@
--- `host::record::ssd1815b_record` meets its contract: what stands there decides, and a whole record's end is within the trace.
+-- `host::record::ssd1815b_record` meets its contract: a whole record's end is within the trace.
 use mathlib.Core.Path.{sym, ◌∙◌}
 use native.Mathlib.Omega.{arith}
-use Rattle.host.specs.Record.{record_of}
 use Rattle.trace.proofs.WhatStands.{within_trace}
 use Rattle.host.proofs.record.ssd1815b_record.Goals as goal
 
@@ -12,15 +11,3 @@ overflow_add-next c =
 pub overflow_add-next-in-Whole : goal.overflow_add-next-in-Whole
 overflow_add-next-in-Whole c =
     omega (arith, within_trace c.args.bytes.now c.args.at c.in-Whole.header (sym c.front_at.ensures ∙ c.in-Whole.is))
-
-pub returns-in-Nothing : goal.returns-in-Nothing
-unfolding record_of
-returns-in-Nothing c = rw (← c.front_at.ensures, c.in-Nothing.is)
-
-pub returns-in-Cut : goal.returns-in-Cut
-unfolding record_of
-returns-in-Cut c = rw (← c.front_at.ensures, c.in-Cut.is, c.from.ensures)
-
-pub returns-in-Whole : goal.returns-in-Whole
-unfolding record_of
-returns-in-Whole c = rw (← c.front_at.ensures, c.in-Whole.is)

@@ -1,9 +1,10 @@
 -- `trace::run::play` meets its contract: what is left of the trace decides.
 use mathlib.Core.Path.{◌≡◌, refl, sym, ◌∙◌, ap}
 use mathlib.Core.List.{List}
-use Prim.Native.Nat.{ℕ}
+use Prim.Native.Nat.{ℕ, ◌+◌}
 use native.Mathlib.Omega.{arith}
 use lib.ListN.{drop}
+use Rattle.constants.specs.Sizes.{header_size}
 use Rattle.trace.specs.Records.{split}
 use Rattle.trace.specs.Front.{front_of}
 use Rattle.trace.specs.Kinds.{the_chip}
@@ -55,7 +56,8 @@ loop-header-preserved c =
     let obeyed = c.obey-ending in
     let stands = seen _ loop.invariant.0 c.next.ensures c.in-Whole.is in
     let fits = within_trace c.args.trace.now _ _ stands in
-    rw (c.moved-reader.ensures.0, c.moved-reader.ensures.1)
+    let place : c.moved-reader.result.at ≡ loop.reader.at + header_size + c.in-Whole.header.length = omega (arith, c.moved-reader.ensures.1) in
+    rw (c.moved-reader.ensures.0, place)
     (loop.invariant.0, omega (arith, fits), omega (arith, fits), obeyed.auto.memory ∙ loop.invariant.3, loop.invariant.4 ∙ plays_on c.args.trace.now _ the_chip loop.count _ _ stands _ (sym (rw c.in_default.is at obeyed.ensures)))
 
 pub shape_of-memory-in-Err : goal.shape_of-memory-in-Err
