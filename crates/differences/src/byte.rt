@@ -60,13 +60,7 @@ impl Entry for DifferingByte {
         count
     }
 
-    fn put(
-        list: &mut [u8],
-        at: usize,
-        row: u8,
-        first: &[u8; ROW],
-        second: &[u8; ROW],
-    ) -> usize {
+    fn put(list: &mut [u8], at: usize, row: u8, first: &[u8; ROW], second: &[u8; ROW]) -> usize {
         let start = usize::from(row) * ROW;
         let mut next = at;
         for column in 0..ROW {

@@ -29,13 +29,7 @@ pub trait Entry {
         ensures { result ≡ length (found row first.now second.now) };
 
     // Puts the entries of a row from number `at` on, and says the number after them.
-    fn put(
-        list: &mut [u8],
-        at: usize,
-        row: u8,
-        first: &[u8; ROW],
-        second: &[u8; ROW],
-    ) -> usize
+    fn put(list: &mut [u8], at: usize, row: u8, first: &[u8; ROW], second: &[u8; ROW]) -> usize
         requires { Room SIZE list.old at (found row first.now second.now) }
         ensures { Put SIZE bytes list.old at (found row first.now second.now) result list.new };
 

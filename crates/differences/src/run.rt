@@ -68,13 +68,7 @@ impl Entry for Run {
     }
 
     // A row that is the same in both has no run, and one that differs in one way throughout is one.
-    fn put(
-        list: &mut [u8],
-        at: usize,
-        row: u8,
-        first: &[u8; ROW],
-        second: &[u8; ROW],
-    ) -> usize {
+    fn put(list: &mut [u8], at: usize, row: u8, first: &[u8; ROW], second: &[u8; ROW]) -> usize {
         if first == second {
             return at;
         }
@@ -113,13 +107,7 @@ fn uniform(row: &[u8; ROW]) -> bool
 
 // Puts the runs of a row: each from the differing place where it begins to its end, and the next from there on.
 // A `while`: `x` goes on after each run's last place, and a `for` goes on by one.
-fn put_runs(
-    list: &mut [u8],
-    at: usize,
-    row: u8,
-    first: &[u8; ROW],
-    second: &[u8; ROW],
-) -> usize
+fn put_runs(list: &mut [u8], at: usize, row: u8, first: &[u8; ROW], second: &[u8; ROW]) -> usize
     requires { Room frame_entry_size list.old at (runs_found row first.now second.now) }
     ensures { Put frame_entry_size run_bytes list.old at (runs_found row first.now second.now) result list.new }
 {

@@ -1,6 +1,5 @@
 -- `differences::run::put_runs` meets its contract: the runs from here on are put from here on.
 use native.Mathlib.Omega.{arith}
-use mathlib.Core.Path.{◌∙◌}
 use Rattle.constants.specs.Sizes.{width}
 use Rattle.differences.proofs.PutEntries.{begin, turn, done, rest_length, room_for_one}
 use Rattle.differences.proofs.AlongRow.{open_first, open_same, open_after, run_within, runs_on, runs_here, runs_end}

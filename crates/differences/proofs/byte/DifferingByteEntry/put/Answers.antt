@@ -23,12 +23,12 @@ loop-column-preserved c =
     let a = c.args in
     let x = c.loop-column.column in
     elim c.if-was-is.branch [
-      then-was-is w ↦
-        let differs : held a.row a.first.now x ≡ held a.row a.second.now x → ⊥ = λ same. w.if-was-is.true (c.kept-was.ensures ∙ same ∙ sym c.kept-is.ensures) in
-        rw (w.list-is, w.next-is) (turn _ _ _ (rw (bytes_here width a.row a.first.now a.second.now x (omega arith) differs) at c.loop-column.invariant) (w.put_at.ensures ∙ rw (c.kept-was.ensures, c.kept-is.ensures, c.from-start.ensures)))
+      | then-was-is w ↦
+          let differs : held a.row a.first.now x ≡ held a.row a.second.now x → ⊥ = λ same. w.if-was-is.true (c.kept-was.ensures ∙ same ∙ sym c.kept-is.ensures) in
+          rw (w.list-is, w.next-is) (turn _ _ _ (rw (bytes_here width a.row a.first.now a.second.now x (omega arith) differs) at c.loop-column.invariant) (w.put_at.ensures ∙ rw (c.kept-was.ensures, c.kept-is.ensures, c.from-start.ensures)))
       | else-was-is w ↦
-        let same : held a.row a.first.now x ≡ held a.row a.second.now x = sym c.kept-was.ensures ∙ w.if-was-is.false ∙ c.kept-is.ensures in
-        rw (w.list-is, w.next-is) (rw (bytes_on width a.row a.first.now a.second.now x (omega arith) same) at c.loop-column.invariant)
+          let same : held a.row a.first.now x ≡ held a.row a.second.now x = sym c.kept-was.ensures ∙ w.if-was-is.false ∙ c.kept-is.ensures in
+          rw (w.list-is, w.next-is) (rw (bytes_on width a.row a.first.now a.second.now x (omega arith) same) at c.loop-column.invariant)
     ]
 
 pub shape_of-list : goal.shape_of-list
