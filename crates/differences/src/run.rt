@@ -114,9 +114,7 @@ fn put_runs(list: &mut [u8], at: usize, row: u8, first: &[u8; ROW], second: &[u8
     let mut next = at;
     let mut x = 0;
     while x < ROW {
-        if first[x] == second[x] {
-            x += 1;
-        } else {
+        if first[x] != second[x] {
             let last = run_last(first, second, x);
             let run = Run {
                 row,
@@ -127,8 +125,9 @@ fn put_runs(list: &mut [u8], at: usize, row: u8, first: &[u8; ROW], second: &[u8
             };
             run.put_at(list, next);
             next += 1;
-            x = last + 1;
+            x = last;
         }
+        x += 1;
     }
     next
 }
