@@ -2,11 +2,9 @@
 -- Assumes nothing.
 use Prim.Native.Nat.{ℕ, zero, suc, ◌+◌, ◌*◌, ◌≤◌, ◌<◌}
 use mathlib.Core.Path.{◌≡◌, refl, sym, ◌∙◌}
-use mathlib.Core.Bool.{Bool, true, false, cond}
 use mathlib.Core.List.{List, [], ◌∷◌, ◌++◌, append_assoc}
 use native.Mathlib.Nat.{not-suc-le-zero, zero-mul, zero-add}
 use native.Mathlib.Omega.{arith}
-use lib.Dec.{eqb}
 use lib.ListN.{length, get_or, take, length-append}
 use lib.Seq.{slice, take_at, take-append-add, drop-append-add}
 use Rattle.constants.specs.Sizes.{width, pages, memory_size, frame_entry_size, memory_entry_size}
@@ -14,7 +12,7 @@ use Rattle.picture.specs.Frame.{row_of}
 use Rattle.differences.specs.ByRows.{by_rows}
 use Rattle.differences.specs.Laws.{runs_few, bytes_few}
 use Rattle.differences.specs.Runs.{Run, runs_from, runs_in}
-use Rattle.differences.specs.Bytes.{DifferingByte, bytes_from, page_bytes, bytes_of}
+use Rattle.differences.specs.Bytes.{DifferingByte, page_bytes, bytes_of}
 use Rattle.differences.specs.Entries.{run_entry, byte_entry, entries}
 
 -- a part that lies past the first bytes

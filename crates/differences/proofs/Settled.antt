@@ -7,7 +7,7 @@ use Rattle.std.specs.Prelude.{Result, Ok, Err}
 use Rattle.constants.specs.Refusals.{number_of_refusal}
 use Rattle.constants.specs.declared.refusal.Refusal.{Refusal}
 use Rattle.constants.proofs.Refusals.{number_of_refusal_injective}
-use Rattle.differences.specs.Compared.{Compared, compared_of}
+use Rattle.differences.specs.Compared.{compared_of}
 use Rattle.differences.specs.Compare.{Outcome, outcome}
 use Rattle.differences.specs.Settled.{Settled}
 

@@ -12,7 +12,8 @@ use constants::sizes::WIDTH;
 // Bytes of a row: of a frame's row, or of a memory's page.
 pub const ROW: usize = WIDTH;
 
-// What a list has of a row where it differs: the runs of a frame's row, or the bytes of a memory's page.
+// What a list has of a row where it differs: the runs of a frame's row, or the bytes of a memory's page. `first` and `second`, `list` and `at`
+// stay parameters of their own: the contracts speak of each, and a struct of two would be taken apart in every function.
 pub trait Entry {
     // An entry as bytes, and how many they are.
     ghost SIZE: { ℕ };

@@ -1,11 +1,9 @@
 -- `differences::frames::look` meets its contract: the largest byte passed, and the largest of the differences.
-use mathlib.Core.Path.{◌≡◌, refl, sym, ◌∙◌, ap}
-use mathlib.Core.List.{[], ◌∷◌, ◌++◌}
+use mathlib.Core.Path.{refl, sym, ◌∙◌}
 use native.Mathlib.Nat.{not-suc-le-zero}
 use native.Mathlib.Omega.{arith}
 use borrow.Author.Tests.{eqb-true}
-use Prim.Native.Nat.{◌+◌}
-use lib.ListN.{length, take, length-append}
+use lib.ListN.{length, length-append}
 use lib.Seq.{take_all, ext_get_or}
 use Rattle.std.proofs.Common.{Some, None, rules}
 use Rattle.std.proofs.lemmas.Slice.Zip.{zip_turn, zip_end}

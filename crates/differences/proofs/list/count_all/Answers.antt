@@ -1,6 +1,6 @@
 -- `differences::list::count_all` meets its contract: the entries counted and those of the rows that are left are all.
 use Prim.Native.Nat.{◌/◌}
-use mathlib.Core.Path.{◌≡◌, refl, sym, ◌∙◌, ap}
+use mathlib.Core.Path.{◌≡◌, refl, ◌∙◌, ap}
 use native.Mathlib.Nat.{zero-add}
 use native.Mathlib.Omega.{arith}
 use lib.ListN.{length}
@@ -9,7 +9,7 @@ use Rattle.std.specs.Simd.{first_chunks}
 use Rattle.std.proofs.lemmas.Slice.Zip.{either_empty_from_Zip}
 use Rattle.constants.specs.Sizes.{width}
 use Rattle.differences.proofs.Entries.{rows_few}
-use Rattle.differences.proofs.Along.{along, along_start, along_end, count_on}
+use Rattle.differences.proofs.Along.{along_start, along_end, count_on}
 use Rattle.differences.proofs.list.count_all.Goals as goal
 
 pub loop-row-init : goal.loop-row-init

@@ -1,6 +1,6 @@
 -- `differences::list::put_all` meets its contract: the entries of the chunks that are left are put from here on.
 use Prim.Native.Nat.{ℕ, ◌+◌, ◌*◌, ◌/◌, ◌≤◌, ◌<◌}
-use mathlib.Core.Path.{◌≡◌, refl, sym, ◌∙◌, ap}
+use mathlib.Core.Path.{◌≡◌, refl, ◌∙◌, ap}
 use mathlib.Core.List.{List}
 use native.Mathlib.Omega.{arith}
 use lib.ListN.{length}
@@ -10,7 +10,7 @@ use Rattle.std.proofs.lemmas.Slice.Zip.{either_empty_from_Zip}
 use Rattle.constants.specs.Sizes.{width}
 use Rattle.differences.specs.ByRows.{by_rows}
 use Rattle.differences.proofs.ByRows.{rows_within}
-use Rattle.differences.proofs.Along.{along, along_start, along_on, along_end, along_over, same_bytes, rows_none, whole_by_chunks, rows_of_chunks}
+use Rattle.differences.proofs.Along.{along_start, along_on, along_end, along_over, same_bytes, rows_none, whole_by_chunks, rows_of_chunks}
 use Rattle.differences.proofs.PutEntries.{begin, turns, done, rest_length, room_for}
 use Rattle.differences.proofs.list.put_all.Goals as goal
 

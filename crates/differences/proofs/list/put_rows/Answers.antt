@@ -1,14 +1,13 @@
 -- `differences::list::put_rows` meets its contract: the entries of the rows that are left are put from here on.
 use Prim.Native.Nat.{ℕ, ◌+◌, ◌/◌}
-use mathlib.Core.Path.{◌≡◌, refl, sym, ◌∙◌, ap}
-use mathlib.Core.List.{List}
+use mathlib.Core.Path.{◌≡◌, refl, ap}
 use native.Mathlib.Omega.{arith}
 use lib.ListN.{length}
 use Rattle.std.proofs.Common.{None, rules}
 use Rattle.std.specs.Simd.{first_chunks}
 use Rattle.std.proofs.lemmas.Slice.Zip.{either_empty_from_Zip}
 use Rattle.constants.specs.Sizes.{width}
-use Rattle.differences.proofs.Along.{along, along_start, along_on, along_end}
+use Rattle.differences.proofs.Along.{along_start, along_on, along_end}
 use Rattle.differences.proofs.PutEntries.{begin, turns, done, rest_length, room_for}
 use Rattle.differences.proofs.list.put_rows.Goals as goal
 

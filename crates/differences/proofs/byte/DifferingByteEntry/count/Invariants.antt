@@ -1,5 +1,5 @@
 -- `differences::byte::DifferingByteEntry::count` meets its contract: the bytes counted and those from here on are all.
-use Prim.Native.Nat.{◌≤◌, ◌+◌, ◌-◌}
+use Prim.Native.Nat.{◌+◌, ◌-◌}
 use mathlib.Core.Path.{◌≡◌}
 use lib.ListN.{length}
 use Rattle.constants.specs.Sizes.{width}
