@@ -1,18 +1,20 @@
 -- Bytes put and compared side by side: what holds of the bytes passed, and what a page keeps.
 -- Assumes nothing.
-use Prim.Native.Nat.{ℕ, zero, suc, ◌+◌, ◌≤◌, ◌<◌}
-use mathlib.Core.Path.{◌≡◌, refl}
+use Prim.Native.Nat.{ℕ, zero, suc, ◌+◌, ◌*◌, ◌≤◌, ◌<◌}
+use mathlib.Core.Path.{◌≡◌, refl, ◌∙◌, ap}
 use mathlib.Core.Bool.{Bool, true, false}
 use mathlib.Core.Logic.{◌≢◌}
 use mathlib.Core.List.{List, [], ◌∷◌, ◌++◌, map}
 use native.Mathlib.Omega.{arith}
 use borrow.Author.Tests.{ltb-true, ltb-false, ne_eqb}
 use Rattle.constants.specs.Sizes.{icon_page}
+use Rattle.std.specs.Simd.{first_chunks}
 use Rattle.bus.specs.Memory.{kept}
+use Rattle.bus.specs.Pieces.{chunk}
 use lib.Dec.{ltb}
 use lib.Bits.{bit_or, bit_xor, or_add_and, xor_add_and, and_le_l, and_le_r}
 use lib.ListN.{length, get_or, take, drop, length-drop}
-use lib.Seq.{length-take-le}
+use lib.Seq.{length-take-le, drop-drop}
 
 -- what holds below x and at x holds below x + 1
 pub one_more : (P : ℕ → Type 0) (x : ℕ) → ((i : ℕ) → i < x → P i) → P x → (i : ℕ) → i < x + 1 → P i
@@ -27,6 +29,14 @@ one_more P x below here i h = by (ltb i x) refl
 -- a part has as many bytes as it should
 pub length_part : (l : List ℕ) (from n : ℕ) → from + n ≤ length l → length (take n (drop from l)) ≡ n
 length_part l from n h = length-take-le n (drop from l) (omega (arith, length-drop from l))
+
+-- the chunk at a place of the chunks
+pub chunk_at : {A : Type 0} (count i : ℕ) (l : List A) → i < count → get_or (first_chunks chunk count l) i [] ≡ take chunk (drop (i * chunk) l)
+chunk_at zero i l h = absurd (omega arith)
+chunk_at (suc count) zero l h = refl
+chunk_at (suc count) (suc i) l h =
+    let further : chunk + i * chunk ≡ suc i * chunk = omega arith in
+    chunk_at count i (drop chunk l) (omega arith) ∙ ap (λ k. take chunk k) (drop-drop (i * chunk) chunk l ∙ ap (λ k. drop k l) further)
 
 -- what holds of each holds of one more
 pub each_more : {A : Type 0} (P : A → Type 0) (d : A) (l : List A) (a : A) → ((i : ℕ) → i < length l → P (get_or l i d)) → P a → (i : ℕ) → i < length (l ++ a ∷ []) → P (get_or (l ++ a ∷ []) i d)

@@ -1,6 +1,10 @@
--- Bytes compared side by side.
+-- Bytes put, and bytes compared, side by side.
 use Rattle.std.specs.Prelude.{ℕ, ◌<◌, ◌≡◌, List, length, get_or}
 use Rattle.bus.specs.Memory.{kept}
+
+-- So many bytes are put, or compared, at once; no rule of the document.
+abbrev pub chunk : ℕ
+chunk = 32
 
 -- What a page keeps in some places is what was read of them.
 abbrev pub Agree : ℕ → List ℕ → List ℕ → Type 0

@@ -1,5 +1,5 @@
 // Commands obeyed where the registers are held: only the registers that a command sets are stored.
-ghost use Rattle.std.specs.Prelude.{◌≡◌, ◌+◌, ◌*◌, ◌/◌, ◌%◌, ◌<◌, MatchResult};
+ghost use Rattle.std.specs.Prelude.{◌≡◌, MatchResult};
 ghost use Rattle.codes.specs.Values.{CommandInRange};
 ghost use Rattle.constants.specs.Refusals.{number_of_refusal};
 ghost use Rattle.bus.specs.Registers.{◌with◌≔◌};
@@ -19,9 +19,10 @@ pub(crate) fn obey<H: Held>(held: &mut H, named: Command) -> Result<(), Refusal>
     ensures met { let met = obeyed named (H.registers held.old with places.awaited ≔ 0) in MatchResult result (λ done. met ≡ silently (H.registers held.new)) (λ refusal. (met ≡ Answer.Refused (number_of_refusal refusal)) × (H.registers held.new ≡ H.registers held.old)) }
     ensures size { H.size held.new ≡ H.size held.old }
 {
+    let column = held.at(Place::Column);
     match named {
-        Command::ColumnLow(low) => set_low(held, low),
-        Command::ColumnHigh(high) => set_high(held, high),
+        Command::ColumnLow(low) => set(held, Place::Column, column / 16 * 16 + low),
+        Command::ColumnHigh(high) => set(held, Place::Column, high * 16 + column % 16),
         Command::ResistorRatio(ratio) => set(held, Place::Ratio, ratio),
         Command::PowerControl(power) => set(held, Place::Power, power),
         Command::StartLine(line) => set(held, Place::Start, line),
@@ -62,26 +63,6 @@ fn set<H: Held>(held: &mut H, place: Place, value: u8)
     held.put(Place::Awaited, 0);
     held.put(place, value);
     held.put(Place::Fresh, 1);
-}
-
-// 00 to 0F: the low half of the column.
-fn set_low<H: Held>(held: &mut H, low: u8)
-    requires { low < 16 }
-    ensures registers { H.registers held.new ≡ (H.registers held.old with places.awaited ≔ 0 with places.column ≔ (H.registers held.old).column / 16 * 16 + low with places.fresh ≔ 1) }
-    ensures size { H.size held.new ≡ H.size held.old }
-{
-    let column = held.at(Place::Column);
-    set(held, Place::Column, column / 16 * 16 + low);
-}
-
-// 10 to 1F: the high half of the column.
-fn set_high<H: Held>(held: &mut H, high: u8)
-    requires { high < 16 }
-    ensures registers { H.registers held.new ≡ (H.registers held.old with places.awaited ≔ 0 with places.column ≔ high * 16 + (H.registers held.old).column % 16 with places.fresh ≔ 1) }
-    ensures size { H.size held.new ≡ H.size held.old }
-{
-    let column = held.at(Place::Column);
-    set(held, Place::Column, high * 16 + column % 16);
 }
 
 // AC and AD: the indicator off or on, and its mode.

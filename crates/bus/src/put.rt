@@ -1,20 +1,24 @@
 // Bytes put side by side into their own places of the display memory.
-ghost use Rattle.std.specs.Prelude.{◌≡◌, map, length};
+ghost use Rattle.std.specs.Prelude.{◌≡◌, map, ◌≤◌, length};
 ghost use Rattle.bus.specs.Memory.{kept};
+ghost use Rattle.bus.specs.Pieces.{chunk};
 
 use crate::data::kept;
 use constants::sizes::ICON_PAGE;
+
+// So many bytes are put at once.
+const CHUNK: usize = 32;
 
 // Puts what a page keeps of some bytes into as many places.
 pub fn put(page: u8, places: &mut [u8], bytes: &[u8])
     requires { length places.old ≡ length bytes.now }
     ensures { places.new ≡ map (kept page) bytes.now }
 {
-    if page == ICON_PAGE {
+    if page == ICON_PAGE || bytes.len() < CHUNK {
         put_each(page, places, bytes);
         return;
     }
-    places.copy_from_slice(bytes);
+    put_chunks(places, bytes);
 }
 
 // One by one. With `zip` the check knows nothing of the places that are put; counted along the places it takes 15 % longer; put whole and then kept in place, 75 %.
@@ -25,4 +29,29 @@ fn put_each(page: u8, places: &mut [u8], bytes: &[u8])
     for (i, byte) in bytes.iter().enumerate() {
         places[i] = kept(page, *byte);
     }
+}
+
+// Chunk by chunk, whole; the last chunk ends with the last byte, and may begin in the one before it.
+fn put_chunks(places: &mut [u8], bytes: &[u8])
+    requires { (chunk ≤ length bytes.now) × (length places.old ≡ length bytes.now) }
+    ensures { places.new ≡ bytes.now }
+{
+    let last = bytes.len() - CHUNK;
+    let (chunks, _) = bytes.as_chunks::<CHUNK>();
+    for (i, whole) in chunks.iter().enumerate() {
+        let at = i * CHUNK;
+        put_chunk(&mut places[at..at + CHUNK], *whole);
+    }
+    if let Some(end) = bytes.last_chunk::<CHUNK>() {
+        put_chunk(&mut places[last..], *end);
+    }
+}
+
+// Puts a chunk that lies by itself, in no lent memory: the compiler moves it as one, and makes no `memmove` of them all.
+#[inline(always)]
+fn put_chunk(places: &mut [u8], held: [u8; CHUNK])
+    requires { length places.old ≡ chunk }
+    ensures { places.new ≡ held }
+{
+    places.copy_from_slice(&held);
 }

@@ -15,7 +15,7 @@ pub struct Sizes {
     pub trace: usize,
 }
 
-// What stands where an entry should: nothing, a cut entry, or a whole one.
+// What stands where an entry should: nothing, a cut entry, or a whole one. Three cases, each by its name: an `Option` within a `Result` would say no more.
 #[derive(Clone, Copy, Debug, PartialEq, Eq)]
 pub enum Entry {
     Nothing,

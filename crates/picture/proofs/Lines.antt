@@ -1,35 +1,20 @@
--- Laws on a row of places and on rows one after the other: their lengths, one place more, one row more, and what stands at a place.
+-- Laws on a row of places and on rows one after the other: their lengths, one row more, and what stands at a place.
 -- Assumes nothing.
 use mathlib.Core.Path.{◌≡◌, refl, sym, ◌∙◌, ap}
-use mathlib.Core.List.{List, [], ◌∷◌, ◌++◌, append_assoc, append-nil}
+use mathlib.Core.List.{List, [], ◌∷◌, ◌++◌, append_assoc}
 use Prim.Native.Nat.{ℕ, zero, suc, ◌+◌, ◌*◌, ◌≤◌, ◌<◌}
 use native.Mathlib.Omega.{arith}
 use native.Mathlib.Nat.{suc-mul, zero-mul, mul-le-mul_right, not-suc-le-zero, le_of_eq}
 use native.Mathlib.Decide.{dec_lt}
 use native.Mathlib.Numerals.{add-one}
-use lib.ListN.{length, get_or, set, take, drop, length-append, length-drop, drop_of_length-le, replicate, replicate-append-replicate, get_or-append}
-use lib.Seq.{drop-cons, set_at, take_at, drop_at, drop-drop, take-append-le, drop-append-le, take_all, get_or_at, get_or-take, get_or-drop}
+use lib.ListN.{length, get_or, take, drop, length-append, length-drop, replicate, replicate-append-replicate, get_or-append}
+use lib.Seq.{take_at, drop_at, drop-drop, take-append-le, drop-append-le, take_all, get_or_at, get_or-take, get_or-drop}
 use Rattle.picture.specs.Frame.{line, grid}
 
 pub line_length : (w : ℕ) (f : ℕ → ℕ) → length (line w f) ≡ w
 unfolding line
 line_length zero f = refl
 line_length (suc w) f = length-append (line w f) (f w ∷ []) ∙ rw (line_length w f, add-one)
-
--- one place more is drawn
-pub line_turn : (f : ℕ → ℕ) (was : List ℕ) (x : ℕ) → x < length was → set (line x f ++ drop x was) x (f x) ≡ line (x + 1) f ++ drop (x + 1) was
-unfolding line
-line_turn f was x h =
-    rw (drop-cons was x 0 h, set_at (line x f) (get_or was x 0) (drop (suc x) was) (f x) x (line_length x f), add-one)
-    (sym (append_assoc (line x f) (f x ∷ []) (drop (suc x) was)))
-
--- all places are drawn
-pub line_done : (w : ℕ) (f : ℕ → ℕ) (was : List ℕ) → length was ≡ w → line w f ++ drop w was ≡ line w f
-line_done w f was e = rw (drop_of_length-le was {i = w} (omega arith), append-nil)
-
--- a row with w places drawn is as long as before
-pub line_kept : (w : ℕ) (f : ℕ → ℕ) (was : List ℕ) → w ≤ length was → length (line w f ++ drop w was) ≡ length was
-line_kept w f was h = length-append (line w f) (drop w was) ∙ rw (line_length w f, length-drop w was) (omega arith)
 
 -- rows that agree at each place are the same
 pub line_same : (w : ℕ) (f g : ℕ → ℕ) → ((x : ℕ) → x < w → f x ≡ g x) → line w f ≡ line w g
@@ -41,10 +26,6 @@ pub grid_length : (w h : ℕ) (f : ℕ → ℕ → ℕ) → length (grid w h f) 
 unfolding grid
 grid_length w zero f = sym (zero-mul w)
 grid_length w (suc h) f = length-append (grid w h f) (line w (f h)) ∙ rw (grid_length w h f, line_length w (f h), suc-mul)
-
--- a frame with h rows drawn is as long as before
-pub grid_kept : (w h : ℕ) (f : ℕ → ℕ → ℕ) (was : List ℕ) → h * w ≤ length was → length (grid w h f ++ drop (h * w) was) ≡ length was
-grid_kept w h f was l = length-append (grid w h f) (drop (h * w) was) ∙ rw (grid_length w h f, length-drop (h * w) was) (omega arith)
 
 -- one row more is drawn: its own part of the frame came back as that row
 pub grid_turn : (w y k : ℕ) (f : ℕ → ℕ → ℕ) (was row : List ℕ) → k ≡ w → row ≡ line w (f y) → take (y * w) (grid w y f ++ drop (y * w) was) ++ (row ++ drop k (drop (y * w) (grid w y f ++ drop (y * w) was))) ≡ grid w (y + 1) f ++ drop ((y + 1) * w) was

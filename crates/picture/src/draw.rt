@@ -28,7 +28,7 @@ pub fn draw(state: &[u8], memory: &[u8], frame: &mut [u8]) -> Result<(), Refusal
     Ok(())
 }
 
-// Draws the frame. Bits are drawn with all rows in view; each row of one shade by itself, which the compiler makes one fill of them.
+// Draws the frame. Registers and memory are no struct together: the row rule takes the one alone and pages the other, and an upright memory is drawn in the memory's place. Bits are drawn with all rows in view; each row of one shade by itself, which the compiler makes one fill of them.
 fn draw_frame(registers: Registers, memory: &[u8; MEMORY_SIZE], places: &mut [u8; FRAME_SIZE])
     ensures { places.new ≡ frame registers memory.now }
 {

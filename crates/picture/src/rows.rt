@@ -50,7 +50,7 @@ impl PanelRow {
 }
 
 impl Com {
-    // Whether the COM is in use.
+    // Whether the COM is in use. The number is compared and not the COM, since the multiplex register is no COM.
     fn used(self, registers: Registers) -> bool
         ensures { result ≡ used (scan_of registers) self }
     {
@@ -131,7 +131,7 @@ fn around(row: u16) -> u8
     once_around(left, panel_rows) as u8
 }
 
-// The remainder of a row that is below twice the rows: one compare, at most one subtraction.
+// The remainder of a row that is below twice the rows: one compare, at most one subtraction, and no `%` (document 02, Order 5).
 fn once_around(row: u16, rows: u16) -> u16
     requires { row < 2 * rows }
     ensures { result ≡ row % rows }

@@ -24,7 +24,7 @@ pub fn draw_whole(registers: Registers, memory: &[u8; MEMORY_SIZE], places: &mut
     }
 }
 
-// The RAM row that each row of the frame shows, or none.
+// The RAM row that each row of the frame shows, or none. `y as u8`, here and in draw.rt: `try_from` would be a branch that is never taken.
 fn rows_shown(registers: Registers) -> [Option<RamRow>; FRAME_ROWS]
     ensures { RowsOf registers result }
 {

@@ -5,11 +5,12 @@ ghost use Rattle.trace.specs.Front.{front_of};
 // What a record's header says: its kind, and the length of its payload.
 #[derive(Clone, Copy, Debug, PartialEq, Eq)]
 pub struct Header {
+    // The number as it stands there: C is handed it of any record, whatever its kind (`ssd1815b_record`).
     pub kind: usize,
     pub length: usize,
 }
 
-// What stands where a header should: nothing, a cut record, or a whole one.
+// What stands where a header should: nothing, a cut record, or a whole one. Three cases, of which only one is a refusal: no Option and no Result says it in one word.
 #[derive(Clone, Copy, Debug, PartialEq, Eq)]
 pub enum Front {
     Nothing,
@@ -22,9 +23,12 @@ pub enum Front {
 pub fn front_at(trace: &[u8], at: usize) -> Front
     ensures { result ≡ front_of (drop at trace.now) }
 {
-    match trace.get(at..) {
-        None | Some([]) => Front::Nothing,
-        Some([low, high, kind_low, kind_high, payload @ ..]) => {
+    // A test and a part, and no `get(at..)`: that made a run of all kinds 2.0 instructions an event longer (28.7 for 26.7).
+    if trace.len() <= at {
+        return Front::Nothing;
+    }
+    match &trace[at..] {
+        [low, high, kind_low, kind_high, payload @ ..] => {
             let length = usize::from(u16::from_le_bytes([*low, *high]));
             let kind = usize::from(u16::from_le_bytes([*kind_low, *kind_high]));
             if length <= payload.len() {
@@ -33,6 +37,6 @@ pub fn front_at(trace: &[u8], at: usize) -> Front
                 Front::Cut
             }
         }
-        Some(_) => Front::Cut,
+        _ => Front::Cut,
     }
 }

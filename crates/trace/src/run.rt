@@ -59,6 +59,7 @@ pub fn run(state: &mut [u8], memory: &mut [u8], trace: &[u8]) -> Stop
 pub fn play(mut registers: Registers, memory: &mut [u8], trace: &[u8]) -> Played
     ensures { played_of result memory.new ≡ play the_chip (split trace.now) (chip_of registers memory.old) }
 {
+    // No `for` over the records: the answer has the reader's place and the count, which a `for` keeps to itself, and the reader moves as document 01's cursor (ReaderWalk).
     let mut reader = Reader::new(trace);
     let mut count = 0;
     loop {
@@ -81,12 +82,7 @@ pub fn play(mut registers: Registers, memory: &mut [u8], trace: &[u8]) -> Played
 }
 
 // The end of a played trace.
-fn end(
-    outcome: Result<(), Refusal>,
-    offset: usize,
-    count: usize,
-    registers: Registers,
-) -> Played
+fn end(outcome: Result<(), Refusal>, offset: usize, count: usize, registers: Registers) -> Played
     ensures { result ≡ record { stop = record { outcome = outcome; offset = offset; count = count }; registers = registers } }
 {
     Played {

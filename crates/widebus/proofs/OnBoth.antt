@@ -3,29 +3,28 @@
 use mathlib.Core.Path.{◌≡◌, refl, sym, ◌∙◌, ap}
 use mathlib.Core.Bool.{Bool, true, false, cond}
 use mathlib.Core.List.{List, []}
-use Prim.Native.Nat.{ℕ, ◌≤◌}
+use Prim.Native.Nat.{ℕ, ◌≤◌, ◌<◌}
 use native.Mathlib.Omega.{arith}
-use borrow.Author.Tests.{ltb-false, le-ltb, ne_eqb}
+use borrow.Author.Tests.{ltb-false, lt-ltb, ne_eqb}
 use lib.Dec.{ltb}
-use lib.ListN.{length, get_or}
+use lib.ListN.{length, get_or, take}
+use lib.Seq.{length-take-le}
 use Rattle.constants.specs.Sizes.{image_size}
 use Rattle.constants.specs.Numbers.{taken, too_short}
 use Rattle.bus.specs.Places.{awaited}
-use Rattle.bus.specs.Registers.{registers_of, image_of}
-use Rattle.bus.specs.Image.{asked_state}
+use Rattle.bus.specs.Registers.{registers_of}
 use Rattle.bus.specs.Events.{number_of, byte_of, dummy_of}
 use Rattle.bus.specs.Chip.{Event, command_byte, data_written, step}
 use Rattle.bus.specs.Calls.{Called, called, reply_of, state_after, refused, concluded}
 use Rattle.bus.specs.OnState.{on_state, numbered, access_on}
 use Rattle.bus.specs.declared.registers.Registers.{Registers}
 use Rattle.bus.specs.Answer.{Answer}
-use Rattle.bus.specs.Answer.{Asked}
 use Rattle.bus.proofs.Answers.{StandsFor, met_by, step_answers}
 use Rattle.bus.proofs.OnState.{long_state}
-use Rattle.bus.proofs.ThereAndBack.{there_and_back}
+use Rattle.bus.proofs.First.{first_registers}
 use Rattle.widebus.specs.Pair.{Pair, ◌beside◌, Lent, both_lent}
 use Rattle.widebus.specs.WideCalls.{wide_called, refused_wide, leaves, call_both}
-use Rattle.widebus.specs.OnBoth.{on_both, command_meets, Ranged}
+use Rattle.widebus.specs.OnBoth.{on_both, command_meets}
 
 -- the number that an answer stands for
 number_of_lem : (number : ℕ) (answer : Answer) → StandsFor number answer → number_of answer ≡ number
@@ -122,25 +121,18 @@ tried_right byte left right l tried p r also h lm rm =
     let n = whichever byte right left r also rm in
     as_refused (both_lent left lm right rm) n ∙ sym (right_refuses_lem _ _ (both_lent left lm right rm) (sym (whichever byte left right l tried lm) ∙ p) (λ z. h (n ∙ z)))
 
--- the copy that a command byte is tried on has the state's registers
-module _ (byte : ℕ) (state : List ℕ) (ranged : Ranged state) where
-  found_own : asked_state state ≡ Asked.Found (registers_of state)
-  unfolding asked_state
-  found_own = rw (le-ltb _ _ ranged.enough, ranged.in_ranges)
+-- what a command byte that is tried meets: a state that is too short is refused, and a copy of the image has the state's registers
+module _ (byte : ℕ) (state : List ℕ) where
+  pub tried_short : length state < image_size → too_short ≡ command_meets byte state
+  unfolding on_state refused reply_of number_of byte_of dummy_of
+  tried_short h = rw (command_meets, lt-ltb _ _ h) refl
 
-  pub on_a_copy : {r : Registers} → Asked.Found r ≡ asked_state state → {copy : List ℕ} → copy ≡ image_of r → {met : ℕ} {later : List ℕ} → ((m : List ℕ) → called (numbered met) later m ≡ on_state (command_byte byte) copy m) → met ≡ command_meets byte state
-  on_a_copy {r} f {copy} i {met} done =
-      let own : r ≡ registers_of state = (let both : Asked.Found r ≡ Asked.Found (registers_of state) = f ∙ found_own in cc) in
+  pub on_a_copy : image_size ≤ length state → {copy : List ℕ} → copy ≡ take image_size state → {met : ℕ} {later : List ℕ} → ((m : List ℕ) → called (numbered met) later m ≡ on_state (command_byte byte) copy m) → met ≡ command_meets byte state
+  on_a_copy h {copy} i {met} done =
       let n : met ≡ (on_state (command_byte byte) copy []).reply.number = ap (λ (c : Called). c.reply.number) (done []) in
-      let on-the-copy : (on_state (command_byte byte) copy []).reply.number ≡ met_by (command_byte byte) r 0 = rw i (met_by_lem (command_byte byte) (image_of r) [] (omega (arith, there_and_back.size r))) in
-      let on-the-state : met_by (command_byte byte) r 0 ≡ command_meets byte state = rw own (sym (met_by_lem (command_byte byte) state [] ranged.enough)) in
-      n ∙ on-the-copy ∙ on-the-state
-
-  pub never_refused : {number : ℕ} → Asked.Refused number ≡ asked_state state → ⊥
-  never_refused {number} f =
-      let both : Asked.Refused number ≡ Asked.Found (registers_of state) = f ∙ found_own in
-      let z : ◌≡◌ {A = ℕ} 0 1 = cc in
-      omega arith
+      let long : image_size ≤ length copy = rw (i, length-take-le image_size state h) (omega arith) in
+      let own = first_registers state copy h i in
+      n ∙ met_by_lem (command_byte byte) copy [] long ∙ ap (λ (r : Registers). met_by (command_byte byte) r 0) own ∙ sym (met_by_lem (command_byte byte) state [] h)
 
 -- a data byte written to both chips
 module _ (byte : ℕ) (all : Pair Lent) {met : ℕ} (m : met ≡ access_on all.left.state all.left.memory) where

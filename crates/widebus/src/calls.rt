@@ -11,8 +11,8 @@ use crate::both::{ask_lengths, ask_ranges};
 use crate::selection::Selection;
 use bus::accepted;
 use bus::accepted::{access, awaited};
-use bus::image::ask_state;
 use constants::refusal::Refusal;
+use constants::sizes::IMAGE_SIZE;
 
 // State and memory of both chips stay four parameters. A struct of each chip's two was tried: every body takes it apart again, since what one field lends is not read while the other is lent, the promise says `left.exit.1.0.now` for `left_memory.new`, and C lends memories to be read by three calls and to be changed by one (host/ssd1815b.h), which is a struct for each.
 // Each call takes the selection as the number that C hands it, since 13 goes after 1 and 2 (specs/WideGiven `number13`), and matches on it by itself: a function that was handed closures for one chip and for both would name every state and memory as often.
@@ -52,10 +52,12 @@ fn command_both(left_state: &mut [u8], right_state: &mut [u8], byte: u8) -> Resu
 
 // What a command byte meets: it is tried on a copy of the image.
 fn tried(state: &[u8], byte: u8) -> Result<(), Refusal>
-    requires { Ranged state.now }
     ensures { number_met result ≡ command_meets byte state.now }
 {
-    let mut copy = ask_state(state)?.image();
+    let Some(image) = state.first_chunk::<IMAGE_SIZE>() else {
+        return Err(Refusal::TooShort);
+    };
+    let mut copy = *image;
     accepted::command(&mut copy, byte)
 }
 

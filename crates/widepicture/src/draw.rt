@@ -75,7 +75,7 @@ fn draw_half(side: Side, registers: Registers, memory: &[u8], places: &mut [u8; 
     }
 }
 
-// The place of a row at which a chip's half begins.
+// The place of a row at which a chip's half begins. A `From` would not say what number of a side it is.
 fn first_column(side: Side) -> usize
     ensures { result ≡ first_column side }
 {

@@ -34,6 +34,7 @@ pub fn play_side(
     ensures { side_played_of result memory.new ≡ play (the_side side) (up_to limit (split trace.now)) (one_side (chip_of registers memory.old) Selection.Both) }
 {
     let mut selection = Selection::Both;
+    // No `for` over the records: the answer has the place and the count, and the last record may be cut off by the limit.
     let mut at = 0;
     let mut count = 0;
     while at < limit {

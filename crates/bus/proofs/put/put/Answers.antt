@@ -4,4 +4,4 @@ use Rattle.bus.proofs.SideBySide.{kept_whole}
 use Rattle.bus.proofs.put.put.Goals as goal
 
 pub returns : goal.returns
-returns c = c.copy_from_slice.ensures.after ∙ sym (kept_whole _ _ c.if-page-eq-ICON_PAGE.false)
+returns c = c.put_chunks.ensures ∙ sym (kept_whole _ _ c.if-page-eq-ICON_PAGE.false)

@@ -1,10 +1,9 @@
 -- `trace::run::play` meets its contract: what is left of the trace decides.
 use mathlib.Core.Path.{◌≡◌, refl, sym, ◌∙◌, ap}
 use mathlib.Core.List.{List}
-use Prim.Native.Nat.{ℕ, ◌+◌, ◌≤◌}
+use Prim.Native.Nat.{ℕ}
 use native.Mathlib.Omega.{arith}
-use lib.ListN.{length, drop}
-use Rattle.constants.specs.Sizes.{header_size}
+use lib.ListN.{drop}
 use Rattle.trace.specs.Records.{split}
 use Rattle.trace.specs.Front.{front_of}
 use Rattle.trace.specs.Kinds.{the_chip}

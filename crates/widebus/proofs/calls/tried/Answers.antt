@@ -1,9 +1,9 @@
--- `widebus::calls::tried` meets its contract: the copy has the registers of the state.
-use Rattle.widebus.proofs.OnBoth.{on_a_copy, never_refused}
+-- `widebus::calls::tried` meets its contract: a short state is refused, and the copy has the registers of any other.
+use Rattle.widebus.proofs.OnBoth.{tried_short, on_a_copy}
 use Rattle.widebus.proofs.calls.tried.Goals as goal
 
-pub returns-in_err-ask_state : goal.returns-in_err-ask_state
-returns-in_err-ask_state c = absurd (never_refused c.args.byte _ c.requires c.in_err-ask_state.ensures)
+pub returns-in_default : goal.returns-in_default
+returns-in_default c = tried_short _ _ c.in_default.ensures.cases
 
 pub returns : goal.returns
-returns c = on_a_copy c.args.byte _ c.requires c.in_ok-ask_state.ensures c.image-copy.ensures c.command.ensures
+returns c = let first = c.in-Some.ensures.cases in on_a_copy _ _ first.enough first.same c.command.ensures
