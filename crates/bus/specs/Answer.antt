@@ -28,9 +28,9 @@ pub record Reply : Type 0 where
   pub dummy : Bool
 
 -- The byte that a read answers, 0 where it was the dummy read; and whether it was.
-abbrev pub byte_read : Option ℕ → ℕ
-byte_read (Some byte) = byte
-byte_read None = 0
+abbrev pub byte_answered : Option ℕ → ℕ
+byte_answered (Some byte) = byte
+byte_answered None = 0
 
 abbrev pub is_dummy : Option ℕ → Bool
 is_dummy (Some byte) = false
@@ -43,7 +43,7 @@ answer_of (Err refusal) = Answer.Refused (number_of_refusal refusal)
 
 -- A read.
 abbrev pub answer_of_read : Result Read Refusal → Answer
-answer_of_read (Ok taken) = Answer.Taken (record { registers = taken.registers; byte = byte_read taken.byte; dummy = is_dummy taken.byte })
+answer_of_read (Ok taken) = Answer.Taken (record { registers = taken.registers; byte = byte_answered taken.byte; dummy = is_dummy taken.byte })
 answer_of_read (Err refusal) = Answer.Refused (number_of_refusal refusal)
 
 -- What is asked first.
@@ -57,5 +57,5 @@ reply_to met = record { number = number_met met; byte = 0; dummy = false }
 
 -- The call of a read.
 abbrev pub reply_to_read : Result (Option ℕ) Refusal → Reply
-reply_to_read (Ok read) = record { number = number_met (Ok tt); byte = byte_read read; dummy = is_dummy read }
+reply_to_read (Ok read) = record { number = number_met (Ok tt); byte = byte_answered read; dummy = is_dummy read }
 reply_to_read (Err refusal) = record { number = number_of_refusal refusal; byte = 0; dummy = false }

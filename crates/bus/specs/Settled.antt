@@ -27,6 +27,7 @@ pub record Settled : Type 0 where
   pub «calls::write» : (byte : ℕ) (state memory : List ℕ) → Settles (λ (o : Met × List ℕ × List ℕ). called (reply_to o.0) o.1 o.2 ≡ call (data_written byte) state memory)
   pub «calls::read» : (state memory : List ℕ) → Settles (λ (o : Result (Option ℕ) Refusal × List ℕ). called (reply_to_read o.0) o.1 memory ≡ call data_read state memory)
   pub calls::reset_pin : (state memory : List ℕ) → Settles (λ (o : Met × List ℕ). called (reply_to o.0) o.1 memory ≡ call reset_pulse state memory)
+  -- Two of calls that were: an answer as a reply with the state after it, and a refusal as a reply.
   pub «calls::conclude» : (answer : Answer) (state : List ℕ) → Settles (λ (o : Reply × List ℕ). (o.0 ≡ reply_of answer) × (o.1 ≡ state_after answer state))
   pub «calls::refuse» : (number : ℕ) → Settles (λ (r : Reply). r ≡ reply_of (Answer.Refused number))
   pub «Registers::command» : (byte : ℕ) (self : Registers) → Settles (λ (r : Result Registers Refusal). answer_of r ≡ command byte self)

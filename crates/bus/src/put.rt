@@ -21,7 +21,7 @@ pub fn put(page: u8, places: &mut [u8], bytes: &[u8])
     put_chunks(places, bytes);
 }
 
-// One by one. With `zip` the check knows nothing of the places that are put; counted along the places it takes 15 % longer; put whole and then kept in place, 75 %.
+// One by one. With `zip` the check knows nothing of the places that are put; counted along the places it takes 15 % longer.
 fn put_each(page: u8, places: &mut [u8], bytes: &[u8])
     requires { length places.old ≡ length bytes.now }
     ensures { places.new ≡ map (kept page) bytes.now }
@@ -31,7 +31,7 @@ fn put_each(page: u8, places: &mut [u8], bytes: &[u8])
     }
 }
 
-// Chunk by chunk, whole; the last chunk ends with the last byte, and may begin in the one before it.
+// Chunk by chunk, whole; the last chunk ends with the last byte, and may begin in the one before it. Of one `copy_from_slice` the compiler makes `memmove`, and the library needs no more of C than `memset` and `memcpy` (host/test/library.sh).
 fn put_chunks(places: &mut [u8], bytes: &[u8])
     requires { (chunk ≤ length bytes.now) × (length places.old ≡ length bytes.now) }
     ensures { places.new ≡ bytes.now }
@@ -40,18 +40,32 @@ fn put_chunks(places: &mut [u8], bytes: &[u8])
     let (chunks, _) = bytes.as_chunks::<CHUNK>();
     for (i, whole) in chunks.iter().enumerate() {
         let at = i * CHUNK;
-        put_chunk(&mut places[at..at + CHUNK], *whole);
+        put_chunk(&mut places[at..at + CHUNK], chunk_of(whole));
     }
     if let Some(end) = bytes.last_chunk::<CHUNK>() {
-        put_chunk(&mut places[last..], *end);
+        put_chunk(&mut places[last..], chunk_of(end));
     }
 }
 
-// Puts a chunk that lies by itself, in no lent memory: the compiler moves it as one, and makes no `memmove` of them all.
+// A chunk by itself, which lies in no lent memory: the compiler then moves it as one. By `copy_from_slice`, here and in `put_chunk`, a record of 132 takes three times as long; by `*bytes` and `copy_from_slice` half as long again.
+#[inline(always)]
+fn chunk_of(bytes: &[u8; CHUNK]) -> [u8; CHUNK]
+    ensures { result ≡ bytes.now }
+{
+    let mut held = [0; CHUNK];
+    for (i, byte) in bytes.iter().enumerate() {
+        held[i] = *byte;
+    }
+    held
+}
+
+// Puts a chunk.
 #[inline(always)]
 fn put_chunk(places: &mut [u8], held: [u8; CHUNK])
     requires { length places.old ≡ chunk }
     ensures { places.new ≡ held }
 {
-    places.copy_from_slice(&held);
+    for (i, byte) in held.iter().enumerate() {
+        places[i] = *byte;
+    }
 }

@@ -1,6 +1,6 @@
 // Stretches of events: bytes of one kind in order, up to the first that is refused. What a record of each kind does is one call here.
 ghost use Rattle.std.specs.Prelude.{◌≡◌, List, [], ◌∷◌, map, ◌||◌, ℕ, eqb};
-ghost use Rattle.bus.specs.Answer.{byte_read, is_dummy};
+ghost use Rattle.bus.specs.Answer.{byte_answered, is_dummy};
 ghost use Rattle.bus.specs.Chip.{reset_pulse};
 ghost use Rattle.bus.specs.Recorded.{event, recorded_command, recorded_write, read_as, chip_of, replay};
 ghost use Rattle.bus.specs.Stretch.{stretch, stretch_of, halted_at};
@@ -89,7 +89,7 @@ pub fn reset_pin(registers: Registers) -> Stretch
 
 // Whether a read is as the firmware read it; a dummy read is not compared.
 fn agrees(read: Option<u8>, byte: u8) -> bool
-    ensures { result ≡ (is_dummy read || eqb (byte_read read) byte) }
+    ensures { result ≡ (is_dummy read || eqb (byte_answered read) byte) }
 {
     match read {
         None => true,

@@ -1,13 +1,13 @@
 -- Entries put one after the other into a list buffer that has room for them.
 -- Assumes nothing.
-use Prim.Native.Nat.{ℕ, suc, ◌+◌, ◌-◌, ◌*◌, ◌≤◌, ◌<◌}
+use Prim.Native.Nat.{ℕ, suc, ◌+◌, ◌*◌, ◌≤◌, ◌<◌}
 use mathlib.Core.Path.{◌≡◌, refl, sym, ◌∙◌, ap}
 use mathlib.Core.List.{List, [], ◌∷◌, ◌++◌, append_assoc}
 use native.Mathlib.Nat.{add-zero, add-suc, suc-add, zero-add, zero-mul}
+use native.Mathlib.Numerals.{add-one}
 use native.Mathlib.Omega.{arith}
-use lib.ListN.{length, length-append, drop, set}
-use lib.Seq.{sets, length-sets, sets-eq, drop-drop}
-use borrow.Rule.Slice.PartMut.{put_mid}
+use lib.ListN.{length, length-append, drop, drop_of_length-le, set, get_or}
+use lib.Seq.{sets, length-sets, sets-eq, drop-cons}
 use Rattle.differences.specs.Entries.{entries}
 use Rattle.differences.specs.Put.{Room, Put}
 use Rattle.differences.specs.Compare.{outcome, listed}
@@ -88,9 +88,11 @@ module _ {A : Type 0} (size : ℕ) (entry : A → List ℕ) (sized : (a : A) →
   pub put_listed : {list : List ℕ} {found : List A} {next : ℕ} {later : List ℕ} → Put size entry list 0 found next later → length found * size ≤ length list → outcome (Compared.Listed next) later ≡ listed entry found list
   put_listed {list} {found} f h = rw (f.counted, zero-add, at_start f h) (sym (listed_all size entry sized found list h))
 
--- bytes stored at a place of the list buffer, in the place of as many
-pub stored : (list later bytes : List ℕ) (a n : ℕ) → later ≡ bytes → length bytes ≡ n → a + n ≤ length list → put_mid a (a + n - a) list later ≡ sets list a bytes
-stored list later bytes a n e l h =
-    let k : a + n - a ≡ n = omega arith in
-    let f : a + length bytes ≤ length list = rw l h in
-    rw (k, e, drop-drop n a list, sets-eq bytes list a f, l, append_assoc)
+-- bytes put one by one: the first of those that are left, and none
+pub put_on : (list bytes : List ℕ) (start i : ℕ) → i < length bytes → sets list (start + i) (drop i bytes) ≡ sets (set list (start + i) (get_or bytes i 0)) (start + (i + 1)) (drop (i + 1) bytes)
+put_on list bytes start i h =
+    let e : start + (i + 1) ≡ suc (start + i) = omega arith in
+    rw (e, drop-cons bytes i 0 h, add-one i)
+
+pub put_end : (list bytes : List ℕ) (start i : ℕ) → length bytes ≤ i → sets list (start + i) (drop i bytes) ≡ list
+put_end list bytes start i h = rw (drop_of_length-le bytes h)

@@ -72,7 +72,7 @@ impl Entry for DifferingByte {
                     in_first: was,
                     in_second: is,
                 };
-                put_entry(list, next, byte.bytes());
+                put_entry(list, next, &byte.bytes());
                 next += 1;
             }
         }

@@ -146,10 +146,12 @@ fn put_rows<E: Entry, const CHUNK: usize>(
 }
 
 // Puts one entry.
-pub fn put_entry<const SIZE: usize>(list: &mut [u8], at: usize, bytes: [u8; SIZE])
+pub fn put_entry<const SIZE: usize>(list: &mut [u8], at: usize, bytes: &[u8; SIZE])
     requires { at * SIZE + SIZE ≤ length list.old }
-    ensures { list.new ≡ sets list.old (at * SIZE) bytes.entry }
+    ensures { list.new ≡ sets list.old (at * SIZE) bytes.now }
 {
     let start = at * SIZE;
-    list[start..start + SIZE].copy_from_slice(&bytes);
+    for (i, byte) in bytes.iter().enumerate() {
+        list[start + i] = *byte;
+    }
 }

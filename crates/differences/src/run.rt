@@ -82,7 +82,7 @@ impl Entry for Run {
                 in_first: first[0],
                 in_second: second[0],
             };
-            put_entry(list, at, run.bytes());
+            put_entry(list, at, &run.bytes());
             return at + 1;
         }
         put_runs(list, at, row, first, second)
@@ -133,7 +133,7 @@ fn put_runs(
                 in_first: first[x],
                 in_second: second[x],
             };
-            put_entry(list, next, run.bytes());
+            put_entry(list, next, &run.bytes());
             next += 1;
             x = last + 1;
         }

@@ -10,6 +10,7 @@ use lib.ListN.{length, length-append, get_or, drop, set}
 use lib.Seq.{drop-cons, sets, length-sets}
 use Rattle.framelisting.specs.Put.{Countable, Put}
 use Rattle.framelisting.specs.Puts.{Puts}
+use Rattle.framelisting.specs.Decimal.{decimal}
 use Rattle.framelisting.specs.declared.text.Text.{Text}
 
 -- a list from a place on is what stands there and the list after it
@@ -55,6 +56,10 @@ pub joined : {text middle later : Text} {p q : List ℕ} → Puts text p middle 
 joined f g =
     let both = after (as_put f) (as_put g) in
     record { counted = both.counted; stored = both.stored; same = g.same ∙ f.same }
+
+-- a number put is one that it is equal to
+pub as_number : {text later : Text} (n m : ℕ) → Puts text (decimal n) later → n ≡ m → Puts text (decimal m) later
+as_number {text} {later} n m f e = rw (← e) f
 
 -- no buffer changes its length
 pub puts_length : {text later : Text} {p : List ℕ} → Puts text p later → length later.buffer.now ≡ length text.buffer.now

@@ -5,10 +5,10 @@ use mathlib.Core.Bool.{Bool, true, false, not, true≢false, false≢true}
 use Prim.Native.Nat.{ℕ}
 use Rattle.std.specs.Prelude.{Option, Some, None, unwrap_or, is_some}
 use Rattle.std.specs.Int.{from_bool}
-use Rattle.bus.specs.Answer.{byte_read, is_dummy}
+use Rattle.bus.specs.Answer.{byte_answered, is_dummy}
 use Rattle.hostwide.specs.Events.{flag}
 
-pub byte_handed : (read : Option ℕ) → unwrap_or read 0 ≡ byte_read read
+pub byte_handed : (read : Option ℕ) → unwrap_or read 0 ≡ byte_answered read
 byte_handed (Some byte) = refl
 byte_handed None = refl
 

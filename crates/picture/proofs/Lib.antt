@@ -1,3 +1,5 @@
+-- masks of low bits are remainders
+pub mod Masks
 -- a row of places, and rows one after the other
 pub mod Lines
 -- arrays made place by place

@@ -3,50 +3,23 @@
 use mathlib.Core.Path.{◌≡◌, refl, sym, ◌∙◌, subst}
 use mathlib.Core.Bool.{Bool, true, false, ◌&&◌, false≢true}
 use mathlib.Core.List.{List}
-use Prim.Native.Nat.{ℕ, ◌+◌, ◌-◌, ◌≤◌, ◌<◌}
+use Prim.Native.Nat.{ℕ, ◌+◌, ◌≤◌}
 use native.Mathlib.Omega.{arith}
-use native.Mathlib.Nat.{add-zero}
 use borrow.Author.Tests.{ne_eqb, leb-true, leb-false, le-leb, lt-leb, eq-eqb, eqb-true, eqb-false}
 use lib.Dec.{leb, eqb}
 use lib.ListN.{length, drop, length-drop, take}
-use lib.Seq.{length-take-le, get_or-drop, slice, drop-drop, drop_at, take-add}
+use lib.Seq.{length-take-le, slice, drop-drop, drop_at, take-add}
 use Rattle.codes.proofs.Tests.{both, chosen}
 use Rattle.constants.specs.Sizes.{header_size}
-use Rattle.trace.specs.Records.{length_of, kind_of, payload_of, whole, CutShort, few_bytes, past_end, number, record_at}
+use Rattle.trace.specs.Records.{length_of, kind_of, payload_of, whole, CutShort, few_bytes, past_end, record_at}
 use Rattle.trace.specs.Front.{front_of}
 use Rattle.trace.specs.declared.records.Front.{Front}
 use Rattle.trace.specs.declared.records.Header.{Header}
 
-module _ (trace : List ℕ) (at : ℕ) where
-  -- the header's two numbers, by their offsets
-  length_at : length_of (drop at trace) ≡ number trace at
-  length_at = rw (get_or-drop at trace 0 0, get_or-drop at trace 1 0, add-zero)
-
-  kind_at : kind_of (drop at trace) ≡ number trace (at + 2)
-  kind_at =
-      let e : at + 2 + 1 ≡ at + 3 = omega arith in
-      rw (get_or-drop at trace 2 0, get_or-drop at trace 3 0, e)
-
-  pub at_end : length trace ≤ at → front_of (drop at trace) ≡ Front.Nothing
-  unfolding front_of
-  at_end h = rw (eq-eqb (length (drop at trace)) 0 (length-drop at trace ∙ omega arith))
-
-  module _ (h : at < length trace) where
-    some_left : eqb (length (drop at trace)) 0 ≡ false
-    some_left = ne_eqb (length (drop at trace)) 0 (λ e. omega (arith, length-drop at trace))
-
-    pub header_cut : length trace - at < header_size → front_of (drop at trace) ≡ Front.Cut
-    unfolding front_of
-    header_cut p = rw (some_left, length-drop at trace, lt-leb header_size (length trace - at) p)
-
-    module _ (p : header_size ≤ length trace - at) where
-      pub payload_cut : length trace - at - header_size < number trace at → front_of (drop at trace) ≡ Front.Cut
-      unfolding front_of
-      payload_cut q = rw (some_left, length_at, length-drop at trace, le-leb header_size (length trace - at) p, lt-leb (header_size + number trace at) (length trace - at) (omega arith))
-
-      pub whole_there : number trace at ≤ length trace - at - header_size → front_of (drop at trace) ≡ Front.Whole (record { kind = number trace (at + 2); length = number trace at })
-      unfolding front_of
-      whole_there q = rw (some_left, length_at, kind_at, length-drop at trace, le-leb header_size (length trace - at) p, le-leb (header_size + number trace at) (length trace - at) (omega arith))
+-- past the last byte nothing stands
+pub at_end : (trace : List ℕ) (at : ℕ) → length trace ≤ at → front_of (drop at trace) ≡ Front.Nothing
+unfolding front_of
+at_end trace at h = rw (eq-eqb (length (drop at trace)) 0 (length-drop at trace ∙ omega arith))
 
 -- the bytes of a whole record are there
 pub room : (bytes : List ℕ) → whole bytes ≡ true → (header_size ≤ length bytes) × (header_size + length_of bytes ≤ length bytes)

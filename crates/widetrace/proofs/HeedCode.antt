@@ -2,7 +2,7 @@
 -- Assumes nothing.
 use mathlib.Core.Path.{◌≡◌, refl, sym, ◌∙◌, ap}
 use mathlib.Core.Bool.{Bool, true, false, cond, not, false≢true}
-use mathlib.Core.List.{List, [], ◌∷◌}
+use mathlib.Core.List.{List}
 use Prim.Native.Nat.{ℕ, ◌+◌, ◌≤◌}
 use native.Mathlib.Omega.{arith}
 use borrow.Author.Tests.{ne_eqb, eqb-true, eqb-false}
@@ -19,7 +19,7 @@ use Rattle.bus.specs.Chip.{Chip}
 use Rattle.bus.specs.Stretch.{Stretched, stretch, stretch_of}
 use Rattle.bus.specs.Stretch.{Stretch}
 use Rattle.bus.proofs.StretchLaws.{stretches, the_chip_never_zero}
-use Rattle.trace.specs.Code.{Named, number_of_kind, recorded_in}
+use Rattle.trace.specs.Code.{Named, recorded_in}
 use Rattle.trace.specs.Given.{Unknown, no_kind, loaded}
 use Rattle.trace.specs.Play.{Result, refuses, gives}
 use Rattle.trace.specs.Kinds.{Recorded, events_of, replay}

@@ -7,7 +7,7 @@ use Prim.Native.Nat.{ℕ, zero, suc, ◌+◌, ◌-◌, ◌≤◌, ◌<◌}
 use native.Mathlib.Omega.{arith}
 use borrow.Author.Tests.{lt-leb}
 use lib.ListN.{length, take, drop, take-append-drop, length-drop}
-use lib.Seq.{take_all, take-take, length-take-le}
+use lib.Seq.{take_all, length-take-le}
 use Rattle.codes.proofs.Tests.{chosen}
 use Rattle.constants.specs.Sizes.{header_size, memory_size}
 use Rattle.bus.specs.Bytes.{All}

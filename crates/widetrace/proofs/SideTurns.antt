@@ -1,11 +1,11 @@
 -- What stands at an offset of a trace, as far as a limit, played for one chip.
 -- Assumes nothing.
-use mathlib.Core.Path.{◌≡◌, refl, sym, ◌∙◌, ap}
+use mathlib.Core.Path.{◌≡◌, sym, ◌∙◌, ap}
 use mathlib.Core.Bool.{cond}
 use mathlib.Core.List.{List}
-use Prim.Native.Nat.{ℕ, ◌+◌, ◌-◌, ◌≤◌, ◌<◌}
+use Prim.Native.Nat.{ℕ, ◌+◌, ◌-◌, ◌≤◌}
 use native.Mathlib.Omega.{arith}
-use borrow.Author.Tests.{ne_eqb, le-leb, lt-leb, leb-true, leb-false}
+use borrow.Author.Tests.{leb-true, leb-false}
 use lib.Dec.{leb}
 use lib.ListN.{length, take, drop, length-take, length-drop}
 use lib.Seq.{length-take-le, take_all, take-take}
@@ -111,8 +111,3 @@ module _ (trace : List ℕ) (at : ℕ) (header : Header) (h : front_of (drop at 
 
         pub obeys_some : {refusal : Refusal} → s.outcome ≡ Err refusal → play_record (the_side side) (shortened limit (record_at at (drop at trace))) (one_side (chip_of r m) selection) ≡ stopped (number_of_refusal refusal) (from + s.count) (one_side (chip_of s.registers later) selection)
         obeys_some {refusal} met = as_obeyed ∙ rw (met, refusal_not_taken refusal)
-
--- the code's size is the document's
-pub size_min : (limit from size : ℕ) {least : ℕ} → (least ≡ cond (leb size (limit - from)) size (limit - from)) → least ≡ size_before limit from size
-unfolding size_before
-size_min limit from size e = e

@@ -1,8 +1,5 @@
 -- `tracelisting::put_notice` meets its contract: the line stands at the start, and the rest is as it was.
-use mathlib.Core.Path.{◌≡◌}
-use native.Mathlib.Omega.{arith}
 use borrow.Author.Tests.{lt-ltb, le-ltb}
-use lib.ListN.{length}
 use Rattle.tracelisting.specs.TraceListing.{printed_of}
 use Rattle.tracelisting.proofs.put_notice.Goals as goal
 

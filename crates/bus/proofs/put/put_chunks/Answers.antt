@@ -1,6 +1,6 @@
 -- `bus::put::put_chunks` meets its contract: so many chunks are put, and the last one.
 use mathlib.Core.Path.{◌≡◌, sym, ◌∙◌, ap}
-use mathlib.Core.List.{List, [], ◌++◌}
+use mathlib.Core.List.{[], ◌++◌}
 use Prim.Native.Nat.{◌+◌, ◌-◌, ◌*◌, ◌/◌, ◌≤◌}
 use native.Mathlib.Omega.{arith}
 use lib.ListN.{length, get_or, take, drop, take-append-drop}
@@ -18,7 +18,7 @@ loop-i-preserved c =
     let i = c.loop-i.i in
     let at = i * chunk in
     let held = c.put_chunk.new.places in
-    let whole : held ≡ take chunk (drop at bytes) = c.put_chunk.ensures ∙ ap (λ l. get_or l i []) c.as_chunks.ensures.front ∙ chunk_at (length bytes / chunk) i bytes (omega (arith, c.as_chunks.ensures.front_len)) in
+    let whole : held ≡ take chunk (drop at bytes) = c.put_chunk.ensures ∙ c.chunk_of.ensures ∙ ap (λ l. get_or l i []) c.as_chunks.ensures.front ∙ chunk_at (length bytes / chunk) i bytes (omega (arith, c.as_chunks.ensures.front_len)) in
     let long = ap length whole ∙ length_part bytes at chunk (omega (arith, c.as_chunks.ensures.front_len)) in
     let next : at + chunk ≡ (i + 1) * chunk = omega arith in
     take-put_mid at (at + chunk - at) c.loop-i.places held ((i + 1) * chunk) (omega (arith, long)) (omega (arith, c.as_chunks.ensures.front_len)) ∙
@@ -39,5 +39,5 @@ returns-in-Some c =
     let none : drop (length put - last) (drop last put) ≡ [] = search (rules, places) in
     ap (λ l. l ++ (held ++ drop (length put - last) (drop last put))) front ∙
     ap (λ l. take last bytes ++ (held ++ l)) none ∙
-    ap (λ l. take last bytes ++ l) (append-nil held ∙ c.put_chunk-in-Some.ensures ∙ c.in-Some.ensures.cases.1.same) ∙
+    ap (λ l. take last bytes ++ l) (append-nil held ∙ c.put_chunk-in-Some.ensures ∙ c.chunk_of-in-Some.ensures ∙ c.in-Some.ensures.cases.1.same) ∙
     take-append-drop last bytes
