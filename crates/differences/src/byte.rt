@@ -53,6 +53,7 @@ impl Entry for DifferingByte {
 
     const SIZE: usize = MEMORY_ENTRY_SIZE;
 
+    // By column, here and below: both rows are read at it, and its number is a part of the entry.
     fn count(row: u8, first: &[u8; ROW], second: &[u8; ROW]) -> u8 {
         let mut count = 0;
         for column in 0..ROW {

@@ -51,7 +51,7 @@ pub fn whole<const BYTES: usize>(screen: &[u8]) -> Result<&[u8; BYTES], Refusal>
     screen.first_chunk().ok_or(Refusal::TooShort)
 }
 
-// Lists all entries of two screens, or refuses where the list buffer is too small for them.
+// Lists all entries of two screens, or refuses where the list buffer is too small for them. What is asked of BYTES and CHUNK stays in each contract: Rattle has no computed const argument, by which they would be numbers of rows.
 pub fn list_all<E: Entry, const BYTES: usize, const CHUNK: usize>(
     first: &[u8; BYTES],
     second: &[u8; BYTES],
@@ -66,7 +66,7 @@ pub fn list_all<E: Entry, const BYTES: usize, const CHUNK: usize>(
     Ok(put_all::<E, BYTES, CHUNK>(list, first, second))
 }
 
-// Whether a list buffer of so many bytes is too small for all entries; they are counted only where it does not hold every list.
+// Whether a list buffer of so many bytes is too small for all entries; they are counted only where it does not hold every list. The length alone, as the list is lent on to be changed.
 pub fn too_small<E: Entry, const BYTES: usize>(
     first: &[u8; BYTES],
     second: &[u8; BYTES],
@@ -81,7 +81,7 @@ pub fn too_small<E: Entry, const BYTES: usize>(
     bytes < count_all::<E, BYTES>(first, second) * E::SIZE
 }
 
-// How many entries two screens have.
+// How many entries two screens have. Counted and put by walks of their own: as one over a closure, the closure would have to be lent the list. `as u8`, here and below: a row's number is below 65, and `try_from` would be a branch that is never taken.
 fn count_all<E: Entry, const BYTES: usize>(first: &[u8; BYTES], second: &[u8; BYTES]) -> usize
     requires { (BYTES / width * width ≡ BYTES) × (BYTES ≤ frame_size) }
     ensures { result ≡ length (by_rows width E.found first.now second.now (BYTES / width) 0) }

@@ -53,7 +53,7 @@ impl Entry for Run {
 
     const SIZE: usize = FRAME_ENTRY_SIZE;
 
-    // The places where a run begins.
+    // The places where a run begins: each place is compared with the one before it, in both rows, which `windows` of two rows zipped would say no plainer.
     fn count(_row: u8, first: &[u8; ROW], second: &[u8; ROW]) -> u8 {
         if first == second {
             return 0;
@@ -132,7 +132,7 @@ fn put_runs(list: &mut [u8], at: usize, row: u8, first: &[u8; ROW], second: &[u8
     next
 }
 
-// The last place of the run that begins at a place.
+// The last place of the run that begins at a place, each place after it compared with that one in both rows.
 fn run_last(first: &[u8; ROW], second: &[u8; ROW], from: usize) -> usize
     requires { from < width }
     ensures { result ≡ from + more first.now second.now (width - (from + 1)) from }

@@ -23,14 +23,14 @@ pub overflow_add-x : goal.overflow_add-x
 overflow_add-x c =
     let a = c.args in
     elim c.if-first-x.branch [
-      then-first-x w ↦ rw w.x-is (omega (arith, run_within width a.first.now a.second.now c.loop-x.x w.run_last-last.result (omega arith) w.run_last-last.ensures))
+      | then-first-x w ↦ rw w.x-is (omega (arith, run_within width a.first.now a.second.now c.loop-x.x w.run_last-last.result (omega arith) w.run_last-last.ensures))
       | else-first-x w ↦ rw w.x-is (omega arith)
     ]
 
 pub loop-x-smaller : goal.loop-x-smaller
 loop-x-smaller c =
     elim c.if-first-x.branch [
-      then-first-x w ↦ rw w.x-is (omega (arith, w.run_last-last.ensures))
+      | then-first-x w ↦ rw w.x-is (omega (arith, w.run_last-last.ensures))
       | else-first-x w ↦ rw w.x-is (omega arith)
     ]
 
@@ -42,12 +42,12 @@ loop-x-preserved c =
     let x = c.loop-x.x in
     let inside = c.loop-x-test.true in
     elim c.if-first-x.branch [
-      then-first-x w ↦
-        let last = w.run_last-last.result in
-        let here = rw (runs_here width a.row f g x last inside w.if-first-x.true c.loop-x.invariant.1 w.run_last-last.ensures) at c.loop-x.invariant.2 in
-        rw (w.list-is, w.next-is, w.x-is) (omega (arith, run_within width f g x last inside w.run_last-last.ensures), open_after width f g x last inside w.run_last-last.ensures, turn _ _ _ here w.put_at.ensures)
+      | then-first-x w ↦
+          let last = w.run_last-last.result in
+          let here = rw (runs_here width a.row f g x last inside w.if-first-x.true c.loop-x.invariant.1 w.run_last-last.ensures) at c.loop-x.invariant.2 in
+          rw (w.list-is, w.next-is, w.x-is) (omega (arith, run_within width f g x last inside w.run_last-last.ensures), open_after width f g x last inside w.run_last-last.ensures, turn _ _ _ here w.put_at.ensures)
       | else-first-x w ↦
-        rw (w.list-is, w.next-is, w.x-is) (omega arith, open_same width _ _ x w.if-first-x.false, rw (runs_on width a.row f g x inside w.if-first-x.false) at c.loop-x.invariant.2)
+          rw (w.list-is, w.next-is, w.x-is) (omega arith, open_same width _ _ x w.if-first-x.false, rw (runs_on width a.row f g x inside w.if-first-x.false) at c.loop-x.invariant.2)
     ]
 
 pub shape_of-list : goal.shape_of-list
