@@ -53,7 +53,7 @@ impl Entry for DifferingByte {
 
     const SIZE: usize = MEMORY_ENTRY_SIZE;
 
-    // By column, here and below: both rows are read at it, and its number is a part of the entry.
+    // By column, here and below: both rows are read at it, and its number is a part of the entry, whose place is below 1,188 (`as u16`).
     fn count(row: u8, first: &[u8; ROW], second: &[u8; ROW]) -> u8 {
         let mut count = 0;
         for column in 0..ROW {

@@ -106,7 +106,7 @@ fn uniform(row: &[u8; ROW]) -> bool
 }
 
 // Puts the runs of a row: each from the differing place where it begins to its end, and the next from there on.
-// A `while`: `x` goes on after each run's last place, and a `for` goes on by one.
+// A `while`: `x` goes on after each run's last place, and a `for` goes on by one. Columns are below 132 (`as u8`).
 fn put_runs(list: &mut [u8], at: usize, row: u8, first: &[u8; ROW], second: &[u8; ROW]) -> usize
     requires { Room frame_entry_size list.old at (runs_found row first.now second.now) }
     ensures { Put frame_entry_size run_bytes list.old at (runs_found row first.now second.now) result list.new }

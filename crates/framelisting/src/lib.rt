@@ -14,8 +14,8 @@ mod frame;
 mod row;
 mod text;
 
-// A number and no Refusal: C lists whatever number it was handed, and any number from 1 to 255 is promised a line (`listed`).
 // Lists a frame into a lent buffer, after a stopped run's number and offset, and answers the text's length; number 0 is taken, and says nothing of a run.
+// A number and no Refusal: C lists whatever number it was handed, and any number from 1 to 255 is promised a line (`listed`).
 pub fn list(number: u8, offset: usize, frame: &[u8], text: &mut [u8]) -> Result<usize, Refusal>
     ensures { outcome (listed_of result) text.new ≡ listed number offset frame.now text.old }
 {

@@ -34,7 +34,7 @@ impl<'a> Text<'a> {
         }
     }
 
-    // Puts one byte at a place that the buffer has.
+    // Puts one byte at a place that the buffer has: `put` without its test, for numbers and runs where there is room.
     pub fn put_inside(&mut self, byte: u8)
         requires { self.old.at < length self.old.buffer.now }
         ensures { Puts self.old (byte ∷ []) self.new }
@@ -50,8 +50,8 @@ impl<'a> Text<'a> {
         self.at <= self.buffer.len() && bytes <= self.buffer.len() - self.at
     }
 
-    // By hand: a place past the buffer's end is counted and takes no byte, which no `Write` of the library does.
     // Puts a number in decimal. A number of up to three digits is put at once where the buffer has room for three.
+    // By hand: a place past the buffer's end is counted and takes no byte, which no `Write` of the library does.
     pub fn put_number(&mut self, number: usize)
         requires { Countable self.old.at (decimal number) }
         ensures { Puts self.old (decimal number) self.new }
@@ -81,7 +81,7 @@ impl<'a> Text<'a> {
     }
 }
 
-// A digit as a byte.
+// A digit as a byte; below 10, so that `try_from` would have a branch that is never taken.
 fn digit(number: usize) -> u8
     requires { number < 10 }
     ensures { result ≡ 48 + number }

@@ -31,8 +31,8 @@ fn list_pack(rt: &impl Print, pack: &[u8]) -> io::Result<()> {
     list_entries(rt, pack)
 }
 
-// No `for` over entries: the last line says the count, or the place of the cut.
 // Lists the entries of a pack in turn. The last line says how many there are, or where the pack is cut.
+// No `for` over entries: the last line says the count, or the place of the cut.
 #[tactic(auto, using(crate::proofs::Entries::within))]
 fn list_entries(rt: &impl Print, pack: &[u8]) -> io::Result<()> {
     let mut at = 0;

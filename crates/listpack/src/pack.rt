@@ -8,8 +8,8 @@ use tracelisting::word::begins_with;
 // Bytes of an entry's header, which has two lengths.
 pub const HEADER_SIZE: usize = 8;
 
-// Lengths and no parts, as the header has them (specs/Pack `entry_of`).
 // What an entry's header says: the length of its name, and of its trace.
+// Lengths and no parts, as the header has them (specs/Pack `entry_of`).
 #[derive(Clone, Copy, Debug, PartialEq, Eq)]
 pub struct Sizes {
     pub name: usize,

@@ -7,10 +7,10 @@ pub mod Front
 pub mod Play
 -- the chip as that machine
 pub mod Kinds
--- what the code's own types stand for
-pub mod Code
 -- the run on a lent state and memory
 pub mod Run
+-- what the code's own types stand for
+pub mod Code
 -- 2. What is proved of them.
 -- the split, whatever it is played on
 pub mod SplitLaws

@@ -2,7 +2,6 @@
 ghost use Rattle.std.specs.Prelude.{◌≡◌, drop};
 ghost use Rattle.trace.specs.Front.{front_of};
 
-// The kind is the number itself, since C is handed any kind (`ssd1815b_record`).
 // What a record's header says: its kind, and the length of its payload.
 #[derive(Clone, Copy, Debug, PartialEq, Eq)]
 pub struct Header {
@@ -11,7 +10,7 @@ pub struct Header {
     pub length: usize,
 }
 
-// What stands where a header should: nothing, a cut record, or a whole one; three cases, each by its name, which no Option has. Three cases, of which only one is a refusal: no Option and no Result says it in one word.
+// What stands where a header should: nothing, a cut record, or a whole one. Three cases, of which only one is a refusal: no Option and no Result says it in one word.
 #[derive(Clone, Copy, Debug, PartialEq, Eq)]
 pub enum Front {
     Nothing,
@@ -19,8 +18,8 @@ pub enum Front {
     Whole(Header),
 }
 
-// Slice and offset, as C lends them (`ssd1815b_record`). listpack's entries have such a function of their own: other lengths, and a format that no document has.
 // What stands at an offset of the trace: a header's four bytes are its payload's length and its kind, both little-endian.
+// Slice and offset, as C lends them (`ssd1815b_record`). listpack's entries have such a function of their own: other lengths, and a format that no document has.
 #[tactic(auto, unfolding(crate::specs::Front::front_of))]
 pub fn front_at(trace: &[u8], at: usize) -> Front
     ensures { result ≡ front_of (drop at trace.now) }

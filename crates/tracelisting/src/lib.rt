@@ -21,8 +21,8 @@ pub fn list_input(hung: Hung, input: &[u8], text: &mut [u8]) -> usize
     list_trace(hung, input, text)
 }
 
-// No Result: what is promised is `printed`, which cannot fail, and programs lend room for any listing.
 // Lists what a trace of any length leaves on the glass, from the start as the module hangs; answers the text's length, 0 where the buffer is too short for some listing.
+// No Result: what is promised is `printed`, which cannot fail, and programs lend room for any listing.
 fn list_trace(hung: Hung, trace: &[u8], text: &mut [u8]) -> usize
     ensures { printed result text.new ≡ printed_of (listing_of_trace hung trace.now) text.old }
 {

@@ -57,7 +57,7 @@ fn draw_both(
     draw_half(Side::Right, registers.right, right_memory, places);
 }
 
-// Draws each row of one chip into its half of a wide row. A loop for each chip is what keeps the wide frame near twice the time of one. The part is cut by hand, as in picture's draw.rt.
+// Draws each row of one chip into its half of a wide row. A loop for each chip is what keeps the wide frame near twice the time of one. The part is cut by hand and `y` is below 65, as in picture's draw.rt.
 fn draw_half(side: Side, registers: Registers, memory: &[u8], places: &mut [u8; WIDE_FRAME_SIZE])
     requires { memory_size ≤ length memory.now }
     ensures { places.new ≡ rows_written (first_column side) frame_rows (frame registers memory.now) places.old }

@@ -23,8 +23,8 @@ pub struct SidePlayed {
     pub selection: Selection,
 }
 
-// A limit and no shorter trace: a record that the limit cuts is played as far as it, and is not cut (8).
 // Plays what a chip hears of a trace, up to an offset, from given registers and memory with both chips selected.
+// A limit and no shorter trace: a record that the limit cuts is played as far as it, and is not cut (8).
 pub fn play_side(
     side: Side,
     mut registers: Registers,

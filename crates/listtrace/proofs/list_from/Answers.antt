@@ -5,12 +5,6 @@ use Rattle.standardinput.proofs.Reading.{read_counts}
 use Rattle.tracelisting.proofs.LentBuffer.{within_text}
 use Rattle.listtrace.proofs.list_from.Goals as goal
 
-pub slice_bounds-trace-end : goal.slice_bounds-trace-end
-slice_bounds-trace-end g c = (read_counts _ _ _ c.read_input.ensures c.in-Ok.is).0
-
-pub slice_bounds-list_input-end : goal.slice_bounds-list_input-end
-slice_bounds-list_input-end g c = (read_counts _ _ _ c.read_input.ensures c.in-Ok.is).1
-
 pub slice_bounds-text-end : goal.slice_bounds-text-end
 slice_bounds-text-end g c = within_text _ _ _ _ c.list_input-length.ensures
 

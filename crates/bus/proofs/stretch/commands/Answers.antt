@@ -5,11 +5,8 @@ use lib.ListN.{length}
 use Rattle.bus.specs.Chip.{command_byte, step}
 use Rattle.bus.specs.Recorded.{recorded_command, replay}
 use Rattle.bus.proofs.Replayed.{event_taken, event_refused}
-use Rattle.bus.proofs.StretchLaws.{all_left, none_left, turn_refused, turn_given}
+use Rattle.bus.proofs.StretchLaws.{none_left, turn_refused, turn_given}
 use Rattle.bus.proofs.stretch.commands.Goals as goal
-
-pub loop-at-init : goal.loop-at-init
-loop-at-init c = λ memory. all_left replay recorded_command c.args.bytes.now _
 
 pub returns-in_default : goal.returns-in_default
 unfolding step

@@ -5,11 +5,8 @@ use lib.ListN.{length}
 use Rattle.bus.specs.Chip.{step}
 use Rattle.bus.specs.Recorded.{read_as, replay}
 use Rattle.bus.proofs.Replayed.{read_agrees, read_differs_lem, read_refused}
-use Rattle.bus.proofs.StretchLaws.{all_left, none_left, turn_refused, turn_given}
+use Rattle.bus.proofs.StretchLaws.{none_left, turn_refused, turn_given}
 use Rattle.bus.proofs.stretch.reads_singly.Goals as goal
-
-pub loop-at-init : goal.loop-at-init
-loop-at-init c = all_left replay read_as c.args.bytes.now _
 
 pub returns-in_default : goal.returns-in_default
 unfolding step

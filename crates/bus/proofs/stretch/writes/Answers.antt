@@ -5,7 +5,6 @@ use Rattle.constants.proofs.Refusals.{refusal_not_taken}
 use borrow.Author.Tests.{eqb-false}
 use Rattle.bus.proofs.Access.{opened}
 use Rattle.bus.proofs.PieceLaws.{refused_first, none_written}
-use Rattle.bus.proofs.stretch.writes.Goals.{then-bytes-from, else-bytes-from}
 use Rattle.bus.proofs.stretch.writes.Goals as goal
 
 pub returns-then-bytes-eq0 : goal.returns-then-bytes-eq0
@@ -20,11 +19,3 @@ returns-in_default c =
     let met = c.in_default.ensures in
     rw (c.halted-in_default.ensures, c.in_default.is, met)
     (sym (refused_first a.bytes.now a.registers a.memory.now c.if-bytes-eq0.false (λ e. eqb-false _ _ (rw (← met) (refusal_not_taken _)) e)))
-
-pub returns : goal.returns
-returns c =
-    rw c.halted-2.ensures
-    (elim c.if-bytes-from.branch [
-      | then-bytes-from w ↦ rw (w.registers-is, w.memory-is) (sym w.write_piece-registers.ensures.1)
-      | else-bytes-from w ↦ rw (w.registers-is, w.memory-is) (sym w.write_round-registers.ensures)
-    ])

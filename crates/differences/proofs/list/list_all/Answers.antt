@@ -19,11 +19,5 @@ too_small-requires g c =
 pub returns-then-too_small : goal.returns-then-too_small
 returns-then-too_small g c = sym (listed_not g.E.Entry.SIZE g.E.Entry.bytes g.met.E.Entry.sized _ _ (ltb-true _ _ (sym c.too_small.ensures ∙ c.if-too_small.true)))
 
-pub put_all-requires : goal.put_all-requires
-put_all-requires g c =
-    let found = by_rows width g.E.Entry.found c.args.first.now c.args.second.now (g.row.BYTES / width) 0 in
-    let room : length found * g.E.Entry.SIZE ≤ length c.args.list.now = ltb-false _ _ (sym c.too_small.ensures ∙ c.if-too_small.false) in
-    (omega (arith, c.requires.chunks.4), (c.requires.chunks, omega (arith, room)))
-
 pub returns : goal.returns
 returns g c = put_listed g.E.Entry.SIZE g.E.Entry.bytes g.met.E.Entry.sized c.put_all.ensures (ltb-false _ _ (sym c.too_small.ensures ∙ c.if-too_small.false))

@@ -14,12 +14,6 @@ use Rattle.differences.proofs.Along.{along_start, along_on, along_end, along_ove
 use Rattle.differences.proofs.PutEntries.{begin, turns, done, rest_length, room_for}
 use Rattle.differences.proofs.list.put_all.Goals as goal
 
-pub as_chunks-requires : goal.as_chunks-requires
-as_chunks-requires g c = (omega (arith, c.requires.chunks.3, c.requires.chunks.4), omega (arith, c.requires.chunks.2))
-
-pub as_chunks-requires-2 : goal.as_chunks-requires-2
-as_chunks-requires-2 g c = (omega (arith, c.requires.chunks.3, c.requires.chunks.4), omega (arith, c.requires.chunks.2))
-
 pub loop-chunk-init : goal.loop-chunk-init
 loop-chunk-init g c =
     let f = c.args.first.now in
@@ -78,9 +72,6 @@ loop-chunk-preserved g c =
     let same = same_bytes _ _ _ c.ne.ensures c.if-ne.false in
     let over = along_over each it.iter.a.rest.now it.iter.b.rest.now next.iter.a.rest.now next.iter.b.rest.now c.in-Some.was.now c.in-Some.is'.now it.count (λ i a. rows_none width (λ (p : ℕ). g.E.Entry.found (i * k + p)) (λ p. g.met.E.Entry.none (i * k + p)) a k 0) steps.0.0 steps.0.1 same in
     record { can = search rules; finite = search rules; left = omega (arith, steps.2, ap length steps.0.0, c.loop-chunk.invariant.left); put = rw (steps.2, ← over) c.loop-chunk.invariant.put }
-
-pub shape_of-list : goal.shape_of-list
-shape_of-list g c = rest_length _ _ _ c.loop-chunk.invariant.put
 
 pub returns : goal.returns
 returns g c =

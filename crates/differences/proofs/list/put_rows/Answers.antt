@@ -37,9 +37,6 @@ loop-row-preserved g c =
     let on = along_on (λ (p : ℕ). g.E.Entry.found (c.args.from + p)) it.iter.a.rest.now it.iter.b.rest.now next.iter.a.rest.now next.iter.b.rest.now c.in-Some.was.now c.in-Some.is'.now it.count steps.0.0 steps.0.1 in
     record { can = search rules; finite = search rules; left = omega (arith, steps.2, ap length steps.0.0, c.loop-row.invariant.left); put = rw steps.2 (turns _ _ _ (rw on at c.loop-row.invariant.put) (rw steps.1 at c.put-next.ensures)) }
 
-pub shape_of-list : goal.shape_of-list
-shape_of-list g c = rest_length _ _ _ c.loop-row.invariant.put
-
 pub returns : goal.returns
 returns g c =
     let it = c.loop-row.row-iterator in

@@ -24,6 +24,3 @@ overflow_mul-result g c =
     let few : c.count_all.result ≤ 8580 = omega (arith, c.count_all.ensures, rows_few width width g.E.Entry.found g.met.E.Entry.few a.first.now a.second.now (g.row.BYTES / width) 0, c.requires.0, c.requires.1) in
     let size : c.SIZE-2.result ≤ 5 = omega (arith, c.SIZE-2.ensures, g.met.E.Entry.small) in
     omega (arith, mul-le-mul_left c.count_all.result size, few)
-
-pub returns : goal.returns
-returns g c = rw (c.count_all.ensures, c.SIZE-2.ensures)

@@ -27,13 +27,6 @@ overflow_add-x c =
       | else-first-x w ↦ rw w.x-is (omega arith)
     ]
 
-pub loop-x-smaller : goal.loop-x-smaller
-loop-x-smaller c =
-    elim c.if-first-x.branch [
-      | then-first-x w ↦ rw w.x-is (omega (arith, w.run_last-last.ensures))
-      | else-first-x w ↦ rw w.x-is (omega arith)
-    ]
-
 pub loop-x-preserved : goal.loop-x-preserved
 loop-x-preserved c =
     let a = c.args in
@@ -49,9 +42,6 @@ loop-x-preserved c =
       | else-first-x w ↦
           rw (w.list-is, w.next-is, w.x-is) (omega arith, open_same width _ _ x w.if-first-x.false, rw (runs_on width a.row f g x inside w.if-first-x.false) at c.loop-x.invariant.2)
     ]
-
-pub shape_of-list : goal.shape_of-list
-shape_of-list c = rest_length _ _ _ c.loop-x.invariant.2
 
 pub returns : goal.returns
 returns c =

@@ -4,9 +4,6 @@ use native.Mathlib.Omega.{arith}
 use Rattle.framelisting.proofs.AlongRow.{leading_here, leading_on, leading_end}
 use Rattle.framelisting.proofs.row.run_end.Goals as goal
 
-pub loop-x-init : goal.loop-x-init
-loop-x-init c = refl
-
 pub returns-then-row-x-eq0 : goal.returns-then-row-x-eq0
 returns-then-row-x-eq0 c =
     omega (arith, c.loop-x.invariant, leading_here c.args.row.now c.loop-x.x c.loop-x-test.true c.if-row-x-eq0.true)

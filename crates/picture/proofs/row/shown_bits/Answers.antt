@@ -1,12 +1,7 @@
 -- `picture::row::shown_bits` meets its contract: the page as it is shown has the row's bits.
 use native.Mathlib.Omega.{arith}
-use borrow.Author.Rules.{rules}
-use lib.Bits.{mask_lt}
 use Rattle.picture.proofs.Upright.{row_bits}
 use Rattle.picture.proofs.row.shown_bits.Goals as goal
-
-pub shown_page-page-requires : goal.shown_page-page-requires
-shown_page-page-requires c = search (rules, mask_lt c.args.registers.reverse 1)
 
 pub returns : goal.returns
 returns c =

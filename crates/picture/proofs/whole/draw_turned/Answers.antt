@@ -1,12 +1,7 @@
 -- `picture::whole::draw_turned` meets its contract: the memory is made upright, and each row is drawn by what it shows.
 use mathlib.Core.Path.{◌∙◌}
-use borrow.Author.Rules.{rules}
-use lib.Bits.{mask_lt}
 use Rattle.picture.proofs.Upright.{upright_made, frame_seen, rows_within}
 use Rattle.picture.proofs.whole.draw_turned.Goals as goal
-
-pub bring_upright-requires : goal.bring_upright-requires
-bring_upright-requires c = search (rules, mask_lt c.args.registers.reverse 1)
 
 pub draw_upright-requires : goal.draw_upright-requires
 draw_upright-requires c = rows_within c.args.registers _ c.requires.2

@@ -22,26 +22,17 @@ pub loop-header-init : goal.loop-header-init
 unfolding split
 loop-header-init c = rw (c.new-reader.ensures.0, c.new-reader.ensures.1) (refl, omega arith, omega arith, refl, refl)
 
-pub shape_of-memory-in-Nothing : goal.shape_of-memory-in-Nothing
-shape_of-memory-in-Nothing c = c.loop-header.invariant.3
-
 pub returns-in-Nothing : goal.returns-in-Nothing
 unfolding played_of
 returns-in-Nothing c =
     let loop = c.loop-header in
     rw c.end.ensures (sym (loop.invariant.4 ∙ plays_nothing _ _ the_chip _ _ (seen _ loop.invariant.0 c.next.ensures c.in-Nothing.is)))
 
-pub shape_of-memory-in-Cut : goal.shape_of-memory-in-Cut
-shape_of-memory-in-Cut c = c.loop-header.invariant.3
-
 pub returns-in-Cut : goal.returns-in-Cut
 unfolding played_of
 returns-in-Cut c =
     let loop = c.loop-header in
     rw c.end-in-Cut.ensures (sym (loop.invariant.4 ∙ plays_cut _ _ the_chip _ _ (seen _ loop.invariant.0 c.next.ensures c.in-Cut.is)))
-
-pub obey-ending-requires : goal.obey-ending-requires
-obey-ending-requires c = seen _ c.loop-header.invariant.0 c.next.ensures c.in-Whole.is
 
 pub overflow_add-at-in-Whole : goal.overflow_add-at-in-Whole
 overflow_add-at-in-Whole c = omega (arith, within_trace c.args.trace.now _ _ (seen _ c.loop-header.invariant.0 c.next.ensures c.in-Whole.is))
@@ -59,9 +50,6 @@ loop-header-preserved c =
     let place : c.moved-reader.result.at ≡ loop.reader.at + header_size + c.in-Whole.header.length = omega (arith, c.moved-reader.ensures.1) in
     rw (c.moved-reader.ensures.0, place)
     (loop.invariant.0, omega (arith, fits), omega (arith, fits), obeyed.auto.memory ∙ loop.invariant.3, loop.invariant.4 ∙ plays_on c.args.trace.now _ the_chip loop.count _ _ stands _ (sym (rw c.in_default.is at obeyed.ensures)))
-
-pub shape_of-memory-in-Err : goal.shape_of-memory-in-Err
-shape_of-memory-in-Err c = c.obey-ending.auto.memory ∙ c.loop-header.invariant.3
 
 pub returns-in-Err : goal.returns-in-Err
 unfolding ending_on played_of

@@ -17,9 +17,3 @@ loop-y-preserved c =
     let loop = c.loop-y in
     let start = loop.y * wide_width + c.first_column-first.result in
     (omega arith, loop.invariant.1, rows_turn a.registers a.memory.now c.first_column-first.result loop.invariant.1 a.places.now (omega arith) loop.y (start + width - start) loop.places c.draw_line.new.places (omega arith) (omega arith) loop.invariant.2 (omega arith) c.draw_line.ensures)
-
-pub returns : goal.returns
-returns c =
-    let loop = c.loop-y in
-    let done : loop.y ≡ frame_rows = omega arith in
-    loop.invariant.2 ∙ rw (done, c.first_column-first.ensures)

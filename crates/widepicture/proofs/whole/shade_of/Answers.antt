@@ -8,9 +8,3 @@ returns-then-registers-eq0 c = search (rules, tells_dark)
 
 pub returns-then-registers-eq-ALL_ROWS : goal.returns-then-registers-eq-ALL_ROWS
 returns-then-registers-eq-ALL_ROWS c = search (rules, tells_lit)
-
-pub returns-else-registers-eq-ALL_ROWS : goal.returns-else-registers-eq-ALL_ROWS
-returns-else-registers-eq-ALL_ROWS c = search (rules, untold)
-
-pub returns-else-registers-eq1 : goal.returns-else-registers-eq1
-returns-else-registers-eq1 c = search (rules, untold)

@@ -1,6 +1,6 @@
 -- `widetrace::run::play` meets its contract: the right side takes all that the left one took, or stops earlier, and the left one plays again as far as that.
 use mathlib.Core.Path.{sym, ◌∙◌}
-use Rattle.widetrace.proofs.RunBySides.{still_long, taken_by_both, stopped_by_right, all_taken, not_taken}
+use Rattle.widetrace.proofs.RunBySides.{taken_by_both, stopped_by_right, all_taken, not_taken}
 use Rattle.widetrace.proofs.run.play.Goals as goal
 
 pub returns-then-is_ok : goal.returns-then-is_ok
@@ -8,17 +8,6 @@ returns-then-is_ok c =
     let a = c.args in
     rw c.ended.ensures
     (taken_by_both a.registers a.trace.now a.left_memory.now a.right_memory.now c.play_side-first.result _ c.play_side-first.ensures c.play_side-second.result _ c.play_side-second.ensures (all_taken _ (sym c.is_ok.ensures.value ∙ c.if-is_ok.true)))
-
-pub put_back-requires : goal.put_back-requires
-put_back-requires c =
-    let a = c.args in
-    still_long a.registers a.trace.now a.left_memory.now a.right_memory.now c.play_side-first.result _ c.play_side-first.ensures c.requires
-
-pub shape_of-left_memory : goal.shape_of-left_memory
-shape_of-left_memory c = c.play_side-again.auto.memory ∙ c.put_back.auto.memory ∙ c.play_side-first.auto.memory
-
-pub shape_of-right_memory : goal.shape_of-right_memory
-shape_of-right_memory c = c.play_side-second.auto.memory
 
 pub returns : goal.returns
 returns c =

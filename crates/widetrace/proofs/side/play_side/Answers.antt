@@ -25,9 +25,6 @@ pub returns-in-Cut : goal.returns-in-Cut
 unfolding side_played_of
 returns-in-Cut c = rw c.end-in-Cut.ensures (sym (c.loop-at.invariant.3 ∙ plays_cut _ _ _ (the_side _) _ _ c.loop-at-test.true (sym c.read_at.ensures ∙ c.in-Cut.is)))
 
-pub overflow_add-from : goal.overflow_add-from
-overflow_add-from c = omega (arith, within_trace c.args.trace.now c.loop-at.at c.in-Whole.header (sym c.read_at.ensures ∙ c.in-Whole.is))
-
 pub overflow_add-to : goal.overflow_add-to
 overflow_add-to c = omega (arith, turns.fits c.args.trace.now c.loop-at.at c.in-Whole.header (sym c.read_at.ensures ∙ c.in-Whole.is) c.args.limit c.size_before.ensures)
 

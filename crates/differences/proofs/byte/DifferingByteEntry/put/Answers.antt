@@ -8,9 +8,6 @@ use Rattle.differences.proofs.AlongPage.{bytes_on, bytes_here, bytes_end}
 use Rattle.differences.proofs.byte.DifferingByteEntry.put.Goals as goal
 use Rattle.differences.proofs.byte.DifferingByteEntry.put.Goals.{then-was-is, else-was-is}
 
-pub loop-column-init : goal.loop-column-init
-loop-column-init c = begin _ _ _ _ _ _
-
 pub put_at-requires : goal.put_at-requires
 put_at-requires c =
     let a = c.args in
@@ -30,9 +27,6 @@ loop-column-preserved c =
           let same : held a.row a.first.now x ≡ held a.row a.second.now x = sym c.kept-was.ensures ∙ w.if-was-is.false ∙ c.kept-is.ensures in
           rw (w.list-is, w.next-is) (rw (bytes_on width a.row a.first.now a.second.now x (omega arith) same) at c.loop-column.invariant)
     ]
-
-pub shape_of-list : goal.shape_of-list
-shape_of-list c = rest_length _ _ _ c.loop-column.invariant
 
 pub returns : goal.returns
 returns c =
