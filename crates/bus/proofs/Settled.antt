@@ -9,7 +9,7 @@ use Rattle.constants.specs.Refusals.{Met, number_met}
 use Rattle.constants.specs.declared.refusal.Refusal.{Refusal}
 use Rattle.constants.proofs.Refusals.{met_of, met_undone}
 use Rattle.constants.proofs.Settles.{equation, told_from}
-use Rattle.bus.specs.Calls.{Called, called}
+use Rattle.bus.specs.Calls.{Called, called, reply_of}
 use Rattle.bus.specs.Start.{started}
 use Rattle.bus.specs.Registers.{power_on}
 use Rattle.bus.specs.Chip.{Chip}
@@ -40,6 +40,10 @@ met_alone = told_from number_met met_of met_undone
 -- two equations at once
 two_equations : {A B : Type 0} (a : A) (b : B) → Settles (λ (o : A × B). (o.0 ≡ a) × (o.1 ≡ b))
 two_equations a b first second p q = rw (p.0 ∙ sym q.0, p.1 ∙ sym q.1)
+
+-- what is met, by its reply, with a state
+by_reply : (answer : Answer) (later : List ℕ) → Settles (λ (o : Met × List ℕ). (reply_to o.0 ≡ reply_of answer) × (o.1 ≡ later))
+by_reply answer later first second p q = rw (told_from reply_to (λ reply. met_of reply.number) met_undone (reply_of answer) first.0 second.0 p.0 q.0, p.1 ∙ sym q.1)
 
 -- the registers that a silent answer leaves
 left_by : Answer → Registers
@@ -73,6 +77,8 @@ settled = record {
   calls::reset_pin = λ state memory. with_state memory _;
   «calls::conclude» = λ answer state. two_equations _ _;
   «calls::refuse» = λ number. equation _;
+  conclude_answers = λ answer state. by_reply _ _;
+  refuse_answers = λ refusal first second p q. p.0 ∙ sym q.0;
   «Registers::command» = λ byte self. told_from answer_of told_answer answer_told _;
   Registers::reset_pin = λ self. silent _;
   «Registers::write» = λ self memory byte. answer_and_memory _ _;

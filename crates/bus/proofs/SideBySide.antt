@@ -1,7 +1,7 @@
 -- Bytes put and compared side by side: what holds of the bytes passed, and what a page keeps.
 -- Assumes nothing.
-use Prim.Native.Nat.{ℕ, zero, suc, ◌+◌, ◌*◌, ◌≤◌, ◌<◌}
-use mathlib.Core.Path.{◌≡◌, refl, ◌∙◌, ap}
+use Prim.Native.Nat.{ℕ, zero, suc, ◌+◌, ◌-◌, ◌*◌, ◌≤◌, ◌<◌}
+use mathlib.Core.Path.{◌≡◌, refl, sym, ◌∙◌, ap}
 use mathlib.Core.Bool.{Bool, true, false}
 use mathlib.Core.Logic.{◌≢◌}
 use mathlib.Core.List.{List, [], ◌∷◌, ◌++◌, map}
@@ -14,7 +14,7 @@ use Rattle.bus.specs.Pieces.{chunk}
 use lib.Dec.{ltb}
 use lib.Bits.{bit_or, bit_xor, or_add_and, xor_add_and, and_le_l, and_le_r}
 use lib.ListN.{length, get_or, take, drop, length-drop}
-use lib.Seq.{length-take-le, drop-drop}
+use lib.Seq.{length-take-le, drop-drop, get_or-take, get_or-drop}
 
 -- what holds below x and at x holds below x + 1
 pub one_more : (P : ℕ → Type 0) (x : ℕ) → ((i : ℕ) → i < x → P i) → P x → (i : ℕ) → i < x + 1 → P i
@@ -29,6 +29,22 @@ one_more P x below here i h = by (ltb i x) refl
 -- a part has as many bytes as it should
 pub length_part : (l : List ℕ) (from n : ℕ) → from + n ≤ length l → length (take n (drop from l)) ≡ n
 length_part l from n h = length-take-le n (drop from l) (omega (arith, length-drop from l))
+
+-- a byte of a part of a list
+pub in_part : (l : List ℕ) (from n i : ℕ) → i < n → get_or (take n (drop from l)) i 0 ≡ get_or l (from + i) 0
+in_part l from n i h = get_or-take n (drop from l) i 0 h ∙ get_or-drop from l i 0
+
+-- bytes of which each is as the one before it are all as the first
+pub all_as_first : (byte : ℕ) (l : List ℕ) → get_or l 0 0 ≡ byte → take (length l - 1) (drop 1 l) ≡ take (length (take (length l - 1) (drop 1 l))) l → (i : ℕ) → i < length l → byte ≡ get_or l i 0
+all_as_first byte l first e zero h = sym first
+all_as_first byte l first e (suc i) h =
+    let long : length (take (length l - 1) (drop 1 l)) ≡ length l - 1 = length_part l 1 (length l - 1) (omega arith) in
+    let next : 1 + i ≡ suc i = omega arith in
+    all_as_first byte l first e i (omega arith) ∙
+    sym (get_or-take (length (take (length l - 1) (drop 1 l))) l i 0 (omega (arith, long))) ∙
+    ap (λ k. get_or k i 0) (sym e) ∙
+    in_part l 1 (length l - 1) i (omega arith) ∙
+    ap (λ k. get_or l k 0) next
 
 -- the chunk at a place of the chunks
 pub chunk_at : {A : Type 0} (count i : ℕ) (l : List A) → i < count → get_or (first_chunks chunk count l) i [] ≡ take chunk (drop (i * chunk) l)

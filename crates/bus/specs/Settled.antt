@@ -1,6 +1,6 @@
 -- Any two results that satisfy what a public call of this crate states are equal: its answer, and what it leaves of everything lent to be changed. A field has the name of its call.
-use Rattle.std.specs.Prelude.{Option, Result, ℕ, ◌≡◌, Bool, List, [], ◌∷◌, map, length, get_or}
-use Rattle.constants.specs.Refusals.{Met, number_met}
+use Rattle.std.specs.Prelude.{Option, Result, Err, ℕ, ◌≡◌, Bool, List, [], ◌∷◌, map, length, get_or}
+use Rattle.constants.specs.Refusals.{Met, number_of_refusal, number_met}
 use Rattle.constants.specs.Settles.{Settles}
 use Rattle.constants.specs.declared.refusal.Refusal.{Refusal}
 use Rattle.bus.specs.Places.{column, awaited, fresh}
@@ -27,9 +27,11 @@ pub record Settled : Type 0 where
   pub «calls::write» : (byte : ℕ) (state memory : List ℕ) → Settles (λ (o : Met × List ℕ × List ℕ). called (reply_to o.0) o.1 o.2 ≡ call (data_written byte) state memory)
   pub «calls::read» : (state memory : List ℕ) → Settles (λ (o : Result (Option ℕ) Refusal × List ℕ). called (reply_to_read o.0) o.1 memory ≡ call data_read state memory)
   pub calls::reset_pin : (state memory : List ℕ) → Settles (λ (o : Met × List ℕ). called (reply_to o.0) o.1 memory ≡ call reset_pulse state memory)
-  -- Two of calls that were: an answer as a reply with the state after it, and a refusal as a reply.
+  -- An answer as a reply with the state after it, and a refusal as a reply; below, the results that code answers in the reply's place.
   pub «calls::conclude» : (answer : Answer) (state : List ℕ) → Settles (λ (o : Reply × List ℕ). (o.0 ≡ reply_of answer) × (o.1 ≡ state_after answer state))
   pub «calls::refuse» : (number : ℕ) → Settles (λ (r : Reply). r ≡ reply_of (Answer.Refused number))
+  pub conclude_answers : (answer : Answer) (state : List ℕ) → Settles (λ (o : Met × List ℕ). (reply_to o.0 ≡ reply_of answer) × (o.1 ≡ state_after answer state))
+  pub refuse_answers : (refusal : Refusal) → Settles (λ (met : Met). (met ≡ Err refusal) × (reply_to met ≡ reply_of (Answer.Refused (number_of_refusal refusal))))
   pub «Registers::command» : (byte : ℕ) (self : Registers) → Settles (λ (r : Result Registers Refusal). answer_of r ≡ command byte self)
   pub Registers::reset_pin : (self : Registers) → Settles (λ (r : Registers). silently r ≡ reset_pin self)
   pub «Registers::write» : (self : Registers) (memory : List ℕ) (byte : ℕ) → Settles (λ (o : Result Registers Refusal × List ℕ). (answer_of o.0 ≡ write self (length memory)) × (o.1 ≡ written byte self memory))

@@ -9,6 +9,7 @@ use constants::refusal::Refusal;
 
 impl Registers {
     // A command byte: a command where no code is awaited, else the n of the awaited code.
+    #[inline(always)]
     pub fn command(mut self, byte: u8) -> Result<Registers, Refusal>
         ensures { answer_of result ≡ command byte self }
     {
@@ -18,6 +19,7 @@ impl Registers {
     }
 
     // A pulse on the reset pin: the power-on state, whatever the state was.
+    #[inline(always)]
     pub fn reset_pin(self) -> Registers
         ensures { silently result ≡ reset_pin self }
     {

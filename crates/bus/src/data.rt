@@ -23,6 +23,7 @@ impl Registers {
     }
 
     // A data byte read: the dummy read where fresh is 1, else the byte, and the column moves on outside read-modify-write.
+    #[inline(always)]
     pub fn read(self, memory: &[u8]) -> Result<Read, Refusal>
         ensures { answer_of_read result ≡ read self memory.now }
     {
@@ -51,6 +52,7 @@ impl Registers {
     }
 
     // What a data write or read meets, at a memory of so many bytes: 1 and 2 as far as it uses them, then 6, then 7.
+    #[inline(always)]
     pub fn access(self, memory: usize) -> Result<(), Refusal>
         ensures { number_met result ≡ access self memory }
     {

@@ -14,6 +14,7 @@ use constants::refusal::Refusal;
 
 // Obeys a command, or refuses it and leaves the registers as they were.
 #[tactic(auto, unfolding(crate::specs::Events::obeyed))]
+#[inline(always)]
 pub(crate) fn obey<H: Held>(held: &mut H, named: Command) -> Result<(), Refusal>
     requires { CommandInRange named }
     ensures met { let met = obeyed named (H.registers held.old with places.awaited ≔ 0) in MatchResult result (λ done. met ≡ silently (H.registers held.new)) (λ refusal. (met ≡ Answer.Refused (number_of_refusal refusal)) × (H.registers held.new ≡ H.registers held.old)) }
@@ -56,6 +57,7 @@ pub(crate) fn obey<H: Held>(held: &mut H, named: Command) -> Result<(), Refusal>
 }
 
 // Sets one register, and what every command taken sets: no code is awaited, unless that is the register, and fresh is 1.
+#[inline(always)]
 fn set<H: Held>(held: &mut H, place: Place, value: u8)
     ensures registers { H.registers held.new ≡ (H.registers held.old with places.awaited ≔ 0 with place_of place ≔ value with places.fresh ≔ 1) }
     ensures size { H.size held.new ≡ H.size held.old }
@@ -66,6 +68,7 @@ fn set<H: Held>(held: &mut H, place: Place, value: u8)
 }
 
 // AC and AD: the indicator off or on, and its mode.
+#[inline(always)]
 fn indicate<H: Held>(held: &mut H, indicator: u8, mode: u8)
     ensures registers { H.registers held.new ≡ (H.registers held.old with places.awaited ≔ 0 with places.indicator ≔ indicator with places.mode ≔ mode with places.fresh ≔ 1) }
     ensures size { H.size held.new ≡ H.size held.old }
@@ -75,6 +78,7 @@ fn indicate<H: Held>(held: &mut H, indicator: u8, mode: u8)
 }
 
 // E0: read-modify-write is entered and the column saved, unless it is entered already.
+#[inline(always)]
 fn enter<H: Held>(held: &mut H)
     ensures registers { H.registers held.new ≡ (enter (H.registers held.old with places.awaited ≔ 0) with places.fresh ≔ 1) }
     ensures size { H.size held.new ≡ H.size held.old }
@@ -88,6 +92,7 @@ fn enter<H: Held>(held: &mut H)
 }
 
 // EE: read-modify-write is left and the column put back, unless it is left already.
+#[inline(always)]
 fn leave<H: Held>(held: &mut H)
     ensures registers { H.registers held.new ≡ (leave (H.registers held.old with places.awaited ≔ 0) with places.fresh ≔ 1) }
     ensures size { H.size held.new ≡ H.size held.old }
@@ -102,6 +107,7 @@ fn leave<H: Held>(held: &mut H)
 }
 
 // E2: the registers that a software reset sets.
+#[inline(always)]
 fn software_reset<H: Held>(held: &mut H)
     ensures registers { H.registers held.new ≡ (software_reset (H.registers held.old with places.awaited ≔ 0) with places.fresh ≔ 1) }
     ensures size { H.size held.new ≡ H.size held.old }

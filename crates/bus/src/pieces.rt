@@ -19,6 +19,7 @@ const FEWEST: usize = 32;
 // Writes have no such struct as `Reading` below: each piece changes registers and memory.
 
 // A piece written, from the column on; it ends at column 131 or before it.
+#[inline(always)]
 pub fn write_piece(registers: Registers, memory: &mut [u8], bytes: &[u8]) -> Registers
     requires { (access registers (length memory.old) ≡ taken) × (0 < length bytes.now) × (registers.column + length bytes.now ≤ width) }
     ensures { (access result (length memory.old) ≡ taken) × (stretch replay (map recorded_write bytes.now) (chip_of registers memory.old) ≡ stretched (chip_of result memory.new) (length bytes.now) taken) }
@@ -32,6 +33,7 @@ pub fn write_piece(registers: Registers, memory: &mut [u8], bytes: &[u8]) -> Reg
 }
 
 // Bytes written up to column 131, and on from 0 of the same page.
+#[inline(always)]
 pub fn write_round(mut registers: Registers, memory: &mut [u8], bytes: &[u8]) -> Registers
     requires { (access registers (length memory.old) ≡ taken) × (0 < length bytes.now) }
     ensures { stretch replay (map recorded_write bytes.now) (chip_of registers memory.old) ≡ stretched (chip_of result memory.new) (length bytes.now) taken }
@@ -54,6 +56,7 @@ pub struct Passed {
 }
 
 // Passes over reads that are as the firmware read them, as far as that can be told piece by piece.
+#[inline(always)]
 pub fn pass(registers: Registers, memory: &[u8], bytes: &[u8]) -> Passed
     ensures { PassedOver result registers memory.now bytes.now }
 {
@@ -93,6 +96,7 @@ struct Reading<'a> {
 
 impl<'a> Reading<'a> {
     // Passes over reads, none of them a dummy read.
+    #[inline(always)]
     fn pass(self, bytes: &[u8]) -> Passed
         ensures { PassedOver result self.entry.registers self.entry.memory.now bytes.now }
     {
@@ -103,6 +107,7 @@ impl<'a> Reading<'a> {
     }
 
     // In read-modify-write one byte is read again and again.
+    #[inline(always)]
     fn pass_again(self, bytes: &[u8]) -> Passed
         requires { self.registers.modify ≡ 1 }
         ensures { PassedOver result self.entry.registers self.entry.memory.now bytes.now }
@@ -115,6 +120,7 @@ impl<'a> Reading<'a> {
     }
 
     // Outside it up to column 131, and on from 0 of the same page.
+    #[inline(always)]
     fn pass_round(self, bytes: &[u8]) -> Passed
         requires { self.registers.modify ≢ 1 }
         ensures { PassedOver result self.entry.registers self.entry.memory.now bytes.now }

@@ -56,6 +56,7 @@ pub enum PowerState {
 
 impl Registers {
     // The registers at power-on.
+    #[inline(always)]
     pub fn power_on() -> Registers
         ensures { result ≡ power_on }
     {
@@ -102,6 +103,7 @@ impl Registers {
     }
 
     // This and the next are two public calls, each with a field of specs/Settled.
+    #[inline(always)]
     pub fn with_column(mut self, value: u8) -> Registers
         ensures { result ≡ (self with column ≔ value) }
     {
@@ -109,6 +111,7 @@ impl Registers {
         self
     }
 
+    #[inline(always)]
     pub fn with_fresh(mut self, value: u8) -> Registers
         ensures { result ≡ (self with fresh ≔ value) }
     {

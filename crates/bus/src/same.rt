@@ -30,12 +30,12 @@ fn agree_each(page: u8, places: &[u8], bytes: &[u8]) -> bool
     differing == 0
 }
 
-// Whether one byte was read again and again; as above, all are looked at. As one over pairs the two would be no plainer.
+// Whether one byte was read again and again: the first is it, and each of the others is as the one before it. The library's equality stops at the first that differs.
 pub fn repeats(byte: u8, bytes: &[u8]) -> bool
     ensures { result ≡ true → Repeats byte bytes.now }
 {
-    let differing = bytes
-        .iter()
-        .fold(0, |differing, read| differing | (byte ^ *read));
-    differing == 0
+    match bytes {
+        [] => true,
+        [first, others @ ..] => *first == byte && others == &bytes[..others.len()],
+    }
 }

@@ -19,6 +19,7 @@ pub struct Stretch<R = Registers> {
 }
 
 // Command bytes. The library calls `Registers::command` here and nowhere else: the compiler then puts it into this loop (DECISIONS 58).
+#[inline(always)]
 pub fn commands(mut registers: Registers, bytes: &[u8]) -> Stretch
     ensures { (memory : List ℕ) → stretch_of result memory ≡ stretch replay (map recorded_command bytes.now) (chip_of registers memory) }
 {
@@ -34,6 +35,7 @@ pub fn commands(mut registers: Registers, bytes: &[u8]) -> Stretch
 }
 
 // Data bytes written: awaited code, column and page are asked once, since a write that is taken leaves the next as allowed as it was.
+#[inline(always)]
 pub fn writes(mut registers: Registers, memory: &mut [u8], bytes: &[u8]) -> Stretch
     ensures { stretch_of result memory.new ≡ stretch replay (map recorded_write bytes.now) (chip_of registers memory.old) }
 {
@@ -53,6 +55,7 @@ pub fn writes(mut registers: Registers, memory: &mut [u8], bytes: &[u8]) -> Stre
 }
 
 // Data bytes read, compared with the bytes that the firmware read: pieces that are the same are passed over, and the rest is read one by one.
+#[inline(always)]
 pub fn reads(mut registers: Registers, memory: &[u8], bytes: &[u8]) -> Stretch
     ensures { stretch_of result memory.now ≡ stretch replay (map read_as bytes.now) (chip_of registers memory.now) }
 {
@@ -64,6 +67,7 @@ pub fn reads(mut registers: Registers, memory: &[u8], bytes: &[u8]) -> Stretch
 }
 
 // Data bytes read, compared with the bytes that the firmware read; a dummy read is not compared.
+#[inline(always)]
 fn reads_singly(mut registers: Registers, memory: &[u8], bytes: &[u8]) -> Stretch
     ensures { stretch_of result memory.now ≡ stretch replay (map read_as bytes.now) (chip_of registers memory.now) }
 {
@@ -82,6 +86,7 @@ fn reads_singly(mut registers: Registers, memory: &[u8], bytes: &[u8]) -> Stretc
 }
 
 // A pulse on the reset pin, one event: the power-on state, whatever the state was.
+#[inline(always)]
 pub fn reset_pin(registers: Registers) -> Stretch
     ensures { (memory : List ℕ) → stretch_of result memory ≡ stretch replay (event reset_pulse ∷ []) (chip_of registers memory) }
 {
@@ -99,6 +104,7 @@ fn agrees(read: Option<u8>, byte: u8) -> bool
 }
 
 // Stopped, or all taken, after so many; the registers stand.
+#[inline(always)]
 fn halted(outcome: Result<(), Refusal>, count: usize, registers: Registers) -> Stretch
     ensures { result ≡ halted_at outcome count registers }
 {

@@ -39,6 +39,7 @@ impl TryFrom<Header> for Kind {
 impl Kind {
     // What a chip does for a record of this kind, by its payload.
     #[tactic(auto, unfolding(crate::specs::Code::recorded_in))]
+    #[inline(always)]
     pub fn obey(self, registers: Registers, memory: &mut [u8], payload: &[u8]) -> Stretch
         ensures { stretch_of result memory.new ≡ stretch replay (recorded_in self payload.now) (chip_of registers memory.old) }
     {

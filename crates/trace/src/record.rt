@@ -21,6 +21,7 @@ pub struct Ending {
 }
 
 // The record with this header that stands at an offset of the trace: trace and offset are what the promise speaks of (`record_at at (drop at trace)`).
+#[inline(always)]
 pub fn obey(
     header: Header,
     registers: Registers,
@@ -46,6 +47,7 @@ pub fn obey(
 }
 
 // A stretch that began at an offset.
+#[inline(always)]
 fn ended(stretch: Stretch, from: usize) -> Ending
     requires { from + stretch.count < 2 ^ 64 }
     ensures { result ≡ ended_at (from + stretch.count) stretch }

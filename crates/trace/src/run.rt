@@ -56,6 +56,7 @@ pub fn run(state: &mut [u8], memory: &mut [u8], trace: &[u8]) -> Stop
 }
 
 // Plays the records of a trace from given registers and memory.
+#[inline(always)]
 pub fn play(mut registers: Registers, memory: &mut [u8], trace: &[u8]) -> Played
     ensures { played_of result memory.new ≡ play the_chip (split trace.now) (chip_of registers memory.old) }
 {
@@ -82,6 +83,7 @@ pub fn play(mut registers: Registers, memory: &mut [u8], trace: &[u8]) -> Played
 }
 
 // The end of a played trace.
+#[inline(always)]
 fn end(outcome: Result<(), Refusal>, offset: usize, count: usize, registers: Registers) -> Played
     ensures { result ≡ record { stop = record { outcome = outcome; offset = offset; count = count }; registers = registers } }
 {
