@@ -75,6 +75,8 @@ calls < <(from ''; from 'ghost from_gives = { λ two number. number ≡ number_o
 refused 'with the ghost member in the next impl' "calls.rt:4: u8::from: public, $nothing"
 calls < <(from 'ghost from_gives = { λ two number. number ≡ number_of two };'; from '')
 refused 'with the ghost member in the impl before' "calls.rt:11: u8::from: public, $nothing"
+calls < <(from 'ghost from_gives = { λ two number. number ≡ number_of two };' | sed 's/    fn/    pub fn/')
+refused 'with the ghost member, but marked pub' "calls.rt:4: u8::from: public, $nothing"
 kept < <(from '')
 refused 'in a file that is kept' "kept.rt:4: u8::from: of a trait, $nothing"
 calls <<< $'impl PartialEq for Two {\n    ghost eq = { λ a b. a.n == b.n };\n\n    fn eq(&self, two: &Two) -> bool {\n        self.n == two.n\n    }\n}'
