@@ -215,8 +215,25 @@ read_of < <(program; fn later::ssd1815b_draw Eq)
 check 'two calls of one name' err_has 'two functions are ssd1815b_draw: host::draw::ssd1815b_draw and later::ssd1815b_draw'
 read_of < <(program | sed 's/{"Call":\[{"Fn":\["bus::image::ask"/{"CallV":[{"Fn":["bus::image::ask"/')
 refused 'a call through a pointer' '^host::draw::ssd1815b_draw: has callv$'
-read_of < <(program | sed 's/{"Fn":\["bus::image::ask"/{"Method":["bus::image::ask"/')
-refused 'a call by a trait that nobody handed' '^host::draw::ssd1815b_draw: has a trait by bus::image::ask$'
+# by_method IN TRAIT HANDED: the program, where IN begins with a call of a method
+# of the trait, and that call is handed another one.
+by_method() {
+  local call
+  printf -v call '{"Call":[{"Method":[%s,0,{"types":[],"dicts":[%s]}]},[],{"local":0,"steps":[]}]}' "$2" "$3"
+  program | sed "/^\[\"$1\",{\"params\"/s/\"body\":\[\"Seq\"/&,$call,\"Seq\"/"
+}
+tried='{"Impl":["bus::image::Tried",[],[]]}'
+read_of < <(by_method bus::image::ask "$tried" ''; fn bus::image::Tried::tried Eq; fn bus::image::Try::again Rem/Unsigned)
+refused 'a call by a trait that nobody handed' '^host::draw::ssd1815b_draw > bus::image::ask: has a call by method of impl$'
+read_of < <(by_method bus::image::ask '{"Object":0}' '')
+refused 'a call by what is not known' '^host::draw::ssd1815b_draw > bus::image::ask: has a call by method of object$'
+read_of < <(by_method bus::image::short '{"Given":0}' '{"Given":1}'; fn bus::image::Tried::tried Rem/Unsigned)
+passed 'a method of a trait that was handed'
+read_of < <(by_method bus::image::short '{"Given":0}' "$tried"; fn bus::image::Tried::tried Rem/Unsigned)
+refused 'a trait that a method is handed' '^host::draw::ssd1815b_draw > bus::image::ask > bus::image::short > bus::image::Tried::tried: has rem$'
+read_of < <(by_method picture::rows::around '{"Given":0}' "$tried"; fn bus::image::Tried::tried 'Mul/Unsigned Loop')
+refused 'the same in the row rule, where it multiplies' '^picture::rows::around > bus::image::Tried::tried: has mul$'
+refused 'the same in the row rule, where it loops' '^picture::rows::around > bus::image::Tried::tried: has a loop$'
 # handed TRAIT: the program, where the call of bus::image::short is handed it.
 handed() { program | sed "/\"bus::image::ask\",{\"params\"/s/\"dicts\":\[\]/\"dicts\":[$1]/"; }
 read_of < <(handed '{"Given":0}'; fn bus::image::Tried::tried Rem/Unsigned)
@@ -237,6 +254,10 @@ read_of < <(program | sed '/^\["picture::rows::around"/d'; fn picture::rows::aro
 refused 'what the row rule reaches, in a loop' 'picture::rows::around > core::steps: has a loop$'
 read_of < <(program | sed '/^\["picture::rows::around"/d'; fn picture::rows::around Eq core::steps; fn core::steps Mul/Unsigned)
 refused 'what the row rule reaches, which multiplies' 'picture::rows::around > core::steps: has mul$'
+read_of < <(program | sed '/^\["picture::rows::around"/d'; fn picture::rows::around Eq core::steps; fn core::steps Sub/Unsigned core::steps)
+refused 'what the row rule reaches, which calls itself' 'picture::rows::around > core::steps: calls itself$'
+read_of < <(program | sed '/^\["picture::rows::around"/d'; fn picture::rows::around Eq core::steps; fn core::steps Eq core::back; fn core::back Eq core::steps)
+refused 'what the row rule reaches, which comes back to itself' 'picture::rows::around > core::steps > core::back: calls itself$'
 read_of < <(program Sub/Unsigned '{"Map":{"Div":"Unsigned"}}')
 refused 'an operation of many numbers at once' 'picture::rows::around: has map div$'
 read_of < <(program | sed '/"picture::draw::draw",{"params"/s/"Op2":/"Vec2":/')
