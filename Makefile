@@ -187,6 +187,7 @@ check-papers:
 	.ci/papers
 	host/test/papers.sh
 	host/test/callers.sh
+	host/test/contracts.sh
 
 # The library itself is not compiled with these checks; its steps outside what
 # it is lent are seen by the rooms of host/compare/room.h.  Off x86-64 the
