@@ -1,4 +1,5 @@
 // The command byte and the reset pin.
+// `inline(always)`: into the loop of the run (DECISIONS 230).
 ghost use Rattle.std.specs.Prelude.{◌≡◌};
 ghost use Rattle.bus.specs.Answer.{answer_of};
 ghost use Rattle.bus.specs.Events.{command, silently, reset_pin};

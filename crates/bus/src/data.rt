@@ -1,4 +1,5 @@
 // Data written to and read from the display memory.
+// `inline(always)`: into the loop of the run (DECISIONS 230).
 ghost use Rattle.std.specs.Prelude.{◌≡◌, ◌≤◌, length};
 ghost use Rattle.constants.specs.Sizes.{last_column};
 ghost use Rattle.constants.specs.Refusals.{number_met};

@@ -1,4 +1,5 @@
 // Commands obeyed where the registers are held: only the registers that a command sets are stored.
+// `inline(always)`: into the loop of the run (DECISIONS 230).
 ghost use Rattle.std.specs.Prelude.{◌≡◌, MatchResult};
 ghost use Rattle.codes.specs.Values.{CommandInRange};
 ghost use Rattle.constants.specs.Refusals.{number_of_refusal};

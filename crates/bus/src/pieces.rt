@@ -1,4 +1,5 @@
 // Pieces of data: bytes that lie side by side in one page, written or read as one.
+// `inline(always)`: into the loop of the run (DECISIONS 230).
 ghost use Rattle.std.specs.Prelude.{◌≡◌, ◌≢◌, map, ◌+◌, ◌≤◌, ◌<◌, length};
 ghost use Rattle.constants.specs.Sizes.{width, last_column};
 ghost use Rattle.constants.specs.Numbers.{taken};

@@ -1,4 +1,5 @@
 // The registers of document 01, in its order.
+// `inline(always)`: into the loop of the run (DECISIONS 230).
 ghost use Rattle.std.specs.Prelude.{◌≡◌};
 ghost use Rattle.bus.specs.Registers.{power_on, power_state, ◌with◌≔◌};
 ghost use Rattle.bus.specs.Places.{column, fresh};

@@ -1,4 +1,5 @@
 // Stretches of events: bytes of one kind in order, up to the first that is refused. What a record of each kind does is one call here.
+// `inline(always)`, here and in what a run calls: it is all in the loop of the run before the compiler looks at any of it by itself, which made words of some registers that each record took apart and joined again (DECISIONS 230).
 ghost use Rattle.std.specs.Prelude.{◌≡◌, List, [], ◌∷◌, map, ◌||◌, ℕ, eqb};
 ghost use Rattle.bus.specs.Answer.{byte_answered, is_dummy};
 ghost use Rattle.bus.specs.Chip.{reset_pulse};

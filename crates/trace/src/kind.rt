@@ -1,4 +1,5 @@
 // The kinds of records, and what a chip does for each.
+// `inline(always)`: into the loop of the run (DECISIONS 230).
 ghost use Rattle.std.specs.Prelude.{◌≡◌};
 ghost use Rattle.bus.specs.Stretch.{stretch, stretch_of};
 ghost use Rattle.trace.specs.Kinds.{replay, chip_of};

@@ -1,4 +1,5 @@
 // One record: its header is checked before its payload acts, and what it does is one call on the bus.
+// `inline(always)`: into the loop of the run (DECISIONS 230).
 ghost use Rattle.std.specs.Prelude.{◌≡◌, ◌+◌, ◌<◌, ◌^◌, drop};
 ghost use Rattle.trace.specs.Records.{record_at};
 ghost use Rattle.trace.specs.Front.{front_of};

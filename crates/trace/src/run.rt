@@ -1,4 +1,5 @@
 // The run of a trace on a lent state and memory.
+// `inline(always)`: into the loop of the run (DECISIONS 230).
 ghost use Rattle.std.specs.Prelude.{◌≡◌};
 ghost use Rattle.trace.specs.Records.{split};
 ghost use Rattle.trace.specs.Play.{play};
