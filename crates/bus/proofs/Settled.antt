@@ -62,7 +62,7 @@ answer_and_memory a b first second p q = rw (told_from answer_of told_answer ans
 told_stretch : Stretched Chip → Stretch × List ℕ
 told_stretch s = (record { registers = s.state.registers; count = s.count; outcome = met_of s.number }, s.state.memory)
 
-with_memory : (stated : Stretched Chip) → Settles (λ (o : Stretch × List ℕ). stretch_of o.0 o.1 ≡ stated)
+pub with_memory : (stated : Stretched Chip) → Settles (λ (o : Stretch × List ℕ). stretch_of o.0 o.1 ≡ stated)
 unfolding told_stretch
 with_memory = told_from (λ o. stretch_of o.0 o.1) told_stretch (λ o. ap (λ met. (record { registers = o.0.registers; count = o.0.count; outcome = met }, o.1)) (met_undone o.0.outcome))
 

@@ -6,3 +6,5 @@ pub mod Numbers
 pub mod Settles
 -- the refusals as code names them, and their numbers
 pub mod Refusals
+-- one result for each public call
+pub mod Settled

@@ -7,7 +7,7 @@ ghost use Rattle.differences.specs.Compare.{outcome, any_above, compare_frames};
 use crate::list::{list_all, whole};
 use crate::run::Run;
 use constants::refusal::Refusal;
-use constants::sizes::FRAME_SIZE;
+use constants::sizes::{FRAME_SIZE, LONGEST_FRAME_LIST};
 
 // Bytes of five rows, which are passed over together where they are the same.
 const FIVE_ROWS: usize = 660;
@@ -29,7 +29,7 @@ pub fn compare_frames(first: &[u8], second: &[u8], list: &mut [u8]) -> Result<us
     if above {
         return Err(Refusal::FrameByteAbove);
     }
-    list_all::<Run, FRAME_SIZE, FIVE_ROWS>(first, second, list)
+    list_all::<Run, FRAME_SIZE, FIVE_ROWS, LONGEST_FRAME_LIST>(first, second, list)
 }
 
 // What one look at two frames tells, 251 ns for 374 in two: whether a byte of the first is above 1, and whether both are the same; `same: false` tells nothing.

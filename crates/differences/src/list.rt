@@ -51,31 +51,33 @@ pub fn whole<const BYTES: usize>(screen: &[u8]) -> Result<&[u8; BYTES], Refusal>
     screen.first_chunk().ok_or(Refusal::TooShort)
 }
 
-// Lists all entries of two screens, or refuses where the list buffer is too small for them. What is asked of BYTES and CHUNK stays in each contract: Rattle has no computed const argument, by which they would be numbers of rows.
-pub fn list_all<E: Entry, const BYTES: usize, const CHUNK: usize>(
+// Lists all entries of two screens, or refuses where the list buffer is too small for them. What is asked of BYTES and CHUNK, and of LONGEST, the bytes of the longest list, stays in each contract: Rattle has no computed const argument, by which they would be numbers of rows.
+pub fn list_all<E: Entry, const BYTES: usize, const CHUNK: usize, const LONGEST: usize>(
     first: &[u8; BYTES],
     second: &[u8; BYTES],
     list: &mut [u8],
 ) -> Result<usize, Refusal>
     requires chunks { (BYTES / CHUNK * CHUNK ≡ BYTES) × (CHUNK / width * width ≡ CHUNK) × (width ≤ CHUNK) × (CHUNK ≤ BYTES) × (BYTES ≤ frame_size) }
+    requires longest { LONGEST ≡ BYTES * E.SIZE }
     ensures { outcome (compared_of result) list.new ≡ listed E.bytes (by_rows width E.found first.now second.now (BYTES / width) 0) list.old }
 {
-    if too_small::<E, BYTES>(first, second, list.len()) {
+    if too_small::<E, BYTES, LONGEST>(first, second, list.len()) {
         return Err(Refusal::ListTooSmall);
     }
     Ok(put_all::<E, BYTES, CHUNK>(list, first, second))
 }
 
 // Whether a list buffer of so many bytes is too small for all entries; they are counted only where it does not hold every list. The length alone, as the list is lent on to be changed.
-pub fn too_small<E: Entry, const BYTES: usize>(
+pub fn too_small<E: Entry, const BYTES: usize, const LONGEST: usize>(
     first: &[u8; BYTES],
     second: &[u8; BYTES],
     bytes: usize,
 ) -> bool
-    requires { (BYTES / width * width ≡ BYTES) × (BYTES ≤ frame_size) }
+    requires rows { (BYTES / width * width ≡ BYTES) × (BYTES ≤ frame_size) }
+    requires longest { LONGEST ≡ BYTES * E.SIZE }
     ensures { result ≡ ltb bytes (length (by_rows width E.found first.now second.now (BYTES / width) 0) * E.SIZE) }
 {
-    if BYTES * E::SIZE <= bytes {
+    if LONGEST <= bytes {
         return false;
     }
     bytes < count_all::<E, BYTES>(first, second) * E::SIZE

@@ -6,7 +6,7 @@ ghost use Rattle.differences.specs.Compare.{outcome, compare_memories};
 use crate::byte::DifferingByte;
 use crate::list::{list_all, whole};
 use constants::refusal::Refusal;
-use constants::sizes::{MEMORY_SIZE, WIDTH};
+use constants::sizes::{LONGEST_MEMORY_LIST, MEMORY_SIZE, WIDTH};
 
 // Lists each differing byte of two memories into a lent buffer, or refuses and writes nothing.
 pub fn compare_memories(first: &[u8], second: &[u8], list: &mut [u8]) -> Result<usize, Refusal>
@@ -14,5 +14,5 @@ pub fn compare_memories(first: &[u8], second: &[u8], list: &mut [u8]) -> Result<
 {
     let first = whole::<MEMORY_SIZE>(first)?;
     let second = whole::<MEMORY_SIZE>(second)?;
-    list_all::<DifferingByte, MEMORY_SIZE, WIDTH>(first, second, list)
+    list_all::<DifferingByte, MEMORY_SIZE, WIDTH, LONGEST_MEMORY_LIST>(first, second, list)
 }

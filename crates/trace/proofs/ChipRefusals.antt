@@ -73,7 +73,7 @@ the_chip_sound =
       step = λ recorded c number e. not_zero (refused_event recorded c number e);
     }
 
-never : {A : Type 0} {a : A} {number : ℕ} → gives a ≡ refuses number → ⊥
+pub never : {A : Type 0} {a : A} {number : ℕ} → gives a ≡ refuses number → ⊥
 never e = let z : ◌≡◌ {A = ℕ} 0 1 = cc in omega arith
 
 happened_met : (answer : Answer) (left : List ℕ) (number : ℕ) → happened answer left ≡ refuses number → (reply_of answer).number ≡ number

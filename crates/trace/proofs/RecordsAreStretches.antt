@@ -2,7 +2,7 @@
 -- Assumes nothing.
 use mathlib.Core.Path.{◌≡◌, refl, sym, ◌∙◌, ap}
 use mathlib.Core.Bool.{cond}
-use mathlib.Core.List.{List, [], ◌∷◌}
+use mathlib.Core.List.{List, [], ◌∷◌, map}
 use Prim.Native.Nat.{ℕ, ◌+◌, ◌-◌, ◌≤◌}
 use native.Mathlib.Nat.{add-zero}
 use native.Mathlib.Omega.{arith}
@@ -59,6 +59,18 @@ part_slice trace from to order fits =
     let whole : from + (to - from) ≡ to = omega arith in
     sym (drop_at (take from trace) (take (to - from) (drop from trace)) from (length-take-le from trace (omega arith))) ∙ ap (drop from) (sym (take-add from (to - from) trace) ∙ rw whole)
 
+-- the code's stretch of the bytes from one offset of a trace to another
+module _ (means : ℕ → Recorded) (trace : List ℕ) (from to : ℕ) (order : from ≤ to) (fits : to ≤ length trace) (c : Chip) (s : Stretch) (memory : List ℕ) (h : stretch_of s memory ≡ stretch replay (map means (take (to - from) (drop from trace))) c) where
+  -- it does not go past its end
+  pub reaches : from + s.count ≤ to
+  reaches =
+      let part = take (to - from) (drop from trace) in
+      let size : length part ≡ to - from = length-take-le (to - from) (drop from trace) (omega (arith, length-drop from trace)) in
+      omega (arith, takes (map means part) c s memory h, length-map part means, size)
+
+  pub ends_there : ending_of (ended_at (from + s.count) s) memory ≡ play_events the_chip (map means (slice from to trace)) from c
+  ends_there = rw (sym (part_slice trace from to order fits)) (ends _ c s memory h from)
+
 -- a payload stands for no more events than it has bytes, but for the pulse on the reset pin
 pub few_events : (kind : Kind) (payload : List ℕ) → length (recorded_in kind payload) ≤ length payload + 1
 unfolding recorded_in
@@ -67,14 +79,14 @@ few_events Kind.Writes payload = omega (arith, length-map payload recorded_write
 few_events Kind.Reads payload = omega (arith, length-map payload read_as)
 few_events Kind.Reset payload = omega arith
 
--- the code's stretch of the payload from one offset of a trace to another
+-- so with the payload of a record of a kind, the reset pin's too
 module _ (kind : Kind) (trace : List ℕ) (from to : ℕ) (order : from ≤ to) (fits : to ≤ length trace) (c : Chip) (s : Stretch) (memory : List ℕ) (h : stretch_of s memory ≡ stretch replay (recorded_in kind (take (to - from) (drop from trace))) c) where
   -- it does not go far past its end
-  pub reaches : from + s.count ≤ to + 1
-  reaches =
+  pub kind_reaches : from + s.count ≤ to + 1
+  kind_reaches =
       let part = take (to - from) (drop from trace) in
       let size : length part ≡ to - from = length-take-le (to - from) (drop from trace) (omega (arith, length-drop from trace)) in
       omega (arith, takes (recorded_in kind part) c s memory h, few_events kind part, size)
 
-  pub ends_there : ending_of (ended_at (from + s.count) s) memory ≡ play_events the_chip (recorded_in kind (slice from to trace)) from c
-  ends_there = rw (sym (part_slice trace from to order fits)) (ends _ c s memory h from)
+  pub kind_ends_there : ending_of (ended_at (from + s.count) s) memory ≡ play_events the_chip (recorded_in kind (slice from to trace)) from c
+  kind_ends_there = rw (sym (part_slice trace from to order fits)) (ends _ c s memory h from)

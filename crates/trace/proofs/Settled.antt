@@ -1,19 +1,28 @@
 -- Two results that satisfy one statement are equal, for each public call of the crate.
 -- Assumes nothing.
-use mathlib.Core.Path.{◌≡◌, sym, ◌∙◌, ap}
-use mathlib.Core.List.{List}
+use mathlib.Core.Path.{◌≡◌, refl, sym, ◌∙◌, ap}
+use mathlib.Core.List.{List, [], ◌∷◌}
 use Prim.Native.Nat.{ℕ}
+use lib.ListN.{length, get_or, replicate, length-replicate}
 use denote.Ref.{Bor}
-use Rattle.constants.proofs.Settles.{equation}
-use Rattle.constants.proofs.Refusals.{number_met_injective}
+use Rattle.std.specs.Prelude.{Ok, Err}
+use Rattle.std.specs.Prelude as std
+use Rattle.constants.specs.declared.refusal.Refusal.{Refusal}
+use Rattle.constants.proofs.Settles.{equation, told_from}
+use Rattle.constants.proofs.Refusals.{number_of_refusal_injective, number_met_injective}
 use Rattle.bus.specs.Chip.{Chip}
-use Rattle.trace.specs.Play.{Played}
-use Rattle.trace.specs.Code.{stop_met, played_of}
+use Rattle.bus.proofs.Settled.{with_memory}
+use Rattle.trace.specs.Play.{Result, refuses, Played}
+use Rattle.trace.specs.Kinds.{Recorded}
+use Rattle.trace.specs.Code.{number_of_kind, Named, stop_met, played_of}
 use Rattle.trace.specs.Run.{Ran, stop_of}
 use Rattle.trace.specs.Settled.{Settled}
+use Rattle.trace.specs.declared.kind.Kind.{Kind}
 use Rattle.trace.specs.declared.reader.Reader.{Reader}
+use Rattle.trace.specs.declared.records.Header.{Header}
 use Rattle.trace.specs.declared.run.Played as code
 use Rattle.trace.specs.declared.run.Stop.{Stop}
+use Rattle.trace.proofs.ChipRefusals.{never}
 
 pub same_stop : (s s' : Stop) → stop_met s ≡ stop_met s' → s ≡ s'
 same_stop s s' e = rw (number_met_injective s.outcome s'.outcome (ap (λ r. r.number) e), ap (λ r. r.offset) e, ap (λ r. r.count) e)
@@ -30,6 +39,30 @@ same_reader lent at q q' m m' =
     let two : q.at ≡ q'.at = m.1 ∙ sym m'.1 in
     rw (one, two)
 
+-- each kind has a number of its own
+kind_of_number : ℕ → Kind
+kind_of_number n = get_or (Kind.Commands ∷ Kind.Commands ∷ Kind.Writes ∷ Kind.Reads ∷ Kind.Reset ∷ []) n Kind.Commands
+
+kind_told : (kind : Kind) → kind_of_number (number_of_kind kind) ≡ kind
+unfolding kind_of_number
+kind_told Kind.Commands = refl
+kind_told Kind.Writes = refl
+kind_told Kind.Reads = refl
+kind_told Kind.Reset = refl
+
+same_number : (one other : ℕ) → ◌≡◌ {A = Result (List Recorded)} (refuses one) (refuses other) → one ≡ other
+same_number one other e = cc
+
+-- a header names one kind, or is refused with one number: it has a payload of its length, whose events are not given and refused at once
+same_named : (header : Header) (one other : std.Result Kind Refusal) → Named header one → Named header other → one ≡ other
+same_named header one other p q = by (replicate header.length 0) (length-replicate header.length 0) one other p q
+  where
+    by : (payload : List ℕ) → length payload ≡ header.length → (one other : std.Result Kind Refusal) → Named header one → Named header other → one ≡ other
+    by payload size (Ok one) (Ok other) p q = ap (λ k. Ok k) (told_from number_of_kind kind_of_number kind_told header.kind one other (sym p.0) (sym q.0))
+    by payload size (Ok one) (Err other) p q = absurd (never (sym (p.1 payload size) ∙ q payload size))
+    by payload size (Err one) (Ok other) p q = absurd (never (sym (q.1 payload size) ∙ p payload size))
+    by payload size (Err one) (Err other) p q = ap (λ r. Err r) (number_of_refusal_injective one other (same_number _ _ (sym (p payload size) ∙ q payload size)))
+
 pub settled : Settled
 settled = record {
   «run::run» = λ state memory trace a b p q. let e = p ∙ sym q in rw (same_stop a.0 b.0 (ap (λ (o : Ran). o.stop) e), ap (λ (o : Ran). o.state) e, ap (λ (o : Ran). o.memory) e);
@@ -39,4 +72,6 @@ settled = record {
   «reader::new» = λ lent. same_reader lent 0;
   «reader::moved» = λ r at. same_reader r.trace at;
   «reader::next» = λ r. equation _;
+  Kind::try_from = same_named;
+  «Kind::obey» = λ self registers memory payload. with_memory _;
 }

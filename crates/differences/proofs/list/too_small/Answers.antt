@@ -10,17 +10,16 @@ use Rattle.differences.specs.ByRows.{by_rows}
 use Rattle.differences.proofs.Entries.{rows_few}
 use Rattle.differences.proofs.list.too_small.Goals as goal
 
-pub returns-then-SIZE-bytes : goal.returns-then-SIZE-bytes
-returns-then-SIZE-bytes g c =
+pub returns-then-bytes : goal.returns-then-bytes
+returns-then-bytes g c =
     let a = c.args in
     let found = length (by_rows width g.E.Entry.found a.first.now a.second.now (g.row.BYTES / width) 0) in
-    let room = rw c.SIZE.ensures at c.if-SIZE-bytes.true in
-    let few : found ≤ g.row.BYTES = omega (arith, rows_few width width g.E.Entry.found g.met.E.Entry.few a.first.now a.second.now (g.row.BYTES / width) 0, c.requires.0) in
-    sym (le-ltb a.bytes (found * g.E.Entry.SIZE) (omega (arith, mul-le-mul_left g.E.Entry.SIZE few, room)))
+    let few : found ≤ g.row.BYTES = omega (arith, rows_few width width g.E.Entry.found g.met.E.Entry.few a.first.now a.second.now (g.row.BYTES / width) 0, c.requires.rows.0) in
+    sym (le-ltb a.bytes (found * g.E.Entry.SIZE) (omega (arith, mul-le-mul_left g.E.Entry.SIZE few, c.requires.longest, c.if-bytes.true)))
 
 pub overflow_mul-result : goal.overflow_mul-result
 overflow_mul-result g c =
     let a = c.args in
-    let few : c.count_all.result ≤ 8580 = omega (arith, c.count_all.ensures, rows_few width width g.E.Entry.found g.met.E.Entry.few a.first.now a.second.now (g.row.BYTES / width) 0, c.requires.0, c.requires.1) in
-    let size : c.SIZE-2.result ≤ 5 = omega (arith, c.SIZE-2.ensures, g.met.E.Entry.small) in
+    let few : c.count_all.result ≤ 8580 = omega (arith, c.count_all.ensures, rows_few width width g.E.Entry.found g.met.E.Entry.few a.first.now a.second.now (g.row.BYTES / width) 0, c.requires.rows.0, c.requires.rows.1) in
+    let size : c.SIZE.result ≤ 5 = omega (arith, c.SIZE.ensures, g.met.E.Entry.small) in
     omega (arith, mul-le-mul_left c.count_all.result size, few)
