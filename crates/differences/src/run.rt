@@ -1,5 +1,5 @@
 // The runs of differing places of one row.
-ghost use Rattle.std.specs.Prelude.{◌≡◌, ℕ, true, ◌+◌, ◌-◌, ◌*◌, ◌≤◌, ◌<◌, length};
+ghost use Rattle.std.specs.Prelude.{◌≡◌, ℕ, true, ◌&&◌, ◌+◌, ◌-◌, ◌*◌, ◌≤◌, ◌<◌, eqb, length};
 ghost use Rattle.std.proofs.lemmas.List.Edits.{sets};
 ghost use Rattle.std.proofs.Common.{lit≤};
 ghost use Rattle.constants.specs.Sizes.{width, frame_entry_size};
@@ -61,7 +61,7 @@ impl Entry for Run {
         let mut count = u8::from(first[0] != second[0]);
         for x in 1..ROW {
             let differs = first[x] != second[x];
-            let goes_on = (first[x], second[x]) == (first[x - 1], second[x - 1]);
+            let goes_on = same_way(first[x], second[x], first[x - 1], second[x - 1]);
             count += u8::from(differs & !goes_on);
         }
         count
@@ -139,10 +139,17 @@ fn run_last(first: &[u8; ROW], second: &[u8; ROW], from: usize) -> usize
 {
     let mut last = from;
     for x in from + 1..ROW {
-        if (first[x], second[x]) != (first[from], second[from]) {
+        if !same_way(first[x], second[x], first[from], second[from]) {
             return last;
         }
         last = x;
     }
     last
+}
+
+// Whether two places hold the same in the first frame, and the same in the second.
+fn same_way(was: u8, is: u8, other_was: u8, other_is: u8) -> bool
+    ensures { result ≡ (eqb was other_was && eqb is other_is) }
+{
+    (was, is) == (other_was, other_is)
 }

@@ -8,12 +8,12 @@ use Rattle.constants.specs.Sizes.{width}
 use Rattle.differences.proofs.AlongRow.{way_left, way_same, more_on, more_not, more_end}
 use Rattle.differences.proofs.run.run_last.Goals as goal
 
-pub returns-then-ne : goal.returns-then-ne
-returns-then-ne c =
+pub returns-then-not-same_way : goal.returns-then-not-same_way
+returns-then-not-same_way c =
     let f = c.args.first.now in
     let g = c.args.second.now in
     let i = c.loop-x.invariant in
-    let stops = way_left f g c.loop-x.last c.loop-x.x _ _ _ i.here i.was i.is c.ne.ensures ∙ ap not c.if-ne.true in
+    let stops = way_left f g c.loop-x.last c.loop-x.x _ _ _ i.here i.was i.is (ap not c.same_way.ensures) ∙ ap (λ t. not (not t)) c.if-not-same_way.true in
     sym (i.goes_on ∙ rw (more_not f g width c.loop-x.last (omega arith) stops, add-zero))
 
 pub loop-x-preserved : goal.loop-x-preserved
@@ -21,8 +21,8 @@ loop-x-preserved c =
     let f = c.args.first.now in
     let g = c.args.second.now in
     let i = c.loop-x.invariant in
-    let goes = way_left f g c.loop-x.last c.loop-x.x _ _ _ i.here i.was i.is c.ne.ensures ∙ ap not c.if-ne.false in
-    let same = way_same _ _ 0 _ _ _ c.ne.ensures c.if-ne.false in
+    let goes = way_left f g c.loop-x.last c.loop-x.x _ _ _ i.here i.was i.is (ap not c.same_way.ensures) ∙ ap (λ t. not (not t)) c.if-not-same_way.false in
+    let same = way_same _ _ 0 _ _ _ (ap not c.same_way.ensures) (ap not c.if-not-same_way.false) in
     record {
       here = refl;
       goes_on = i.goes_on ∙ rw (← i.here, more_on f g width c.loop-x.last (omega arith) goes, add-suc, ← suc-add, add-one c.loop-x.last);

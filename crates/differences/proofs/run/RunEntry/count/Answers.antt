@@ -21,13 +21,13 @@ loop-x-init c = runs_first width _ _ _ (omega arith) (c.from-count.ensures ∙ b
 pub overflow_add-count : goal.overflow_add-count
 overflow_add-count c =
     let a = c.args in
-    let next = runs_next width a.first.now a.second.now c.loop-x.x c.loop-x.count c.from-count-in-loop-x.result _ (omega arith) (omega arith) c.loop-x.invariant (c.from-count-in-loop-x.ensures ∙ byte_of _ ∙ rw c.eq-goes_on.ensures) in
+    let next = runs_next width a.first.now a.second.now c.loop-x.x c.loop-x.count c.from-count-in-loop-x.result _ (omega arith) (omega arith) c.loop-x.invariant (c.from-count-in-loop-x.ensures ∙ byte_of _ ∙ rw c.same_way-goes_on.ensures) in
     omega (arith, next, runs_few 0 a.first.now a.second.now width 0)
 
 pub loop-x-preserved : goal.loop-x-preserved
 loop-x-preserved c =
     let a = c.args in
-    runs_next width a.first.now a.second.now c.loop-x.x c.loop-x.count c.from-count-in-loop-x.result _ (omega arith) (omega arith) c.loop-x.invariant (c.from-count-in-loop-x.ensures ∙ byte_of _ ∙ rw c.eq-goes_on.ensures)
+    runs_next width a.first.now a.second.now c.loop-x.x c.loop-x.count c.from-count-in-loop-x.result _ (omega arith) (omega arith) c.loop-x.invariant (c.from-count-in-loop-x.ensures ∙ byte_of _ ∙ rw c.same_way-goes_on.ensures)
 
 pub returns : goal.returns
 returns c =
